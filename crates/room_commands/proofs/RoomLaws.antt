@@ -57,26 +57,28 @@ reply_if_passed room caller command passed = ap (λ o. (effect_by room caller co
 -- two rooms that differ in bytes alone check alike
 module _ (room other : Room) (caller : SubjectModel)
     (alike : (path : Path) → without_bytes (object_at room path) ≡ without_bytes (object_at other path)) where
-  some_alike : (path : Path) → is_some (object_at room path) ≡ is_some (object_at other path)
+  pub some_alike : (path : Path) → is_some (object_at room path) ≡ is_some (object_at other path)
   some_alike path = grind (arith, common_steps)
 
-  kind_alike : (kind : Kind) (path : Path) → is_kind kind (object_at room path) ≡ is_kind kind (object_at other path)
+  pub kind_alike : (kind : Kind) (path : Path)
+      → is_kind kind (object_at room path) ≡ is_kind kind (object_at other path)
   kind_alike kind path = grind (arith, common_steps)
 
-  exists_alike : (path : Path) → check_exists room path ≡ check_exists other path
+  pub exists_alike : (path : Path) → check_exists room path ≡ check_exists other path
   exists_alike path = ap (λ b. refuse_if (not b) NoEnt) (some_alike path)
 
-  folder_alike : (path : Path) → check_folder room path ≡ check_folder other path
+  pub folder_alike : (path : Path) → check_folder room path ≡ check_folder other path
   folder_alike path = ap (λ b. refuse_if b NotDir) (kind_alike File path)
 
-  file_alike : (path : Path) → check_file room path ≡ check_file other path
+  pub file_alike : (path : Path) → check_file room path ≡ check_file other path
   file_alike path = ap (λ b. refuse_if b IsDir) (kind_alike Folder path)
 
   abbrev right_by : Path → ℕ → List EntryModel → Option Object → Option Refusal
   right_by path wanted entries None = right_on room caller path wanted None
   right_by path wanted entries (Some o) = denied_at path (decision entries caller (standing_of o) wanted)
 
-  right_alike : (path : Path) (wanted : ℕ) → check_right room caller path wanted ≡ check_right other caller path wanted
+  pub right_alike : (path : Path) (wanted : ℕ)
+      → check_right room caller path wanted ≡ check_right other caller path wanted
   right_alike path wanted =
       here (object_at room path)
       ∙ ap (λ entries. right_by path wanted entries (object_at room path)) (lists_without_bytes room other alike path)
@@ -100,14 +102,14 @@ module _ (room other : Room) (caller : SubjectModel)
   prefix_alike : (path : Path) → prefix_refusal room caller path ≡ prefix_refusal other caller path
   prefix_alike path = (λ i. first_refusal (exists_alike path i ∷ folder_alike path i ∷ right_alike path execute i ∷ []))
 
-  walk_alike : (path : Path) → walk room caller path ≡ walk other caller path
+  pub walk_alike : (path : Path) → walk room caller path ≡ walk other caller path
   walk_alike path = (λ i. first_refusal (map (λ front. prefix_alike front i) (proper_prefixes path)))
 
   read_alike : (path : Path) → checks room caller (C.Read path) ≡ checks other caller (C.Read path)
   read_alike path =
       (λ i. walk_alike path i ∷ exists_alike path i ∷ file_alike path i ∷ right_alike path read_data i ∷ [])
 
-bytes_stay_out : (room : Room) (path : Path) (new : List ℕ → List ℕ) (q : Path)
+pub bytes_stay_out : (room : Room) (path : Path) (new : List ℕ → List ℕ) (q : Path)
     → without_bytes (object_at (with_object room path (λ o. record o { bytes = new o.bytes })) q)
     ≡ without_bytes (object_at room q)
 bytes_stay_out room path new q =

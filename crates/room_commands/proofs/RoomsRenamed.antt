@@ -26,7 +26,8 @@ below_more top path rest below =
     rw (rest_below top path below, append_assoc) (at_behind top (drop (length top) path ++ rest))
 
 -- two paths that a third continues: one continues the other
-one_continues : (a b : Path) (r s : Path) → a ++ r ≡ b ++ s → (is_at_or_below a b ≡ true) ⊎ (is_at_or_below b a ≡ true)
+pub one_continues : (a b : Path) (r s : Path) → a ++ r ≡ b ++ s → (is_at_or_below a b ≡ true)
+    ⊎ (is_at_or_below b a ≡ true)
 one_continues [] b r s same = inr (at_behind [] b)
 one_continues (x ∷ a) [] r s same = inl (at_behind [] (x ∷ a))
 one_continues (x ∷ a) (y ∷ b) r s same =

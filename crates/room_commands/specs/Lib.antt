@@ -5,3 +5,6 @@ pub mod SetList
 pub mod Checks
 pub mod Effect
 pub mod Needs
+pub mod Sight
+pub mod OtherBytes
+pub mod Elsewhere

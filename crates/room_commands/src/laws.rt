@@ -1,11 +1,13 @@
 //! Laws of rooms and commands. Each function here does nothing: its contract is what the definitions
 //! are meant to say, proved of them.
 ghost use Rattle.std.specs.Prelude.{◌≡◌, ℕ, true, false, List, [], ◌∷◌, ◌++◌, Some, None, map, if◌then◌else◌, ◌↔◌};
-ghost use Rattle.std.specs.Prelude.{Contains};
+ghost use Rattle.std.specs.Prelude.{Contains, ◌⊎◌};
+ghost use Rattle.std.specs.List.{AllByRecursion};
 ghost use Rattle.std.specs.List.Sorted.{IsStrictlySortedBy};
 ghost use Rattle.room_acl.specs.declared.subject.Kind.{Kind};
 ghost use Rattle.room_acl.specs.SubjectModel.{SubjectModel};
 ghost use Rattle.room_acl.specs.Entries.{EntryModel};
+ghost use Rattle.room_acl.specs.Bits.{read_data, has_flag, protected_flag};
 ghost use Rattle.room_acl.specs.Access.{is_owner};
 ghost use Rattle.room_acl.specs.Inheritance.{handed_down, own_entries_fault};
 ghost use Rattle.room_records.specs.Names.{Name, Path, name_cmp};
@@ -18,6 +20,11 @@ ghost use Rattle.room_commands.specs.Lawful.{IsLawful};
 ghost use Rattle.room_commands.specs.Checks.{bytes_at, is_at_or_below, walk};
 ghost use Rattle.room_commands.specs.Effect.{effect};
 ghost use Rattle.room_commands.specs.Needs.{NeedsAllowed};
+ghost use Rattle.room_commands.specs.Sight.{LooksAlike, StayAlike, BytesUnseen, HasNoPower, OthersUnseen, Turn, view};
+ghost use Rattle.room_commands.specs.OtherBytes.{room_with, command_with, reply_with};
+ghost use Rattle.room_commands.specs.Elsewhere.{paths_of, IsOff, HoldsNeither, IsAboveNeither, but_full, but_depth};
+ghost use Rattle.room_commands.specs.Elsewhere.{but_names, IsOutOfSight, AddsNowhere};
+ghost use Rattle.room_commands.specs.Sight.{may, changes_bytes_alone, own_commands, replies, replies_among};
 
 /// A fresh room is a room.
 pub fn a_fresh_room_is_a_room()
@@ -101,6 +108,22 @@ pub fn a_list_is_own_entries_and_inherited_ones()
         → list_of room path ≡ list_of other path }
 {}
 
+/// The list of an object with the list flag PROTECTED is its own entries alone. So the rights on it are the same
+/// wherever it stands, whatever the lists of folders say; and a RENAME, of it or of a folder above it, gives nobody a
+/// right on it.
+pub fn a_protected_list_stays_its_own()
+    ensures own { (room : Room) (path : Path) (o : Object) → object_at room path ≡ Some o
+        → has_flag o.aclflag protected_flag ≡ true → list_of room path ≡ o.own }
+    ensures anywhere { (room other : Room) (path to : Path) (o : Object) (caller : SubjectModel) (right : ℕ) →
+        object_at room path ≡ Some o → object_at other to ≡ Some o → has_flag o.aclflag protected_flag ≡ true →
+        may room caller path right ≡ may other caller to right }
+    ensures moved { (room : Room) (caller other : SubjectModel) (path to rest : Path) (o : Object) (right : ℕ) →
+        IsRoom room → (IsRefused (effect room other (Rename path to)).reply → ⊥) →
+        object_at room (path ++ rest) ≡ Some o → has_flag o.aclflag protected_flag ≡ true →
+        may (effect room other (Rename path to)).room caller (to ++ rest) right
+        ≡ may room caller (path ++ rest) right }
+{}
+
 /// A folder's names are those of the objects in it, each with its kind, rising strictly by bytes.
 pub fn a_folder_names_what_is_in_it()
     ensures names { (room : Room) (folder : Path) (name : Name) (kind : Kind) →
@@ -108,4 +131,79 @@ pub fn a_folder_names_what_is_in_it()
         ↔ ((o : Object) × (object_at room (folder ++ name ∷ []) ≡ Some o) × (o.kind ≡ kind)) }
     ensures order { (room : Room) (folder : Path)
         → IsStrictlySortedBy name_cmp (map (λ (child : Name × Kind). child.0) (children room folder)) }
+{}
+
+/// What a caller may not see does not show in an answer: two rooms that look alike to a caller answer each of its
+/// commands alike, and where they will look alike after its commands too, each of a list of them.
+pub fn what_may_not_be_seen_does_not_show()
+    ensures answer { (a b : Room) (caller : SubjectModel) (command : CommandModel) →
+        IsLawful command → IsRoom a → IsRoom b → LooksAlike caller a b →
+        (effect a caller command).reply ≡ (effect b caller command).reply }
+    ensures answers { (a b : Room) (caller : SubjectModel) (commands : List CommandModel) →
+        AllByRecursion IsLawful commands → IsRoom a → IsRoom b → StayAlike caller a b →
+        replies a caller commands ≡ replies b caller commands }
+{}
+
+/// Rooms that look alike to a caller, and will after its commands, do so after each of its commands. After commands
+/// that change nothing but bytes, rooms that look alike do.
+pub fn rooms_that_look_alike_stay_alike()
+    ensures every { (a b : Room) (caller : SubjectModel) (command : CommandModel) →
+        IsLawful command → IsRoom a → IsRoom b → StayAlike caller a b →
+        StayAlike caller (effect a caller command).room (effect b caller command).room }
+    ensures bytes { (a b : Room) (caller : SubjectModel) (command : CommandModel) →
+        IsLawful command → changes_bytes_alone command ≡ true → IsRoom a → IsRoom b → LooksAlike caller a b →
+        LooksAlike caller (effect a caller command).room (effect b caller command).room }
+{}
+
+/// What others do does not show to a caller that cannot see it: its commands are answered as if the others had done
+/// nothing. So a caller does not see what another writes to a file of which it may see neither bytes nor size, if it
+/// can neither remove, nor set list or owner of, the file and the folders above it that it reaches. Nor does it see any
+/// command at all at paths out of its sight; of one that makes an object that counts where the caller may add nowhere.
+pub fn what_others_do_unseen_does_not_show()
+    ensures answers { (room : Room) (caller : SubjectModel) (turns : List Turn) →
+        IsRoom room → OthersUnseen caller room turns →
+        replies_among room caller turns ≡ replies room caller (own_commands turns) }
+    ensures written { (room : Room) (caller other : SubjectModel) (bytes : List ℕ) (path : Path) →
+        BytesUnseen caller room path → LooksAlike caller room (effect room other (Write bytes path)).room
+        × (HasNoPower caller room path → StayAlike caller room (effect room other (Write bytes path)).room) }
+    ensures appended { (room : Room) (caller other : SubjectModel) (bytes : List ℕ) (path : Path) →
+        BytesUnseen caller room path → LooksAlike caller room (effect room other (Append bytes path)).room
+        × (HasNoPower caller room path → StayAlike caller room (effect room other (Append bytes path)).room) }
+    ensures done { (room : Room) (caller other : SubjectModel) (command : CommandModel) →
+        IsLawful command → IsRoom room → IsOutOfSight caller room (paths_of command).0 →
+        IsOutOfSight caller room (paths_of command).1 →
+        ((effect room other command).room.made ≡ room.made) ⊎ AddsNowhere caller room →
+        StayAlike caller room (effect room other command).room }
+{}
+
+/// Bytes reach answers by READ alone. With other bytes in its files and in what is to be written, as many as before, a
+/// room does the same and answers the same, but for those bytes; and only READ answers bytes, by READ_DATA.
+pub fn bytes_reach_answers_by_read_alone()
+    ensures room { (new : ℕ → ℕ) (room : Room) (caller : SubjectModel) (command : CommandModel) →
+        (effect (room_with new room) caller (command_with new command)).room
+        ≡ room_with new (effect room caller command).room }
+    ensures reply { (new : ℕ → ℕ) (room : Room) (caller : SubjectModel) (command : CommandModel) →
+        (effect (room_with new room) caller (command_with new command)).reply
+        ≡ reply_with new (effect room caller command).reply }
+    ensures read { (room : Room) (caller : SubjectModel) (command : CommandModel) (bytes : List ℕ) →
+        (effect room caller command).reply ≡ Bytes bytes →
+        (path : Path) × (command ≡ Read path) × (may room caller path read_data ≡ true) }
+{}
+
+/// A command of anybody's changes little of what a caller sees at paths neither at nor below those that it names, and,
+/// where the caller cannot reach these, no more at and below them: above them names and how many they are, how deep a
+/// folder goes, and whether a number is left (`above`); names only in the folder of one of them (`higher`); and at all
+/// other paths only whether a number is left (`aside`).
+pub fn a_command_shows_at_its_paths()
+    ensures above { (room : Room) (caller other : SubjectModel) (command : CommandModel) (path : Path) →
+        IsLawful command → IsRoom room → IsOff caller room (paths_of command) path →
+        but_names (view (effect room other command).room caller path) ≡ but_names (view room caller path) }
+    ensures higher { (room : Room) (caller other : SubjectModel) (command : CommandModel) (path : Path) →
+        IsLawful command → IsRoom room → IsOff caller room (paths_of command) path →
+        HoldsNeither (paths_of command) path →
+        but_depth (view (effect room other command).room caller path) ≡ but_depth (view room caller path) }
+    ensures aside { (room : Room) (caller other : SubjectModel) (command : CommandModel) (path : Path) →
+        IsLawful command → IsRoom room → IsOff caller room (paths_of command) path →
+        IsAboveNeither (paths_of command) path →
+        but_full (view (effect room other command).room caller path) ≡ but_full (view room caller path) }
 {}

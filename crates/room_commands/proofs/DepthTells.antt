@@ -1,0 +1,106 @@
+-- How deep a subtree goes: it tells whether a folder is empty, and whether a move would be too deep.
+use Rattle.std.proofs.Common.{◌≡◌, ℕ, ◌+◌, ◌-◌, ◌<◌, ◌≤◌, refl, ap, sym, ◌∙◌, arith, true}
+use Rattle.std.proofs.Common.{◌&&◌, ◌||◌, inl, inr, List, [], ◌∷◌, ◌++◌, drop, length, Option, None, Some, nat_lt}
+use Rattle.std.proofs.Common.{append_assoc, cond, option_map, length-append}
+use Rattle.std.specs.Prelude.{max}
+use Rattle.std.specs.List.{list_any}
+use Rattle.std.specs.Map.{lookup}
+use Rattle.std.proofs.Math.Nat.{le-max_left, le-max_right, max-le}
+use Rattle.std.proofs.lemmas.Bool.{cases_Bool, cases_lt, lt-ltb, le-ltb}
+use Rattle.std.proofs.lemmas.Grind.{common_steps}
+use Rattle.room_acl.specs.declared.subject.Kind.{Kind}
+use Rattle.room_records.specs.Limits.{max_names}
+use Rattle.room_records.specs.Names.{Name, Path, name_eq}
+use Rattle.room_records.specs.Room.{Object, Room, IsRoom, object_at, children}
+use Rattle.room_records.proofs.RoomsMap.{none_is_some, StandsIn, found_stands, standing_found, nothing_below}
+use Rattle.room_records.proofs.RoomsChildren.{nothing_in_empty, kind_of_child, name_itself}
+use Rattle.room_commands.specs.Checks.{is_at_or_below}
+use Rattle.room_commands.specs.Sight.{depth_in}
+use Rattle.room_commands.proofs.Renaming.{at_behind}
+use Rattle.room_commands.proofs.RoomsRenamed.{rest_below}
+
+-- each object at or below a path is within its depth
+pub within_depth : (path : Path) (es : List (Path × Object)) (k : Path) (o : Object) → StandsIn es k o
+    → is_at_or_below k path ≡ true → length k - length path ≤ depth_in path es
+within_depth path [] k o stands below = absurd stands
+within_depth path (e ∷ es) k o (inl here) below =
+    rw (ap (λ p. is_at_or_below p path) here.0 ∙ below)
+    (rw here.0 (le-max_left (length k - length path) (depth_in path es)))
+within_depth path (e ∷ es) k o (inr there) below =
+    let rest = within_depth path es k o there below in
+    elim (cases_Bool (is_at_or_below e.0 path)) [
+      | inl inside ↦ rw inside (omega (arith, rest, le-max_right (length e.0 - length path) (depth_in path es)))
+      | inr outside ↦ rw outside rest
+    ]
+
+-- and the depth is no more than those ask
+pub no_deeper : (path : Path) (es : List (Path × Object)) (n : ℕ)
+    → ((k : Path) (o : Object) → StandsIn es k o → is_at_or_below k path ≡ true → length k - length path ≤ n)
+    → depth_in path es ≤ n
+no_deeper path [] n each = omega arith
+no_deeper path (e ∷ es) n each =
+    let rest = no_deeper path es n (λ k o there below. each k o (inr there) below) in
+    elim (cases_Bool (is_at_or_below e.0 path)) [
+      | inl inside ↦ rw inside (max-le (each e.0 e.1 (inl (refl, refl)) inside) rest)
+      | inr outside ↦ rw outside rest
+    ]
+
+either_above : (m n l d : ℕ) → (nat_lt m (n + l) || nat_lt m (n + d)) ≡ nat_lt m (n + max l d)
+either_above m n l d = grind (arith, common_steps)
+
+-- a move is too deep where the depth and the names of the new place come to too many
+pub too_deep : (path to : Path) (es : List (Path × Object)) → length to ≤ max_names
+    → list_any (λ (e : Path × Object). is_at_or_below e.0 path
+    && nat_lt max_names (length to + (length e.0 - length path))) es
+    ≡ nat_lt max_names (length to + depth_in path es)
+too_deep path to [] short = sym (le-ltb max_names (length to + 0) (omega (arith, short)))
+too_deep path to (e ∷ es) short =
+    let rest = too_deep path to es short in
+    elim (cases_Bool (is_at_or_below e.0 path)) [
+      | inl inside ↦ rw inside (
+          ap (λ others. nat_lt max_names (length to + (length e.0 - length path)) || others) rest
+          ∙ either_above max_names (length to) (length e.0 - length path) (depth_in path es))
+      | inr outside ↦ rw outside rest
+    ]
+
+length_behind : (path rest : Path) → length (path ++ rest) - length path ≡ length rest
+length_behind path rest = omega (arith, length-append path rest)
+
+module _ (room : Room) (lawful : IsRoom room) (path : Path) where
+  holds_nothing : length (children room path) ≡ 0 → depth_in path room.objects ≤ 0
+  holds_nothing empty = no_deeper path room.objects 0
+      (λ k o stands below. at k o stands below (drop (length path) k) refl)
+    where
+      at : (k : Path) (o : Object) → StandsIn room.objects k o → is_at_or_below k path ≡ true
+          → (rest : Path) → drop (length path) k ≡ rest → length k - length path ≤ 0
+      at k o stands below [] is =
+          rw (rest_below path k below ∙ ap (λ r. path ++ r) is) (rw (length_behind path []) (omega arith))
+      at k o stands below (name ∷ rest) is =
+          let whole : k ≡ (path ++ name ∷ []) ++ rest =
+          rest_below path k below ∙ ap (λ r. path ++ r) is ∙ sym (append_assoc path (name ∷ []) rest) in
+          absurd (none_is_some o
+          (sym (nothing_below room lawful rest (path ++ name ∷ []) (nothing_in_empty room path empty name))
+          ∙ ap (object_at room) (sym whole) ∙ standing_found room.objects lawful.once k o stands))
+
+  holds_something : (es : List (Name × Kind)) → children room path ≡ es → 0 < length es → 0 < depth_in path room.objects
+  holds_something [] is some = absurd (omega (arith, some))
+  holds_something (e ∷ es) is some =
+      let named : lookup (name_eq e.0) (children room path) ≡ Some e.1 =
+      ap (lookup (name_eq e.0)) is ∙ ap (λ b. cond b (Some e.1) (lookup (name_eq e.0) es)) (name_itself e.0) in
+      let found = some_found (object_at room (path ++ e.0 ∷ [])) e.1 (sym (kind_of_child room path e.0) ∙ named) in
+      let deep = within_depth path room.objects (path ++ e.0 ∷ []) found.0
+      (found_stands room.objects (path ++ e.0 ∷ []) found.0 found.1) (at_behind path (e.0 ∷ [])) in
+      omega (arith, deep, length_behind path (e.0 ∷ []))
+    where
+      some_found : (o : Option Object) (kind : Kind) → option_map (λ (f : Object). f.kind) o ≡ Some kind
+          → (f : Object) × (o ≡ Some f)
+      some_found None kind h = absurd (none_is_some kind h)
+      some_found (Some f) kind h = (f, refl)
+
+  -- a folder holds something where its depth is not 0
+  pub depth_tells_empty : nat_lt 0 (length (children room path)) ≡ nat_lt 0 (depth_in path room.objects)
+  depth_tells_empty = elim (cases_lt 0 (length (children room path))) [
+    | inl some ↦ lt-ltb _ _ some
+        ∙ sym (lt-ltb _ _ (holds_something (children room path) refl some))
+    | inr none ↦ le-ltb _ _ none ∙ sym (le-ltb _ _ (holds_nothing (omega (arith, none))))
+  ]

@@ -1,0 +1,398 @@
+-- What a caller may not see does not show in the answer to its command.
+use Rattle.std.proofs.Common.{◌≡◌, ℕ, ◌+◌, refl, ap, sym, ◌∙◌, Bool, true, false, not, ◌&&◌, ◌||◌, List, [], ◌∷◌}
+use Rattle.std.proofs.Common.{◌++◌, length, Option, None, Some, nat_lt, cond}
+use Rattle.std.specs.Prelude.{is_none, bit_and}
+use Rattle.std.proofs.lemmas.Bool.{or_parts, and_from, or_left, or_right}
+use Rattle.room_acl.specs.declared.subject.Kind.TheVariants.{File, Folder}
+use Rattle.room_acl.specs.Bits.{read_data, list_directory, write_data, add_file, append_data, add_subdirectory}
+use Rattle.room_acl.specs.Bits.{delete_child, read_attributes, delete_object, read_acl, write_acl, write_owner}
+use Rattle.room_acl.specs.SubjectModel.{SubjectModel}
+use Rattle.room_acl.specs.Access.{allowed_mask}
+use Rattle.room_acl.specs.Inheritance.{own_entries_fault}
+use Rattle.room_records.specs.Limits.{max_names}
+use Rattle.room_records.specs.Names.{Name, Path, IsPath, path_eq}
+use Rattle.room_records.specs.Room.{Room, IsRoom, object_at, children, list_of, standing_of, parent_of}
+use Rattle.room_records.proofs.RoomsMap.{some_is, none_is_some, parent_of_end, Ends}
+use Rattle.room_commands.specs.CommandModel.{CommandModel}
+use Rattle.room_commands.specs.CommandModel as C
+use Rattle.room_commands.specs.ReplyModel.{Refusal, Refused, Stat, Names, Size, Bytes, Entries}
+use Rattle.room_commands.specs.ReplyModel.{Allowed, Done}
+use Rattle.room_commands.specs.declared.reply.RefusalCode.{RefusalCode}
+use Rattle.room_commands.specs.declared.reply.RefusalCode.TheVariants.{NotEmpty, TooDeep, Inval, Exist}
+use Rattle.room_commands.specs.Lawful.{IsLawful}
+use Rattle.room_commands.specs.SetList.{own_entries_of_setlist}
+use Rattle.room_commands.specs.Checks.{first_refusal, checks, refuse_if, check_right, check_removal, removal_refusal}
+use Rattle.room_commands.specs.Checks.{walk}
+use Rattle.room_commands.specs.Checks.{check_exists, check_absent, check_folder, check_file, is_kind, is_file, is_root}
+use Rattle.room_commands.specs.Checks.{right_to_add}
+use Rattle.room_commands.specs.Checks.{check_depth, check_folder_full, check_room_full, check_size, check_lawful}
+use Rattle.room_commands.specs.Checks.{bytes_at}
+use Rattle.room_commands.specs.Checks.{bytes_of, is_at_or_below, kind_of}
+use Rattle.room_commands.specs.Effect.{effect, effect_by, reply, or_no_object, attributes_of}
+use Rattle.room_commands.specs.Sight.{LooksAlike, Sight, may, may_remove, depth_in}
+use Rattle.room_commands.proofs.ChecksTell.{not_refused}
+use Rattle.room_commands.proofs.EffectIsRoom.{not_root_ends}
+use Rattle.room_commands.proofs.DepthTells.{depth_tells_empty, too_deep}
+use Rattle.room_commands.proofs.Looks.{BothThere, both_there, way_alike, exists_alike, absent_alike, folder_alike}
+use Rattle.room_commands.proofs.Looks.{file_alike, right_alike, kind_alike, kind_of_alike, in_folder_alike}
+use Rattle.room_commands.proofs.Looks.{folder_full_alike, room_full_alike, shown_same}
+
+-- two lists of checks refuse alike: each pair is alike where those before it pass. Where all pass, so is the rest
+abbrev pub AlikeInTurn : Type 0 → List (Option Refusal) → List (Option Refusal) → Type 0
+AlikeInTurn Rest [] [] = Rest
+AlikeInTurn Rest [] (y ∷ ys) = ⊥
+AlikeInTurn Rest (x ∷ xs) [] = ⊥
+AlikeInTurn Rest (x ∷ xs) (y ∷ ys) = (x ≡ y) × (x ≡ None → AlikeInTurn Rest xs ys)
+
+pub refused_alike : (Rest : Type 0) (xs ys : List (Option Refusal)) → AlikeInTurn Rest xs ys
+    → first_refusal xs ≡ first_refusal ys
+refused_alike Rest [] [] alike = refl
+refused_alike Rest [] (y ∷ ys) alike = absurd alike
+refused_alike Rest (x ∷ xs) [] alike = absurd alike
+refused_alike Rest (None ∷ xs) (None ∷ ys) alike = refused_alike Rest xs ys (alike.1 refl)
+refused_alike Rest (Some r ∷ xs) (Some s ∷ ys) alike = alike.0
+refused_alike Rest (None ∷ xs) (Some s ∷ ys) alike = absurd (none_is_some s alike.0)
+refused_alike Rest (Some r ∷ xs) (None ∷ ys) alike = absurd (none_is_some r (sym alike.0))
+
+pub passed_alike : (Rest : Type 0) (xs ys : List (Option Refusal)) → AlikeInTurn Rest xs ys
+    → first_refusal xs ≡ None → Rest
+passed_alike Rest [] [] alike passed = alike
+passed_alike Rest [] (y ∷ ys) alike passed = absurd alike
+passed_alike Rest (x ∷ xs) [] alike passed = absurd alike
+passed_alike Rest (None ∷ xs) (y ∷ ys) alike passed = passed_alike Rest xs ys (alike.1 refl) passed
+passed_alike Rest (Some r ∷ xs) (y ∷ ys) alike passed = absurd (none_is_some r (sym passed))
+
+replied_alike : (a b : Room) (caller : SubjectModel) (command : CommandModel) (x y : Option Refusal) → x ≡ y
+    → (x ≡ None → reply a caller command ≡ reply b caller command)
+    → (effect_by a caller command x).reply ≡ (effect_by b caller command y).reply
+replied_alike a b caller command None None same replies = replies refl
+replied_alike a b caller command (Some r) (Some s) same replies = ap Refused (some_is r s same)
+replied_alike a b caller command None (Some s) same replies = absurd (none_is_some s same)
+replied_alike a b caller command (Some r) None same replies = absurd (none_is_some r (sym same))
+
+-- a right that is not refused is there
+is_there : (x : Option Refusal) → x ≡ None → is_none x ≡ true
+is_there x none = ap is_none none
+
+module _ (a b : Room) (caller : SubjectModel) (room_a : IsRoom a) (room_b : IsRoom b)
+    (alike : LooksAlike caller a b) where
+  -- what is shown of an object that is there in both
+  module _ (path : Path) (walked : walk a caller path ≡ None) (there : check_exists a path ≡ None) where
+    both : BothThere a b caller path
+    both = both_there a b caller alike path walked there
+
+    is_folder : check_folder a path ≡ None → is_file both.here.kind ≡ false
+    is_folder passed = sym (ap (is_kind File) both.is) ∙ not_refused (is_kind File (object_at a path)) _ passed
+
+    is_file_here : check_file a path ≡ None → is_file both.here.kind ≡ true
+    is_file_here passed =
+        file_of (is_file both.here.kind)
+        (sym (ap (is_kind Folder) both.is) ∙ not_refused (is_kind Folder (object_at a path)) _ passed)
+      where
+        file_of : (f : Bool) → not f ≡ false → f ≡ true
+        file_of true h = refl
+        file_of false h = cc
+
+    attributes_alike : check_right a caller path read_attributes ≡ None
+        → reply a caller (C.Stat path) ≡ reply b caller (C.Stat path)
+    attributes_alike right =
+        ap (λ o. Stat (attributes_of a path (or_no_object o))) both.is
+        ∙ ap Stat (shown_same _ _ _ _ (ap (λ (s : Sight). s.attributes) both.same) (is_there _ right))
+        ∙ ap (λ o. Stat (attributes_of b path (or_no_object o))) (sym both.is_other)
+
+    names_alike : check_folder a path ≡ None → check_right a caller path list_directory ≡ None
+        → reply a caller (C.ListNames path) ≡ reply b caller (C.ListNames path)
+    names_alike folder right =
+        ap Names (shown_same _ _ _ _ (ap (λ (s : Sight). s.names) both.same)
+        (and_from _ _ (ap not (is_folder folder)) (is_there _ right)))
+
+    bytes_shown : check_file a path ≡ None → check_right a caller path read_data ≡ None
+        → reply a caller (C.Read path) ≡ reply b caller (C.Read path)
+    bytes_shown file right =
+        ap (λ o. Bytes (bytes_of o)) both.is
+        ∙ ap Bytes (shown_same _ _ _ _ (ap (λ (s : Sight). s.bytes) both.same)
+        (and_from _ _ (is_file_here file) (is_there _ right)))
+        ∙ ap (λ o. Bytes (bytes_of o)) (sym both.is_other)
+
+    size_shown : check_file a path ≡ None → check_right a caller path append_data ≡ None
+        → length (bytes_at a path) ≡ length (bytes_at b path)
+    size_shown file right =
+        ap (λ o. length (bytes_of o)) both.is
+        ∙ shown_same _ _ _ _ (ap (λ (s : Sight). s.size) both.same)
+        (and_from _ _ (is_file_here file) (is_there _ right))
+        ∙ ap (λ o. length (bytes_of o)) (sym both.is_other)
+
+    list_shown : check_right a caller path read_acl ≡ None
+        → reply a caller (C.GetList path) ≡ reply b caller (C.GetList path)
+    list_shown right =
+        let same = shown_same _ _ _ _ (ap (λ (s : Sight). s.entries) both.same) (is_there _ right) in
+        ap (λ o. Entries (or_no_object o).aclflag (list_of a path)) both.is
+        ∙ (λ i. Entries (same i).0 (same i).1)
+        ∙ ap (λ o. Entries (or_no_object o).aclflag (list_of b path)) (sym both.is_other)
+
+    rights_shown : (mask : ℕ) → reply a caller (C.Access mask path) ≡ reply b caller (C.Access mask path)
+    rights_shown mask =
+        ap (λ o. Allowed (bit_and mask (allowed_mask (list_of a path) caller (standing_of (or_no_object o))))) both.is
+        ∙ ap (λ (s : Sight). Allowed (bit_and mask s.rights)) both.same
+        ∙ ap (λ o. Allowed (bit_and mask (allowed_mask (list_of b path) caller (standing_of (or_no_object o)))))
+        (sym both.is_other)
+
+    depth_shown : may_remove a caller path ≡ true → depth_in path a.objects ≡ depth_in path b.objects
+    depth_shown removes = shown_same _ _ _ _ (ap (λ (s : Sight). s.depth) both.same) removes
+
+  -- what the folder above shows
+  module _ (path : Path) (end : Ends path) (walked : walk a caller path ≡ None) where
+    above : parent_of path ≡ end.folder
+    above = ap parent_of end.is ∙ parent_of_end end.folder end.name
+
+    way_in : walk a caller (end.folder ++ end.name ∷ []) ≡ None
+    way_in = ap (walk a caller) (sym end.is) ∙ walked
+
+    right_above : (wanted : ℕ)
+        → check_right a caller (parent_of path) wanted ≡ check_right b caller (parent_of path) wanted
+    right_above wanted =
+        ap (λ folder. check_right a caller folder wanted) above
+        ∙ in_folder_alike a b caller alike end.folder end.name way_in wanted
+        ∙ ap (λ folder. check_right b caller folder wanted) (sym above)
+
+    full_above : check_folder_full a (parent_of path) ≡ check_folder_full b (parent_of path)
+    full_above =
+        ap (check_folder_full a) above ∙ folder_full_alike a b caller alike end.folder end.name way_in
+        ∙ ap (check_folder_full b) (sym above)
+
+    may_above : (wanted : ℕ) → check_right a caller (parent_of path) wanted ≡ None
+        → may a caller end.folder wanted ≡ true
+    may_above wanted right =
+        is_there (check_right a caller end.folder wanted)
+        (ap (λ folder. check_right a caller folder wanted) (sym above) ∙ right)
+
+    room_full : (may a caller end.folder add_file || may a caller end.folder add_subdirectory) ≡ true
+        → check_room_full a ≡ check_room_full b
+    room_full = room_full_alike a b caller alike end.folder end.name way_in
+
+    removal_alike : check_removal a caller path ≡ check_removal b caller path
+    removal_alike = (λ i. removal_refusal path (right_alike a b caller alike path walked delete_object i)
+        (right_above delete_child i))
+
+    removes : check_removal a caller path ≡ None → may_remove a caller path ≡ true
+    removes right = ap (λ p. not (is_root p) && is_none (check_removal a caller path)) end.is
+        ∙ and_from _ _ (below_root end.folder end.name) (is_there _ right)
+      where
+        below_root : (folder : Path) (name : Name) → not (is_root (folder ++ name ∷ [])) ≡ true
+        below_root [] name = refl
+        below_root (first ∷ folder) name = refl
+
+    depth_alike : check_exists a path ≡ None → check_removal a caller path ≡ None
+        → depth_in path a.objects ≡ depth_in path b.objects
+    depth_alike there right = depth_shown path walked there (removes right)
+
+    empty_alike : check_exists a path ≡ None → check_removal a caller path ≡ None
+        → refuse_if (nat_lt 0 (length (children a path))) NotEmpty
+        ≡ refuse_if (nat_lt 0 (length (children b path))) NotEmpty
+    empty_alike there right = ap (λ test. refuse_if test NotEmpty)
+        (depth_tells_empty a room_a path ∙ ap (nat_lt 0) (depth_alike there right)
+        ∙ sym (depth_tells_empty b room_b path))
+
+    too_deep_alike : (to : Path) → IsPath to → check_exists a path ≡ None → check_removal a caller path ≡ None
+        → check_depth a path to ≡ check_depth b path to
+    too_deep_alike to is_path there right = ap (λ test. refuse_if test TooDeep)
+        (too_deep path to a.objects is_path.short
+        ∙ ap (λ depth. nat_lt max_names (length to + depth)) (depth_alike there right)
+        ∙ sym (too_deep path to b.objects is_path.short))
+
+  way : (path : Path) → walk a caller path ≡ walk b caller path
+  way = way_alike a b caller alike
+
+  exists : (path : Path) → walk a caller path ≡ None → check_exists a path ≡ check_exists b path
+  exists = exists_alike a b caller alike
+
+  right : (path : Path) → walk a caller path ≡ None → (wanted : ℕ)
+      → check_right a caller path wanted ≡ check_right b caller path wanted
+  right = right_alike a b caller alike
+
+  file : (path : Path) → walk a caller path ≡ None → check_file a path ≡ check_file b path
+  file = file_alike a b caller alike
+
+  absent : (path : Path) → walk a caller path ≡ None → check_absent a path ≡ check_absent b path
+  absent = absent_alike a b caller alike
+
+  ends_of : (path : Path) (code : RefusalCode) → refuse_if (is_root path) code ≡ None → Ends path
+  ends_of path code passed = not_root_ends path (not_refused (is_root path) code passed)
+
+  -- an object on a way that passes, and a right on it
+  reached : (path : Path) (wanted : ℕ) (Rest : Type 0) (others others' : List (Option Refusal))
+      → (walk a caller path ≡ None → check_exists a path ≡ None → check_right a caller path wanted ≡ None
+      → AlikeInTurn Rest others others')
+      → AlikeInTurn Rest (walk a caller path ∷ check_exists a path ∷ check_right a caller path wanted ∷ others)
+      (walk b caller path ∷ check_exists b path ∷ check_right b caller path wanted ∷ others')
+  reached path wanted Rest others others' then = (
+    way path,
+    λ walked. (
+      exists path walked,
+      λ there.
+          (right path walked wanted, λ may. then walked there may),
+    ),
+  )
+
+  -- the same of a file
+  reached_file : (path : Path) (wanted : ℕ) (Rest : Type 0) (others others' : List (Option Refusal))
+      → (walk a caller path ≡ None → check_exists a path ≡ None → check_file a path ≡ None
+      → check_right a caller path wanted ≡ None → AlikeInTurn Rest others others')
+      → AlikeInTurn Rest
+      (walk a caller path ∷ check_exists a path ∷ check_file a path ∷ check_right a caller path wanted ∷ others)
+      (walk b caller path ∷ check_exists b path ∷ check_file b path ∷ check_right b caller path wanted ∷ others')
+  reached_file path wanted Rest others others' then = (
+    way path,
+    λ walked. (
+      exists path walked,
+      λ there.
+          (file path walked, λ is. (right path walked wanted, λ may. then walked there is may)),
+    ),
+  )
+
+  pub in_turn : (command : CommandModel) → IsLawful command → AlikeInTurn
+      (reply a caller command ≡ reply b caller command) (checks a caller command) (checks b caller command)
+  in_turn (C.Stat path) lawful = reached path read_attributes
+      (reply a caller (C.Stat path) ≡ reply b caller (C.Stat path)) [] [] (attributes_alike path)
+  in_turn (C.ListNames path) lawful = (
+    way path,
+    λ walked. (
+      exists path walked,
+      λ there. (
+        folder_alike a b caller alike path walked,
+        λ folder. (
+          right path walked list_directory,
+          λ may.
+              names_alike path walked there folder may,
+        ),
+      ),
+    ),
+  )
+  in_turn (C.Mkdir path) lawful = (
+    refl,
+    λ not_root. (
+      way path,
+      λ walked. (
+        absent path walked,
+        λ free.
+            let end = ends_of path Exist not_root in (
+              right_above path end walked add_subdirectory,
+              λ may. (
+                full_above path end walked,
+                λ not_full. (
+                  room_full path end walked (or_right _ _ (may_above path end walked add_subdirectory may)),
+                  λ left. refl,
+                ),
+              ),
+            ),
+      ),
+    ),
+  )
+  in_turn (C.Create bytes path) lawful = (
+    refl,
+    λ not_root. (
+      way path,
+      λ walked. (
+        absent path walked,
+        λ free.
+            let end = ends_of path Exist not_root in (
+              right_above path end walked add_file,
+              λ may. (
+                refl,
+                λ small. (
+                  full_above path end walked,
+                  λ not_full.
+                      (room_full path end walked (or_left _ _ (may_above path end walked add_file may)), λ left. refl),
+                ),
+              ),
+            ),
+      ),
+    ),
+  )
+  in_turn (C.Read path) lawful = reached_file path read_data
+      (reply a caller (C.Read path) ≡ reply b caller (C.Read path)) [] [] (bytes_shown path)
+  in_turn (C.Write bytes path) lawful =
+      reached_file path write_data (Size (length bytes) ≡ Size (length bytes)) (check_size (length bytes) ∷ [])
+      (check_size (length bytes) ∷ []) (λ walked there is may. (refl, λ small. refl))
+  in_turn (C.Append bytes path) lawful = reached_file path append_data
+      (Size (length (bytes_at a path) + length bytes) ≡ Size (length (bytes_at b path) + length bytes))
+      (check_size (length (bytes_at a path) + length bytes) ∷ [])
+      (check_size (length (bytes_at b path) + length bytes) ∷ []) (λ walked there is may.
+      let size = size_shown path walked there is may in
+      (ap (λ n. check_size (n + length bytes)) size, λ small. ap (λ n. Size (n + length bytes)) size))
+  in_turn (C.Remove path) lawful = (
+    refl,
+    λ not_root. (
+      way path,
+      λ walked. (
+        exists path walked,
+        λ there.
+            let end = ends_of path Inval not_root in
+            (removal_alike path end walked, λ may. (empty_alike path end walked there may, λ empty. refl)),
+      ),
+    ),
+  )
+  in_turn (C.Rename path to) lawful = (
+    refl,
+    λ outside. (
+      way path,
+      λ walked. (
+        exists path walked,
+        λ there. (
+          way to,
+          λ walked_to. (
+            absent to walked_to,
+            λ free.
+                let apart = or_parts (is_root path || is_root to) (is_at_or_below to path) (not_refused _ _ outside) in
+                let roots = or_parts (is_root path) (is_root to) apart.0 in
+                let end = not_root_ends path roots.0 in
+                let end_to = not_root_ends to roots.1 in (
+                  removal_alike path end walked,
+                  λ removal. (
+                    right_above to end_to walked_to (right_to_add a path)
+                        ∙ ap (λ folder. check_right b caller (parent_of to) (cond folder add_subdirectory add_file))
+                        (kind_alike a b caller alike path walked Folder),
+                    λ adds. (
+                      too_deep_alike path end walked to lawful.1 there removal,
+                      λ fits. (
+                        ap (cond (path_eq (parent_of path) (parent_of to)) None) (full_above to end_to walked_to),
+                        λ not_full.
+                            refl,
+                      ),
+                    ),
+                  ),
+                ),
+          ),
+        ),
+      ),
+    ),
+  )
+  in_turn (C.GetList path) lawful = reached path read_acl
+      (reply a caller (C.GetList path) ≡ reply b caller (C.GetList path)) [] [] (list_shown path)
+  in_turn (C.SetList aclflag entries path) lawful = reached path write_acl (Done ≡ Done)
+      (check_lawful (own_entries_fault (own_entries_of_setlist path aclflag entries) (kind_of (object_at a path))) ∷ [])
+      (check_lawful (own_entries_fault (own_entries_of_setlist path aclflag entries) (kind_of (object_at b path))) ∷ [])
+      (λ walked there may. (
+        ap (λ kind. check_lawful (own_entries_fault (own_entries_of_setlist path aclflag entries) kind))
+            (kind_of_alike a b caller alike path walked),
+        λ fits. refl,
+      ))
+  in_turn (C.Chown group owner path) lawful = reached path write_owner (Done ≡ Done) [] []
+      (λ walked there may. refl)
+  in_turn (C.Access mask path) lawful = (
+    way path,
+    λ walked. (
+      exists path walked,
+      λ there.
+          rights_shown path walked there mask,
+    ),
+  )
+
+  pub reply_alike : (command : CommandModel) → IsLawful command
+      → (effect a caller command).reply ≡ (effect b caller command).reply
+  reply_alike command lawful =
+      let each = in_turn command lawful in
+      let Rest = reply a caller command ≡ reply b caller command in
+      replied_alike a b caller command _ _
+      (refused_alike Rest (checks a caller command) (checks b caller command) each)
+      (passed_alike Rest (checks a caller command) (checks b caller command) each)

@@ -1,0 +1,297 @@
+-- No check and no change looks at the bytes of a file.
+use Rattle.std.proofs.Common.{◌≡◌, ℕ, ◌+◌, ◌-◌, refl, ap, sym, ◌∙◌, arith, Bool, true, false, not, ◌&&◌, ◌||◌, cond}
+use Rattle.std.proofs.Common.{List, [], ◌∷◌, ◌++◌, map, length, Option, None, Some, nat_lt, nat_le, option_map}
+use Rattle.std.specs.Prelude.{bit_and, is_none}
+use Rattle.std.specs.Map.{lookup}
+use Rattle.std.specs.List.{filter, filter_map, list_any}
+use Rattle.std.proofs.lemmas.List.{map-append, length-map}
+use Rattle.room_acl.specs.declared.subject.Kind.{Kind}
+use Rattle.room_acl.specs.declared.subject.Kind.TheVariants.{File, Folder}
+use Rattle.room_acl.specs.Bits.{read_data, list_directory, write_data, add_file, append_data, add_subdirectory}
+use Rattle.room_acl.specs.Bits.{delete_child, read_attributes, delete_object, read_acl, write_acl, write_owner}
+use Rattle.room_acl.specs.SubjectModel.{SubjectModel}
+use Rattle.room_acl.specs.Access.{allowed_mask}
+use Rattle.room_acl.specs.Inheritance.{own_entries_fault}
+use Rattle.room_records.specs.Limits.{max_names, max_children}
+use Rattle.room_records.specs.Names.{Name, Path, path_eq}
+use Rattle.room_records.specs.Room.{Object, Room, object_at, children, child_in, by_name, list_of, standing_of}
+use Rattle.room_records.specs.Room.{parent_of}
+use Rattle.room_records.proofs.RoomsLists.{without_bytes, lists_without_bytes}
+use Rattle.room_commands.specs.CommandModel.{CommandModel}
+use Rattle.room_commands.specs.CommandModel as C
+use Rattle.room_commands.specs.ReplyModel.{Refusal, Stat, Names, Size, Bytes, Entries, Allowed}
+use Rattle.room_commands.specs.declared.reply.RefusalCode.TheVariants.{NotEmpty, Exist, Inval, TooDeep, FolderFull}
+use Rattle.room_commands.specs.SetList.{own_entries_of_setlist}
+use Rattle.room_commands.specs.Checks.{first_refusal, checks, refuse_if, removal_refusal, check_right, check_size, walk}
+use Rattle.room_commands.specs.Checks.{check_exists, check_absent, check_file, check_removal, check_depth}
+use Rattle.room_commands.specs.Checks.{check_folder_full, check_room_full, check_lawful, right_to_add, kind_of}
+use Rattle.room_commands.specs.Checks.{bytes_of, bytes_at, is_root, is_at_or_below}
+use Rattle.room_commands.specs.Effect.{effect, effect_by, changed, reply, attributes_of, size_of, object_or_default}
+use Rattle.room_commands.specs.Effect.{or_no_object, with_new, moved, new_object}
+use Rattle.room_commands.specs.OtherBytes.{object_with, room_with, command_with, reply_with}
+use Rattle.room_commands.specs.Sight.{may}
+use Rattle.room_commands.proofs.Rights.{all_none}
+use Rattle.room_commands.proofs.RoomLaws.{some_alike, kind_alike, exists_alike, folder_alike, file_alike, right_alike}
+use Rattle.room_commands.proofs.RoomLaws.{walk_alike}
+
+module _ (new : ℕ → ℕ) where
+  abbrev entry_with : Path × Object → Path × Object
+  entry_with e = (e.0, object_with new e.1)
+
+  found_with : (test : Path → Bool) (es : List (Path × Object))
+      → lookup test (map entry_with es) ≡ option_map (object_with new) (lookup test es)
+  found_with test [] = refl
+  found_with test (e ∷ es) = grind (arith, found_with test es)
+
+  listed_with : (folder : Path) (es : List (Path × Object))
+      → filter_map (child_in folder) (map entry_with es) ≡ filter_map (child_in folder) es
+  listed_with folder [] = refl
+  listed_with folder (e ∷ es) = grind (arith, listed_with folder es)
+
+  any_with : (test : Path → Bool) (es : List (Path × Object))
+      → list_any (λ (e : Path × Object). test e.0) (map entry_with es) ≡ list_any (λ (e : Path × Object). test e.0) es
+  any_with test [] = refl
+  any_with test (e ∷ es) = ap (λ t. test e.0 || t) (any_with test es)
+
+  -- a change that does the same to an object with other bytes
+  changed_with : (path : Path) (change then : Object → Object)
+      → ((o : Object) → then (object_with new o) ≡ object_with new (change o)) → (es : List (Path × Object))
+      → map (λ (e : Path × Object). cond (path_eq path e.0) (e.0, then e.1) e) (map entry_with es)
+      ≡ map entry_with (map (λ (e : Path × Object). cond (path_eq path e.0) (e.0, change e.1) e) es)
+  changed_with path change then same [] = refl
+  changed_with path change then same (e ∷ es) =
+      (λ i. by_test (path_eq path e.0) i ∷ changed_with path change then same es i)
+    where
+      by_test : (t : Bool) → cond t (e.0, then (object_with new e.1)) (entry_with e)
+          ≡ entry_with (cond t (e.0, change e.1) e)
+      by_test true = (λ i. (e.0, same e.1 i))
+      by_test false = refl
+
+  left_with : (path : Path) (es : List (Path × Object))
+      → filter (λ (e : Path × Object). not (path_eq path e.0)) (map entry_with es)
+      ≡ map entry_with (filter (λ (e : Path × Object). not (path_eq path e.0)) es)
+  left_with path [] = refl
+  left_with path (e ∷ es) = grind (arith, left_with path es)
+
+  moved_with : (path to : Path) (es : List (Path × Object))
+      → map (λ (e : Path × Object). (moved path to e.0, e.1)) (map entry_with es)
+      ≡ map entry_with (map (λ (e : Path × Object). (moved path to e.0, e.1)) es)
+  moved_with path to [] = refl
+  moved_with path to (e ∷ es) = ap (λ others. (moved path to e.0, object_with new e.1) ∷ others) (moved_with path to es)
+
+  module _ (room : Room) (caller : SubjectModel) where
+    abbrev other : Room
+    other = room_with new room
+
+    there : (q : Path) → object_at other q ≡ option_map (object_with new) (object_at room q)
+    there q = found_with (path_eq q) room.objects
+
+    bare_with : (o : Option Object) → without_bytes (option_map (object_with new) o) ≡ without_bytes o
+    bare_with None = refl
+    bare_with (Some o) = refl
+
+    bare : (q : Path) → without_bytes (object_at other q) ≡ without_bytes (object_at room q)
+    bare q = ap without_bytes (there q) ∙ bare_with (object_at room q)
+
+    names : (q : Path) → children other q ≡ children room q
+    names q = ap by_name (listed_with q room.objects)
+
+    lists : (q : Path) → list_of other q ≡ list_of room q
+    lists = lists_without_bytes other room bare
+
+    way : (q : Path) → walk other caller q ≡ walk room caller q
+    way = walk_alike other room caller bare
+
+    right : (q : Path) (wanted : ℕ) → check_right other caller q wanted ≡ check_right room caller q wanted
+    right = right_alike other room caller bare
+
+    exists : (q : Path) → check_exists other q ≡ check_exists room q
+    exists = exists_alike other room caller bare
+
+    file : (q : Path) → check_file other q ≡ check_file room q
+    file = file_alike other room caller bare
+
+    absent : (q : Path) → check_absent other q ≡ check_absent room q
+    absent q = ap (λ t. refuse_if t Exist) (some_alike other room caller bare q)
+
+    full : (q : Path) → check_folder_full other q ≡ check_folder_full room q
+    full q = ap (λ (l : List (Name × Kind)). refuse_if (nat_le max_children (length l)) FolderFull) (names q)
+
+    removal : (q : Path) → check_removal other caller q ≡ check_removal room caller q
+    removal q = (λ i. removal_refusal q (right q delete_object i) (right (parent_of q) delete_child i))
+
+    bytes_with : (o : Option Object) → bytes_of (option_map (object_with new) o) ≡ map new (bytes_of o)
+    bytes_with None = refl
+    bytes_with (Some o) = refl
+
+    bytes_there : (q : Path) → bytes_at other q ≡ map new (bytes_at room q)
+    bytes_there q = ap bytes_of (there q) ∙ bytes_with (object_at room q)
+
+    size_there : (q : Path) → length (bytes_at other q) ≡ length (bytes_at room q)
+    size_there q = ap length (bytes_there q) ∙ length-map (bytes_at room q) new
+
+    kind_with : (o : Option Object) → kind_of (option_map (object_with new) o) ≡ kind_of o
+    kind_with None = refl
+    kind_with (Some o) = refl
+
+    depth : (path to : Path) → check_depth other path to ≡ check_depth room path to
+    depth path to = ap (λ t. refuse_if t TooDeep) (any_with (λ q. is_at_or_below q path
+        && nat_lt max_names (length to + (length q - length path))) room.objects)
+
+    to_add : (path : Path) → right_to_add other path ≡ right_to_add room path
+    to_add path = ap (λ t. cond t add_subdirectory add_file) (kind_alike other room caller bare Folder path)
+
+    checks_with : (command : CommandModel) → checks other caller (command_with new command) ≡ checks room caller command
+    checks_with (C.Stat path) = (λ i. way path i ∷ exists path i ∷ right path read_attributes i ∷ [])
+    checks_with (C.ListNames path) = (λ i. way path i ∷ exists path i ∷ folder_alike other room caller bare path i
+        ∷ right path list_directory i ∷ [])
+    checks_with (C.Mkdir path) = (λ i. refuse_if (is_root path) Exist ∷ way path i ∷ absent path i
+        ∷ right (parent_of path) add_subdirectory i ∷ full (parent_of path) i ∷ check_room_full room ∷ [])
+    checks_with (C.Create bytes path) = (λ i. refuse_if (is_root path) Exist ∷ way path i ∷ absent path i
+        ∷ right (parent_of path) add_file i ∷ check_size (length-map bytes new i) ∷ full (parent_of path) i
+        ∷ check_room_full room ∷ [])
+    checks_with (C.Read path) = (λ i. way path i ∷ exists path i ∷ file path i ∷ right path read_data i ∷ [])
+    checks_with (C.Write bytes path) = (λ i. way path i ∷ exists path i ∷ file path i ∷ right path write_data i
+        ∷ check_size (length-map bytes new i) ∷ [])
+    checks_with (C.Append bytes path) = (λ i. way path i ∷ exists path i ∷ file path i ∷ right path append_data i
+        ∷ check_size (size_there path i + length-map bytes new i) ∷ [])
+    checks_with (C.Remove path) = (λ i. refuse_if (is_root path) Inval ∷ way path i ∷ exists path i ∷ removal path i
+        ∷ refuse_if (nat_lt 0 (length (names path i))) NotEmpty ∷ [])
+    checks_with (C.Rename path to) = (λ i. refuse_if (is_root path || is_root to || is_at_or_below to path) Inval
+        ∷ way path i ∷ exists path i ∷ way to i ∷ absent to i ∷ removal path i
+        ∷ check_right_to_add i ∷ depth path to i
+        ∷ cond (path_eq (parent_of path) (parent_of to)) None (full (parent_of to) i) ∷ [])
+      where
+        check_right_to_add : check_right other caller (parent_of to) (right_to_add other path)
+            ≡ check_right room caller (parent_of to) (right_to_add room path)
+        check_right_to_add =
+            right (parent_of to) (right_to_add other path) ∙ ap (check_right room caller (parent_of to)) (to_add path)
+    checks_with (C.GetList path) = (λ i. way path i ∷ exists path i ∷ right path read_acl i ∷ [])
+    checks_with (C.SetList aclflag entries path) = (λ i. way path i ∷ exists path i ∷ right path write_acl i
+        ∷ check_lawful (own_entries_fault (own_entries_of_setlist path aclflag entries) (kind path i)) ∷ [])
+      where
+        kind : (q : Path) → kind_of (object_at other q) ≡ kind_of (object_at room q)
+        kind q = ap kind_of (there q) ∙ kind_with (object_at room q)
+    checks_with (C.Chown group owner path) = (λ i. way path i ∷ exists path i ∷ right path write_owner i ∷ [])
+    checks_with (C.Access mask path) = (λ i. way path i ∷ exists path i ∷ [])
+
+    default_with : (o : Option Object) → or_no_object (option_map (object_with new) o)
+        ≡ object_with new (or_no_object o)
+    default_with None = refl
+    default_with (Some o) = refl
+
+    default_there : (q : Path) → object_or_default other q ≡ object_with new (object_or_default room q)
+    default_there q = ap or_no_object (there q) ∙ default_with (object_at room q)
+
+    size_with : (q : Path) (kind : Kind) → size_of other q kind ≡ size_of room q kind
+    size_with q File = size_there q
+    size_with q Folder = ap length (names q)
+
+    replies_with : (command : CommandModel)
+        → reply other caller (command_with new command) ≡ reply_with new (reply room caller command)
+    replies_with (C.Stat path) =
+        let o = object_or_default room path in
+        ap (λ found. Stat (attributes_of other path found)) (default_there path)
+        ∙ ap (λ (n : ℕ). Stat (record (attributes_of room path o) { size = n })) (size_with path o.kind)
+    replies_with (C.ListNames path) = ap Names (names path)
+    replies_with (C.Mkdir path) = refl
+    replies_with (C.Create bytes path) = ap Size (length-map bytes new)
+    replies_with (C.Read path) = ap Bytes (bytes_there path)
+    replies_with (C.Write bytes path) = ap Size (length-map bytes new)
+    replies_with (C.Append bytes path) = (λ i. Size (size_there path i + length-map bytes new i))
+    replies_with (C.Remove path) = refl
+    replies_with (C.Rename path to) = refl
+    replies_with (C.GetList path) = (λ i. Entries (default_there path i).aclflag (lists path i))
+    replies_with (C.SetList aclflag entries path) = refl
+    replies_with (C.Chown group owner path) = refl
+    replies_with (C.Access mask path) =
+        (λ i. Allowed (bit_and mask (allowed_mask (lists path i) caller (standing_of (default_there path i)))))
+
+    abbrev of_objects : List (Path × Object) → Room
+    of_objects objects = record room { objects = objects }
+
+    made_with : (path : Path) (kind : Kind) (bytes : List ℕ)
+        → with_new other path (new_object other caller path kind (map new bytes))
+        ≡ room_with new (with_new room path (new_object room caller path kind bytes))
+    made_with path kind bytes =
+        ap (λ (o : Object). with_new other path (record (new_object room caller path kind (map new bytes)) {
+          group = o.group;
+        })) (default_there (parent_of path))
+
+    rooms_with : (command : CommandModel)
+        → changed other caller (command_with new command) ≡ room_with new (changed room caller command)
+    rooms_with (C.Mkdir path) = made_with path Folder []
+    rooms_with (C.Create bytes path) = made_with path File bytes
+    rooms_with (C.Write bytes path) = ap of_objects (changed_with path (λ o. record o { bytes = bytes })
+        (λ o. record o { bytes = map new bytes }) (λ o. refl) room.objects)
+    rooms_with (C.Append bytes path) = ap of_objects (changed_with path (λ o. record o { bytes = o.bytes ++ bytes })
+        (λ o. record o { bytes = o.bytes ++ map new bytes })
+        (λ o. ap (λ (l : List ℕ). record o { bytes = l }) (sym (map-append new o.bytes bytes))) room.objects)
+    rooms_with (C.Remove path) = ap of_objects (left_with path room.objects)
+    rooms_with (C.Rename path to) = ap of_objects (moved_with path to room.objects)
+    rooms_with (C.SetList aclflag entries path) =
+        let set = (λ (o : Object). record o { aclflag = aclflag; own = own_entries_of_setlist path aclflag entries }) in
+        ap of_objects (changed_with path set set (λ o. refl) room.objects)
+    rooms_with (C.Chown group owner path) =
+        let set = (λ (o : Object). record o { owner = owner; group = group }) in
+        ap of_objects (changed_with path set set (λ o. refl) room.objects)
+    rooms_with (C.Stat path) = refl
+    rooms_with (C.ListNames path) = refl
+    rooms_with (C.Read path) = refl
+    rooms_with (C.GetList path) = refl
+    rooms_with (C.Access mask path) = refl
+
+    module _ (command : CommandModel) where
+      room_by : (r : Option Refusal) → (effect_by other caller (command_with new command) r).room
+          ≡ room_with new (effect_by room caller command r).room
+      room_by None = rooms_with command
+      room_by (Some refusal) = refl
+
+      reply_by : (r : Option Refusal) → (effect_by other caller (command_with new command) r).reply
+          ≡ reply_with new (effect_by room caller command r).reply
+      reply_by None = replies_with command
+      reply_by (Some refusal) = refl
+
+      pub same_room : (effect other caller (command_with new command)).room
+          ≡ room_with new (effect room caller command).room
+      same_room =
+          ap (λ all. (effect_by other caller (command_with new command) (first_refusal all)).room) (checks_with command)
+          ∙ room_by (first_refusal (checks room caller command))
+
+      pub same_reply : (effect other caller (command_with new command)).reply
+          ≡ reply_with new (effect room caller command).reply
+      same_reply =
+          ap (λ all. (effect_by other caller (command_with new command) (first_refusal all)).reply)
+          (checks_with command)
+          ∙ reply_by (first_refusal (checks room caller command))
+
+-- bytes are the answer to a READ, by READ_DATA
+module _ (room : Room) (caller : SubjectModel) where
+  abbrev IsRead : CommandModel → Type 0
+  IsRead command = (path : Path) × (command ≡ C.Read path) × (may room caller path read_data ≡ true)
+
+  read_right : (path : Path) → first_refusal (checks room caller (C.Read path)) ≡ None
+      → may room caller path read_data ≡ true
+  read_right path passed =
+      let (_, (_, (_, (right, _)))) = all_none (checks room caller (C.Read path)) passed in ap is_none right
+
+  read_by : (command : CommandModel) (r : Option Refusal) → first_refusal (checks room caller command) ≡ r
+      → (bytes : List ℕ) → (effect_by room caller command r).reply ≡ Bytes bytes → IsRead command
+  read_by command (Some refusal) passed bytes is = cc
+  read_by (C.Read path) None passed bytes is = (path, refl, read_right path passed)
+  read_by (C.Stat path) None passed bytes is = cc
+  read_by (C.ListNames path) None passed bytes is = cc
+  read_by (C.Mkdir path) None passed bytes is = cc
+  read_by (C.Create new path) None passed bytes is = cc
+  read_by (C.Write new path) None passed bytes is = cc
+  read_by (C.Append new path) None passed bytes is = cc
+  read_by (C.Remove path) None passed bytes is = cc
+  read_by (C.Rename path to) None passed bytes is = cc
+  read_by (C.GetList path) None passed bytes is = cc
+  read_by (C.SetList aclflag entries path) None passed bytes is = cc
+  read_by (C.Chown group owner path) None passed bytes is = cc
+  read_by (C.Access mask path) None passed bytes is = cc
+
+  pub read_alone : (command : CommandModel) (bytes : List ℕ) → (effect room caller command).reply ≡ Bytes bytes
+      → IsRead command
+  read_alone command bytes is = read_by command (first_refusal (checks room caller command)) refl bytes is

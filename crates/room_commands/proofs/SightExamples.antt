@@ -1,0 +1,270 @@
+-- What shows beyond the plain reading of the rights: two rooms whose sights differ in one field alone, and a command of
+-- bob's that is answered differently in each. So none of these fields can be left out of what a caller sees.
+use Rattle.std.proofs.Common.{◌≡◌, ℕ, zero, suc, refl, true, List, [], ◌∷◌, ◌++◌, None, Some}
+use Rattle.std.specs.Prelude.{codes}
+use Rattle.std.specs.Option.{option_map}
+use Rattle.room_acl.specs.declared.subject.Kind.{Kind}
+use Rattle.room_acl.specs.declared.subject.Kind.TheVariants.{File, Folder}
+use Rattle.room_acl.specs.declared.who.Who.TheVariants.{Everyone}
+use Rattle.room_acl.specs.SubjectModel.{SubjectModel}
+use Rattle.room_acl.specs.Entries.{EntryModel}
+use Rattle.room_records.specs.Names.{Path}
+use Rattle.room_records.specs.Room.{Room, Object}
+use Rattle.room_commands.specs.declared.reply.RefusalCode.TheVariants.{NoEnt, Access, NotEmpty, IsDir, TooDeep}
+use Rattle.room_commands.specs.declared.reply.RefusalCode.TheVariants.{RoomFull}
+use Rattle.room_commands.specs.CommandModel as C
+use Rattle.room_commands.specs.ReplyModel.{ReplyModel, Attributes, Done, Size, Allowed, Refused, Stat, Bytes, Entries}
+use Rattle.room_commands.specs.Effect.{effect}
+use Rattle.room_commands.specs.Sight.{Sight, View, view, replies}
+
+abbrev bob : SubjectModel
+bob = record { name = codes "bob"; groups = [] }
+
+-- an object of ann's, where everybody has these rights
+abbrev of_ann : Path → Kind → ℕ → List ℕ → Path × Object
+of_ann path kind mask data_bytes = (
+  path,
+  record {
+    kind = kind;
+    owner = codes "ann";
+    group = codes "eng";
+    aclflag = 2;
+    own = record { allow = true; flags = 0; mask = mask; who = Everyone } ∷ [];
+    bytes = data_bytes;
+  },
+)
+
+abbrev room_of : List (Path × Object) → Room
+room_of objects = record { objects = objects; made = 100 }
+
+abbrev a : Path
+a = codes "a" ∷ []
+
+abbrev a_b : Path
+a_b = codes "a" ∷ codes "b" ∷ []
+
+-- whether something is there, without any right on it
+abbrev with_a : Room
+with_a = room_of (of_ann a File 0 [] ∷ of_ann [] Folder 32 [] ∷ [])
+
+abbrev without_a : Room
+without_a = room_of (of_ann [] Folder 32 [] ∷ [])
+
+same_root : view with_a bob [] ≡ view without_a bob []
+same_root = refl
+
+there_shows : (effect with_a bob (C.Stat a)).reply ≡ Refused (record { code = Access; place = Some (a, 128) })
+there_shows = refl
+
+absence_shows : (effect without_a bob (C.Stat a)).reply ≡ Refused (record { code = NoEnt; place = None })
+absence_shows = refl
+
+-- its kind
+abbrev with_folder_a : Room
+with_folder_a = room_of (of_ann a Folder 0 [] ∷ of_ann [] Folder 32 [] ∷ [])
+
+file_shows : (effect with_a bob (C.Read a)).reply ≡ Refused (record { code = Access; place = Some (a, 1) })
+file_shows = refl
+
+folder_shows : (effect with_folder_a bob (C.Read a)).reply ≡ Refused (record { code = IsDir; place = None })
+folder_shows = refl
+
+-- its own rights, those that no command needs among them
+abbrev with_right : Room
+with_right = room_of (of_ann a File 256 [] ∷ of_ann [] Folder 32 [] ∷ [])
+
+right_shows : (effect with_right bob (C.Access 256 a)).reply ≡ Allowed 256
+right_shows = refl
+
+lack_shows : (effect with_a bob (C.Access 256 a)).reply ≡ Allowed 0
+lack_shows = refl
+
+-- the size, to whoever may append
+abbrev but_size : View → View
+but_size v = record v { there = option_map (λ (s : Sight). record s { size = None }) v.there }
+
+abbrev long : Room
+long = room_of (of_ann a File 4 (codes "hi") ∷ of_ann [] Folder 32 [] ∷ [])
+
+abbrev short : Room
+short = room_of (of_ann a File 4 [] ∷ of_ann [] Folder 32 [] ∷ [])
+
+all_but_size : but_size (view long bob a) ≡ but_size (view short bob a)
+all_but_size = refl
+
+long_shows : (effect long bob (C.Append [] a)).reply ≡ Size 2
+long_shows = refl
+
+short_shows : (effect short bob (C.Append [] a)).reply ≡ Size 0
+short_shows = refl
+
+-- the depth, to whoever may remove: first whether a folder is empty
+abbrev but_depth : View → View
+but_depth v = record v { there = option_map (λ (s : Sight). record s { depth = None }) v.there }
+
+abbrev holding : Room
+holding = room_of (of_ann a_b File 0 [] ∷ of_ann a Folder 65536 [] ∷ of_ann [] Folder 32 [] ∷ [])
+
+abbrev empty : Room
+empty = room_of (of_ann a Folder 65536 [] ∷ of_ann [] Folder 32 [] ∷ [])
+
+all_but_depth : but_depth (view holding bob a) ≡ but_depth (view empty bob a)
+all_but_depth = refl
+
+nothing_inside : view holding bob a_b ≡ view empty bob a_b
+nothing_inside = refl
+
+holding_shows : (effect holding bob (C.Remove a)).reply ≡ Refused (record { code = NotEmpty; place = None })
+holding_shows = refl
+
+empty_shows : (effect empty bob (C.Remove a)).reply ≡ Done
+empty_shows = refl
+
+-- then how far it goes: fourteen folders, one in another, to move it into
+abbrev nest : ℕ → Path → List (Path × Object)
+nest zero path = []
+nest (suc n) path = of_ann (path ++ codes "d" ∷ []) Folder 36 [] ∷ nest n (path ++ codes "d" ∷ [])
+
+abbrev deep_place : ℕ → Path
+deep_place zero = codes "x" ∷ []
+deep_place (suc n) = codes "d" ∷ deep_place n
+
+abbrev two_deep : Room
+two_deep = room_of (of_ann (codes "a" ∷ codes "b" ∷ codes "c" ∷ []) File 0 [] ∷ of_ann a_b Folder 0 []
+    ∷ of_ann a Folder 65536 [] ∷ of_ann [] Folder 32 [] ∷ nest 14 [])
+
+abbrev one_deep : Room
+one_deep = room_of (of_ann a_b Folder 0 [] ∷ of_ann a Folder 65536 [] ∷ of_ann [] Folder 32 [] ∷ nest 14 [])
+
+two_shows : (effect two_deep bob (C.Rename a (deep_place 14))).reply ≡ Refused (record { code = TooDeep; place = None })
+two_shows = refl
+
+one_shows : (effect one_deep bob (C.Rename a (deep_place 14))).reply ≡ Done
+one_shows = refl
+
+-- and whether the room has a number left, to whoever may add
+abbrev new_room : Room
+new_room = record { objects = of_ann [] Folder 36 [] ∷ []; made = 1 }
+
+abbrev used_up : Room
+used_up = record { objects = of_ann [] Folder 36 [] ∷ []; made = 1000000 }
+
+abbrev but_full : View → View
+but_full v = record v { there = option_map (λ (s : Sight). record s { full = None }) v.there }
+
+all_but_full : but_full (view new_room bob []) ≡ but_full (view used_up bob [])
+all_but_full = refl
+
+new_shows : (effect new_room bob (C.Mkdir a)).reply ≡ Done
+new_shows = refl
+
+used_up_shows : (effect used_up bob (C.Mkdir a)).reply ≡ Refused (record { code = RoomFull; place = None })
+used_up_shows = refl
+
+-- What a caller can come to see by its own commands: in each pair all looks the same to bob at first.
+
+-- how many numbers are left
+abbrev one_left : Room
+one_left = record { objects = of_ann [] Folder 36 [] ∷ []; made = 999999 }
+
+same_at_first : view one_left bob [] ≡ view new_room bob []
+same_at_first = refl
+
+left_shows : replies one_left bob (C.Mkdir a ∷ C.Mkdir (codes "b" ∷ []) ∷ [])
+    ≡ Done ∷ Refused (record { code = RoomFull; place = None }) ∷ []
+left_shows = refl
+
+many_show : replies new_room bob (C.Mkdir a ∷ C.Mkdir (codes "b" ∷ []) ∷ []) ≡ Done ∷ Done ∷ []
+many_show = refl
+
+-- an object of ann's, with this group, these flags and this list
+abbrev listed : Path → Kind → List ℕ → ℕ → List EntryModel → List ℕ → Path × Object
+listed path kind group aclflag own data_bytes = (
+  path,
+  record {
+    kind = kind;
+    owner = codes "ann";
+    group = group;
+    aclflag = aclflag;
+    own = own;
+    bytes = data_bytes;
+  },
+)
+
+abbrev everybody : ℕ → ℕ → EntryModel
+everybody flags mask = record { allow = true; flags = flags; mask = mask; who = Everyone }
+
+-- the group of a folder and what it hands down, to whoever may add to it
+abbrev of_group : List ℕ → Room
+of_group group = room_of (listed [] Folder group 0 (everybody 0 34 ∷ []) [] ∷ [])
+
+groups_look_alike : view (of_group (codes "eng")) bob [] ≡ view (of_group (codes "ops")) bob []
+groups_look_alike = refl
+
+abbrev made_of : List ℕ → List ReplyModel
+made_of group = replies (of_group group) bob (C.Create [] a ∷ C.SetList 2 (everybody 0 128 ∷ []) a ∷ C.Stat a ∷ [])
+
+abbrev attributes_in : List ℕ → Attributes
+attributes_in group = record { aclflag = 2; group = group; kind = File; owner = codes "bob"; size = 0 }
+
+group_shows : made_of (codes "eng") ≡ Size 0 ∷ Done ∷ Stat (attributes_in (codes "eng")) ∷ []
+group_shows = refl
+
+other_group_shows : made_of (codes "ops") ≡ Size 0 ∷ Done ∷ Stat (attributes_in (codes "ops")) ∷ []
+other_group_shows = refl
+
+abbrev handing : ℕ → Room
+handing mask = room_of (listed [] Folder (codes "eng") 0 (everybody 0 34 ∷ everybody 9 mask ∷ []) [] ∷ [])
+
+handed_look_alike : view (handing 8) bob [] ≡ view (handing 16) bob []
+handed_look_alike = refl
+
+handed_shows : replies (handing 8) bob (C.Create [] a ∷ C.GetList a ∷ [])
+    ≡ Size 0 ∷ Entries 1 (everybody 128 8 ∷ []) ∷ []
+handed_shows = refl
+
+other_handed_shows : replies (handing 16) bob (C.Create [] a ∷ C.GetList a ∷ [])
+    ≡ Size 0 ∷ Entries 1 (everybody 128 16 ∷ []) ∷ []
+other_handed_shows = refl
+
+-- a file that follows, to whoever may move it below a folder that hands down READ_DATA
+abbrev h : Path
+h = codes "h" ∷ []
+
+abbrev h_a : Path
+h_a = codes "h" ∷ codes "a" ∷ []
+
+abbrev movable : List ℕ → Room
+movable bytes = room_of (listed a File (codes "eng") 1 (everybody 0 65536 ∷ []) bytes
+    ∷ listed h Folder (codes "eng") 2 (everybody 0 34 ∷ everybody 9 1 ∷ []) [] ∷ of_ann [] Folder 32 [] ∷ [])
+
+movable_look_alike : view (movable (codes "hi")) bob a ≡ view (movable (codes "ho")) bob a
+movable_look_alike = refl
+
+moved_shows : replies (movable (codes "hi")) bob (C.Read a ∷ C.Rename a h_a ∷ C.Read h_a ∷ [])
+    ≡ Refused (record { code = Access; place = Some (a, 1) }) ∷ Done ∷ Bytes (codes "hi") ∷ []
+moved_shows = refl
+
+other_moved_shows : replies (movable (codes "ho")) bob (C.Read a ∷ C.Rename a h_a ∷ C.Read h_a ∷ [])
+    ≡ Refused (record { code = Access; place = Some (a, 1) }) ∷ Done ∷ Bytes (codes "ho") ∷ []
+other_moved_shows = refl
+
+-- anything, to whoever may set the list, and so to whoever may take the ownership
+abbrev settable : ℕ → List ℕ → Room
+settable mask bytes = room_of (of_ann a File mask bytes ∷ of_ann [] Folder 32 [] ∷ [])
+
+settable_look_alike : view (settable 262144 (codes "hi")) bob a ≡ view (settable 262144 (codes "ho")) bob a
+settable_look_alike = refl
+
+set_shows : replies (settable 262144 (codes "hi")) bob (C.SetList 2 (everybody 0 1 ∷ []) a ∷ C.Read a ∷ [])
+    ≡ Done ∷ Bytes (codes "hi") ∷ []
+set_shows = refl
+
+other_set_shows : replies (settable 262144 (codes "ho")) bob (C.SetList 2 (everybody 0 1 ∷ []) a ∷ C.Read a ∷ [])
+    ≡ Done ∷ Bytes (codes "ho") ∷ []
+other_set_shows = refl
+
+taken_shows : replies (settable 524288 (codes "hi")) bob
+    (C.Chown (codes "eng") (codes "bob") a ∷ C.SetList 2 (everybody 0 1 ∷ []) a ∷ C.Read a ∷ [])
+    ≡ Done ∷ Done ∷ Bytes (codes "hi") ∷ []
+taken_shows = refl

@@ -1,0 +1,113 @@
+-- An example that computes: a folder that ann makes where bob may not look does not show to bob, though it takes one of
+-- the numbers that are left.
+use Rattle.std.proofs.Common.{◌≡◌, refl, sym, arith, inl, inr, [], ◌∷◌}
+use Rattle.std.specs.Prelude.{codes}
+use Rattle.std.proofs.lemmas.Str.{IsUtf8-from_ascii}
+use Rattle.std.proofs.lemmas.Str.Ascii.{IsAscii-nil, IsAscii-cons}
+use Rattle.room_acl.specs.declared.subject.Kind.TheVariants.{Folder}
+use Rattle.room_acl.specs.SubjectModel.{SubjectModel}
+use Rattle.room_records.specs.Names.{Path, IsPath}
+use Rattle.room_records.specs.Room.{Room, IsRoom, fresh_room, fresh_object}
+use Rattle.room_records.proofs.FreshRoom.{fresh_is_room}
+use Rattle.room_records.proofs.RoomsMap.{none_is_some, found_stands}
+use Rattle.room_commands.specs.CommandModel as C
+use Rattle.room_commands.specs.ReplyModel.{Done}
+use Rattle.room_commands.specs.Effect.{effect}
+use Rattle.room_commands.specs.Sight.{StayAlike, HasNoPower, Own, Other, replies, replies_among}
+use Rattle.room_commands.specs.Elsewhere.{IsOutOfSight, AddsNowhere}
+use Rattle.room_commands.proofs.EffectIsRoom.{effect_is_room}
+use Rattle.room_commands.proofs.Unseen.{done_unseen}
+
+abbrev ann : SubjectModel
+ann = record { name = codes "ann"; groups = [] }
+
+abbrev bob : SubjectModel
+bob = record { name = codes "bob"; groups = codes "eng" ∷ [] }
+
+abbrev h : Path
+h = codes "h" ∷ []
+
+abbrev h_a : Path
+h_a = codes "h" ∷ codes "a" ∷ []
+
+abbrev start : Room
+start = fresh_room (codes "ann") (codes "eng")
+
+-- bob's group may list the root and pass it, and /h is of another group
+abbrev locked : Room
+locked = record {
+  objects = (h, record { kind = Folder; owner = codes "ann"; group = codes "ops"; aclflag = 1; own = []; bytes = [] })
+      ∷ ([], fresh_object (codes "ann") (codes "eng")) ∷ [];
+  made = 2;
+}
+
+h_lawful : IsPath h
+h_lawful = record {
+  short = omega arith;
+  names = (
+    record {
+      text = IsUtf8-from_ascii (codes "h") (IsAscii-cons 104 [] (omega arith) IsAscii-nil);
+      some = omega arith;
+      short = omega arith;
+      bytes = refl;
+      no_dots = refl;
+    },
+    tt,
+  );
+}
+
+h_a_lawful : IsPath h_a
+h_a_lawful = record {
+  short = omega arith;
+  names = (
+    h_lawful.names.0,
+    (
+      record {
+        text = IsUtf8-from_ascii (codes "a") (IsAscii-cons 97 [] (omega arith) IsAscii-nil);
+        some = omega arith;
+        short = omega arith;
+        bytes = refl;
+        no_dots = refl;
+      },
+      tt,
+    ),
+  );
+}
+
+locked_is : (effect (effect start ann (C.Mkdir h)).room ann (C.Chown (codes "ops") (codes "ann") h)).room ≡ locked
+locked_is = refl
+
+is_room : IsRoom locked
+is_room = effect_is_room (effect start ann (C.Mkdir h)).room ann (C.Chown (codes "ops") (codes "ann") h)
+    ((omega arith, omega arith, refl), (omega arith, omega arith, refl), h_lawful)
+    (effect_is_room start ann (C.Mkdir h) h_lawful (fresh_is_room (codes "ann") (codes "eng")))
+
+no_power : HasNoPower bob locked h_a
+no_power [] rest is walked = (refl, refl)
+no_power (x ∷ []) rest is walked = let first : x ≡ codes "h" = cc in rw first (refl, refl)
+no_power (x ∷ y ∷ front) rest is walked =
+    let first : x ≡ codes "h" = cc in absurd (none_is_some _ (sym (rw first at walked)))
+
+out_of_sight : IsOutOfSight bob locked h_a
+out_of_sight = (refl, λ walked. (refl, refl), no_power)
+
+adds_nowhere : AddsNowhere bob locked
+adds_nowhere folder o at is_folder walked = elim (found_stands locked.objects folder o at) [
+  | inl here ↦ rw (← here.0) refl
+  | inr others ↦ elim others [ inl here ↦ rw (← here.0) refl | inr none ↦ absurd none ]
+]
+
+it_is_made : (effect locked ann (C.Mkdir h_a)).reply ≡ Done
+it_is_made = refl
+
+it_takes_a_number : (effect locked ann (C.Mkdir h_a)).room.made ≡ 3
+it_takes_a_number = refl
+
+bob_sees_nothing : StayAlike bob locked (effect locked ann (C.Mkdir h_a)).room
+bob_sees_nothing =
+    done_unseen locked bob ann (C.Mkdir h_a) h_a_lawful is_room out_of_sight out_of_sight (inr adds_nowhere)
+
+bobs_answers : replies_among locked bob
+    (Own (C.ListNames []) ∷ Other ann (C.Mkdir h_a) ∷ Own (C.ListNames []) ∷ Own (C.Stat h_a) ∷ [])
+    ≡ replies locked bob (C.ListNames [] ∷ C.ListNames [] ∷ C.Stat h_a ∷ [])
+bobs_answers = refl

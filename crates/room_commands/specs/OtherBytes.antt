@@ -1,0 +1,31 @@
+-- Rooms, commands and replies with other bytes in files, as many as before (our own rules).
+use Rattle.std.specs.Prelude.{ℕ, map}
+use Rattle.room_records.specs.Names.{Path}
+use Rattle.room_records.specs.Room.{Object, Room}
+use Rattle.room_commands.specs.CommandModel.{CommandModel}
+use Rattle.room_commands.specs.CommandModel as C
+use Rattle.room_commands.specs.ReplyModel.{ReplyModel, Bytes}
+
+-- each byte of a file is another
+abbrev pub object_with : (ℕ → ℕ) → Object → Object
+object_with new o = record o { bytes = map new o.bytes }
+
+abbrev pub room_with : (ℕ → ℕ) → Room → Room
+room_with new room =
+    record room { objects = map (λ (e : Path × Object). (e.0, object_with new e.1)) room.objects }
+
+-- each byte that is to be written is another
+abbrev pub command_with : (ℕ → ℕ) → CommandModel → CommandModel
+command_with new (C.Create bytes path) = C.Create (map new bytes) path
+command_with new (C.Write bytes path) = C.Write (map new bytes) path
+command_with new (C.Append bytes path) = C.Append (map new bytes) path
+command_with new command = command
+
+-- each byte that was read is another
+abbrev pub reply_with : (ℕ → ℕ) → ReplyModel → ReplyModel
+reply_with new (Bytes bytes) = Bytes (map new bytes)
+reply_with new reply = reply
+
+-- each byte is 0: what is left is how many there are
+abbrev pub blank : ℕ → ℕ
+blank byte = 0

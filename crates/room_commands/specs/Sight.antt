@@ -1,0 +1,192 @@
+-- What a caller may see of a room, and when two rooms look alike to it. Which right shows what follows the meaning of
+-- the bits in RFC 8881, section 6.2.1.3.1. What shows beyond that meaning follows from our own order of checks, and is
+-- named below: `way`, that something is there, `kind`, `rights`, `size`, `depth` and `full`.
+use Rattle.std.specs.Prelude.{◌≡◌, ℕ, ◌-◌, max, Bool, true, false, not, ◌&&◌, ◌||◌, List, [], ◌∷◌, ◌++◌}
+use Rattle.std.specs.Prelude.{length, Option, None, Some, is_none, if◌then◌else◌, nat_le, ⊤}
+use Rattle.std.specs.Option.{option_map}
+use Rattle.room_acl.specs.declared.subject.Kind.{Kind}
+use Rattle.room_acl.specs.declared.subject.Kind.TheVariants.{File, Folder}
+use Rattle.room_acl.specs.Bits.{read_data, list_directory, add_file, append_data, add_subdirectory, read_attributes}
+use Rattle.room_acl.specs.Bits.{read_acl, write_acl, write_owner}
+use Rattle.room_acl.specs.SubjectModel.{SubjectModel}
+use Rattle.room_acl.specs.Entries.{EntryModel}
+use Rattle.room_acl.specs.Access.{allowed_mask}
+use Rattle.room_acl.specs.Inheritance.{handed_down}
+use Rattle.room_records.specs.Limits.{max_objects}
+use Rattle.room_records.specs.Names.{Name, Path}
+use Rattle.room_records.specs.Room.{Object, Room, object_at, list_of, standing_of, parent_of, children}
+use Rattle.room_commands.specs.CommandModel.{CommandModel}
+use Rattle.room_commands.specs.CommandModel as C
+use Rattle.room_commands.specs.ReplyModel.{Refusal, Attributes, ReplyModel}
+use Rattle.room_commands.specs.Lawful.{IsLawful}
+use Rattle.room_commands.specs.Checks.{check_right, check_removal, walk, is_file, is_kind, is_root, is_at_or_below}
+use Rattle.room_commands.specs.Effect.{attributes_of, effect, object_or_default}
+
+-- the caller has a right on a path
+abbrev pub may : Room → SubjectModel → Path → ℕ → Bool
+may room caller path right = is_none (check_right room caller path right)
+
+-- the caller may remove an object, or move it: by DELETE on it, or by DELETE_CHILD on its folder
+abbrev pub may_remove : Room → SubjectModel → Path → Bool
+may_remove room caller path = not (is_root path) && is_none (check_removal room caller path)
+
+-- a value, where it is shown
+abbrev pub shown : {X : Type 0} → Bool → X → Option X
+shown true x = Some x
+shown false x = None
+
+-- how many names longer than a path the longest path at or below it is
+abbrev pub depth_in : Path → List (Path × Object) → ℕ
+depth_in path [] = 0
+depth_in path (e ∷ es) =
+    if is_at_or_below e.0 path then max (length e.0 - length path) (depth_in path es) else depth_in path es
+
+-- what a caller may see of an object that it can reach
+pub record Sight : Type 0 where
+  -- without any right on it
+  pub kind : Kind
+  -- which rights the caller itself has there: ACCESS tells them
+  pub rights : ℕ
+  -- by READ_ATTRIBUTES
+  pub attributes : Option Attributes
+  -- by LIST_DIRECTORY, of a folder
+  pub names : Option (List (Name × Kind))
+  -- by READ_DATA, of a file
+  pub bytes : Option (List ℕ)
+  -- its list flags and its list, by READ_ACL, which its owner always has
+  pub entries : Option (ℕ × List EntryModel)
+  -- by APPEND_DATA, how long a file is: the reply of APPEND, and FBIG
+  pub size : Option ℕ
+  -- by a right to remove it, how deep it goes: NOTEMPTY and TOO_DEEP
+  pub depth : Option ℕ
+  -- by a right to add to a folder, whether the room has no number left: ROOM_FULL
+  pub full : Option Bool
+
+abbrev pub sight_of : Room → SubjectModel → Path → Object → Sight
+sight_of room caller path o = record {
+  kind = o.kind;
+  rights = allowed_mask (list_of room path) caller (standing_of o);
+  attributes = shown (may room caller path read_attributes) (attributes_of room path o);
+  names = shown (not (is_file o.kind) && may room caller path list_directory) (children room path);
+  bytes = shown (is_file o.kind && may room caller path read_data) o.bytes;
+  entries = shown (may room caller path read_acl) (o.aclflag, list_of room path);
+  size = shown (is_file o.kind && may room caller path append_data) (length o.bytes);
+  depth = shown (may_remove room caller path) (depth_in path room.objects);
+  full = shown (not (is_file o.kind)
+      && (may room caller path add_file || may room caller path add_subdirectory)) (nat_le max_objects room.made);
+}
+
+-- what is seen at a path: why it cannot be reached, or what is there
+pub record View : Type 0 where
+  -- the first fault on the way: it names the first folder that is missing, is a file, or denies EXECUTE
+  pub way : Option Refusal
+  pub there : Option Sight
+
+-- nothing is seen behind a fault on the way
+abbrev pub if_reached : Option Refusal → Option Sight → Option Sight
+if_reached None there = there
+if_reached (Some fault) there = None
+
+abbrev pub view : Room → SubjectModel → Path → View
+view room caller path = record {
+  way = walk room caller path;
+  there = if_reached (walk room caller path) (option_map (sight_of room caller path) (object_at room path));
+}
+
+-- two rooms of which a caller may see the same, at each path
+abbrev pub LooksAlike : SubjectModel → Room → Room → Type 0
+LooksAlike caller a b = (path : Path) → view a caller path ≡ view b caller path
+
+-- the command changes nothing, or the bytes of a file alone
+abbrev pub changes_bytes_alone : CommandModel → Bool
+changes_bytes_alone (C.Stat path) = true
+changes_bytes_alone (C.ListNames path) = true
+changes_bytes_alone (C.Mkdir path) = false
+changes_bytes_alone (C.Create bytes path) = false
+changes_bytes_alone (C.Read path) = true
+changes_bytes_alone (C.Write bytes path) = true
+changes_bytes_alone (C.Append bytes path) = true
+changes_bytes_alone (C.Remove path) = false
+changes_bytes_alone (C.Rename path to) = false
+changes_bytes_alone (C.GetList path) = true
+changes_bytes_alone (C.SetList aclflag entries path) = false
+changes_bytes_alone (C.Chown group owner path) = false
+changes_bytes_alone (C.Access mask path) = true
+
+-- the answers to commands of one caller, one after another
+abbrev pub replies : Room → SubjectModel → List CommandModel → List ReplyModel
+replies room caller [] = []
+replies room caller (command ∷ commands) =
+    (effect room caller command).reply ∷ replies (effect room caller command).room caller commands
+
+-- what stands at a path and below it is the same in both rooms
+abbrev pub SameBelow : Room → Room → Path → Type 0
+SameBelow a b path = (rest : Path) → object_at a (path ++ rest) ≡ object_at b (path ++ rest)
+
+-- what the list of its folder hands down to an object, whether or not it follows
+abbrev pub handed_by : Option Object → List EntryModel → List EntryModel
+handed_by None above = []
+handed_by (Some o) above = handed_down above o.kind
+
+abbrev pub handed_to : Room → Path → List EntryModel
+handed_to room path = handed_by (object_at room path) (list_of room (parent_of path))
+
+-- the right to add an object of a kind to a folder
+abbrev pub right_to_make : Kind → ℕ
+right_to_make File = add_file
+right_to_make Folder = add_subdirectory
+
+-- two rooms that look alike to a caller, and will after each of its own commands
+pub record StayAlike (caller : SubjectModel) (a b : Room) : Type 0 where
+  pub now : LooksAlike caller a b
+  -- what it adds to a folder takes one of the numbers that are left, and it may use them up; it gets the folder's group
+  -- and what its list hands down, and as the owner it may read both
+  pub adding : (folder : Path) (name : Name) (kind : Kind) → walk a caller (folder ++ name ∷ []) ≡ None
+      → may a caller folder (right_to_make kind) ≡ true
+      → (a.made ≡ b.made) × ((object_or_default a folder).group ≡ (object_or_default b folder).group)
+      × (handed_down (list_of a folder) kind ≡ handed_down (list_of b folder) kind)
+  -- what it may move it may put below a list of its own
+  pub moving : (path : Path) → walk a caller path ≡ None → may_remove a caller path ≡ true → SameBelow a b path
+  -- and where it may set the list or the owner, it may give itself each right; of a folder that to add
+  pub setting : (path : Path) → walk a caller path ≡ None
+      → (may a caller path write_acl || may a caller path write_owner) ≡ true
+      → SameBelow a b path × (handed_to a path ≡ handed_to b path)
+      × (is_kind Folder (object_at a path) ≡ true → a.made ≡ b.made)
+
+-- a command of the caller's own, or of somebody else
+pub data Turn : Type 0 where
+  Own : CommandModel → Turn
+  Other : SubjectModel → CommandModel → Turn
+
+abbrev pub own_commands : List Turn → List CommandModel
+own_commands [] = []
+own_commands (Own command ∷ turns) = command ∷ own_commands turns
+own_commands (Other other command ∷ turns) = own_commands turns
+
+-- the answers to the caller's own commands, where others have their turns
+abbrev pub replies_among : Room → SubjectModel → List Turn → List ReplyModel
+replies_among room caller [] = []
+replies_among room caller (Own command ∷ turns) =
+    (effect room caller command).reply ∷ replies_among (effect room caller command).room caller turns
+replies_among room caller (Other other command ∷ turns) =
+    replies_among (effect room other command).room caller turns
+
+-- what others do in their turns the caller cannot see, now or later
+abbrev pub OthersUnseen : SubjectModel → Room → List Turn → Type 0
+OthersUnseen caller room [] = ⊤
+OthersUnseen caller room (Own command ∷ turns) =
+    IsLawful command × OthersUnseen caller (effect room caller command).room turns
+OthersUnseen caller room (Other other command ∷ turns) =
+    IsLawful command × StayAlike caller room (effect room other command).room
+    × OthersUnseen caller (effect room other command).room turns
+
+-- the caller may not see the bytes of a file, nor how many they are
+abbrev pub BytesUnseen : SubjectModel → Room → Path → Type 0
+BytesUnseen caller room path = walk room caller path ≡ None → (may room caller path read_data ≡ false)
+    × (may room caller path append_data ≡ false) × (may room caller path read_attributes ≡ false)
+
+-- and it can do nothing to the file, nor to a folder above it, that would let it see them
+abbrev pub HasNoPower : SubjectModel → Room → Path → Type 0
+HasNoPower caller room path = (front rest : Path) → path ≡ front ++ rest → walk room caller front ≡ None
+    → (may_remove room caller front ≡ false)
+    × ((may room caller front write_acl || may room caller front write_owner) ≡ false)
