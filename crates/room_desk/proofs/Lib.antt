@@ -27,3 +27,6 @@ pub mod Calls
 pub mod Faults
 pub mod Messages
 pub mod Sent
+pub mod Secrets
+pub mod SecretRuns
+pub mod OtherBytes

@@ -18,10 +18,10 @@ use Rattle.room_desk.proofs.Numbers.{accepted_are_numbered}
 
 -- ---- the accepted requests of a slot are those of the session's owner
 
-abbrev OwnedBy : List ℕ → List Accepted → Type 0
+abbrev pub OwnedBy : List ℕ → List Accepted → Type 0
 OwnedBy owner requests = AllByRecursion (λ (a : Accepted). bytes_eq owner a.request.caller.name ≡ true) requests
 
-abbrev Owned : Option Session → List Accepted → Type 0
+abbrev pub Owned : Option Session → List Accepted → Type 0
 Owned None requests = requests ≡ []
 Owned (Some session) requests = OwnedBy session.owner requests
 
@@ -30,7 +30,8 @@ owned_later : (past : History) (event : EventModel) (sid : List ℕ) (slot : ℕ
     → Owned (session_of (event ∷ past) sid) (accepted (event ∷ past) sid slot)
 owned_later past event sid slot owned = grind (arith, common_steps, nat_tests, and_parts, bytes_decides)
 
-accepted_are_owned : (past : History) (sid : List ℕ) (slot : ℕ) → Owned (session_of past sid) (accepted past sid slot)
+pub accepted_are_owned : (past : History) (sid : List ℕ) (slot : ℕ)
+    → Owned (session_of past sid) (accepted past sid slot)
 accepted_are_owned [] sid slot = refl
 accepted_are_owned (event ∷ past) sid slot = owned_later past event sid slot (accepted_are_owned past sid slot)
 
@@ -57,7 +58,7 @@ module _ (start : Room) (past : History) (q : Request) where
       × (answer_unaccepted start q (accepted past q.sid q.slot) ≡ Refused RetryUncached)
   unaccepted is = grind (arith, common_steps)
 
-  own : (o : Option Session) (last : Accepted) (earlier : List Accepted) → is_open_for q.sid q.caller o ≡ true
+  pub own : (o : Option Session) (last : Accepted) (earlier : List Accepted) → is_open_for q.sid q.caller o ≡ true
       → Owned o (last ∷ earlier) → last.request.caller.name ≡ q.caller.name
   own o last earlier is owned = grind (arith, common_steps, and_parts, bytes_decides)
 

@@ -17,7 +17,7 @@ use Rattle.room_desk.proofs.Repeats.{again_is_idle, same_answer_again, uncached_
 use Rattle.room_desk.proofs.Alike.{alike_after_idle, alike_swapped, stand_alike}
 
 -- the answer by a history is never DELAY
-never_delay : (start : Room) (past : History) (event : EventModel) → is_delay (answer_to start past event) ≡ false
+pub never_delay : (start : Room) (past : History) (event : EventModel) → is_delay (answer_to start past event) ≡ false
 never_delay start past event = grind (arith, common_steps)
 
 -- an event that was answered: it joins the history, or is answered DELAY

@@ -1,7 +1,7 @@
 -- What a stop may leave after several messages.
 use Rattle.std.proofs.Common.{◌≡◌, ℕ, zero, suc, refl, sym, ap, subst, arith, ◌⊎◌, inl, inr, Result, Ok, Err, List, []}
 use Rattle.std.proofs.Common.{◌∷◌}
-use Rattle.std.specs.List.{Contains}
+use Rattle.std.specs.List.{AllByRecursion, Contains}
 use Rattle.std.proofs.lemmas.Bool.{cases_Bool}
 use Rattle.room_acl.specs.SubjectModel.{SubjectModel}
 use Rattle.room_records.specs.Records.{Records}
@@ -11,7 +11,7 @@ use Rattle.room_wire.specs.declared.fault.WireFault.{WireFault}
 use Rattle.room_wire.specs.declared.answers.code.Code.TheVariants.{Delay}
 use Rattle.room_wire.specs.Asks.AskOf.{AskModel, Check, Event, ask_of}
 use Rattle.room_wire.specs.Asks.EventModel.{EventModel}
-use Rattle.room_wire.specs.Messages.MessageModel.{MessageModel}
+use Rattle.room_wire.specs.Messages.MessageModel.{MessageModel, IsMessage}
 use Rattle.room_wire.specs.Serving.Outputs.{Outputs}
 use Rattle.room_desk.specs.AnswerModel.{AnswerModel, Refused}
 use Rattle.room_desk.specs.History.{History}
@@ -137,32 +137,34 @@ by_answers users start known (m ∷ ms) out next run =
 -- these events were asked by messages of these users
 abbrev pub AreAsked : List SubjectModel → List EventModel → Type 0
 AreAsked users events = (event : EventModel) → Contains events event
-    → (m : MessageModel) × (ask_of users m ≡ Ok (Event event))
+    → (m : MessageModel) × IsMessage m × (ask_of users m ≡ Ok (Event event))
 
 one_more_asked : (users : List SubjectModel) (event : EventModel) (events : List EventModel) (m : MessageModel)
-    → ask_of users m ≡ Ok (Event event) → AreAsked users events → AreAsked users (event ∷ events)
-one_more_asked users event events m asks asked other (zero, below, is) =
-    (m, subst (λ e. ask_of users m ≡ Ok (Event e)) is asks)
-one_more_asked users event events m asks asked other (suc k, below, is) = asked other (k, omega (arith, below), is)
+    → IsMessage m → ask_of users m ≡ Ok (Event event) → AreAsked users events → AreAsked users (event ∷ events)
+one_more_asked users event events m lawful asks asked other (zero, below, is) =
+    (m, lawful, subst (λ e. ask_of users m ≡ Ok (Event e)) is asks)
+one_more_asked users event events m lawful asks asked other (suc k, below, is) =
+    asked other (k, omega (arith, below), is)
 
 pub none_asked : (users : List SubjectModel) → AreAsked users []
 none_asked users event at = absurd (omega (arith, at.1))
 
 asked_then : (users : List SubjectModel) (m : MessageModel) (ask : Result AskModel WireFault)
-    (doubted : List EventModel) (answered : AnswerModel) → ask_of users m ≡ ask → AreAsked users doubted
+    (doubted : List EventModel) (answered : AnswerModel) → IsMessage m → ask_of users m ≡ ask → AreAsked users doubted
     → AreAsked users (doubt_after doubted ask answered)
-asked_then users m (Ok (Check question)) doubted answered is asked = asked
-asked_then users m (Err fault) doubted answered is asked = asked
-asked_then users m (Ok (Event event)) doubted answered is asked = elim (cases_Bool (is_delay answered)) [
-  | inl delayed ↦ rw delayed (one_more_asked users event doubted m is asked)
+asked_then users m (Ok (Check question)) doubted answered lawful is asked = asked
+asked_then users m (Err fault) doubted answered lawful is asked = asked
+asked_then users m (Ok (Event event)) doubted answered lawful is asked = elim (cases_Bool (is_delay answered)) [
+  | inl delayed ↦ rw delayed (one_more_asked users event doubted m lawful is asked)
   | inr other ↦ rw other (none_asked users)
 ]
 
 -- so are those that a stream leaves in doubt
 pub asked_in_stream : (users : List SubjectModel) (start : Room) (known : Doubt) (ms : List MessageModel) (out : List ℕ)
-    (next : Doubt) → Outputs (AnswersInDoubt users start) known ms out next → AreAsked users known.doubted
-    → AreAsked users next.doubted
-asked_in_stream users start known [] out next run asked =
+    (next : Doubt) → AllByRecursion IsMessage ms → Outputs (AnswersInDoubt users start) known ms out next
+    → AreAsked users known.doubted → AreAsked users next.doubted
+asked_in_stream users start known [] out next lawful run asked =
     subst (λ (d : Doubt). AreAsked users d.doubted) (sym run.1) asked
-asked_in_stream users start known (m ∷ ms) out next run asked = asked_in_stream users start run.1 ms run.2 next run.4
-    (subst (AreAsked users) (sym run.3.1) (asked_then users m (ask_of users m) known.doubted run.0 refl asked))
+asked_in_stream users start known (m ∷ ms) out next lawful run asked =
+    asked_in_stream users start run.1 ms run.2 next lawful.1 run.4 (subst (AreAsked users) (sym run.3.1)
+    (asked_then users m (ask_of users m) known.doubted run.0 lawful.0 refl asked))

@@ -7,3 +7,5 @@ pub mod SessionRows
 pub mod Stops
 pub mod Trying
 pub mod Verdicts
+pub mod AlikePasts
+pub mod OtherBytes

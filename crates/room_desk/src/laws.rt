@@ -19,6 +19,11 @@ ghost use Rattle.room_desk.specs.History.{is_for, AcceptsLawful, state_after, or
 ghost use Rattle.room_desk.specs.History.{leaves_no_reply};
 ghost use Rattle.room_desk.specs.Representation.{RepresentsHistory, WasAllowed, slot_row_of};
 ghost use Rattle.room_desk.specs.Verdicts.{answer_by};
+ghost use Rattle.room_desk.specs.AlikePasts.{AlikePasts, asks_lawfully, caller_of, sid_of};
+ghost use Rattle.room_commands.specs.OtherBytes.{room_with, blank};
+ghost use Rattle.room_desk.specs.OtherBytes.{DifferInBytes, TellsOfRead};
+ghost use Rattle.std.specs.Prelude.{IsTrue, Bool, ◌⊎◌};
+ghost use Rattle.std.specs.Str.{bytes_eq};
 
 /// An event that is sent again at once changes nothing: not the room, and no row that stands for the history. It gets
 /// its first answer, byte for byte, unless it is an accepted request whose reply is not kept: that is answered
@@ -161,4 +166,25 @@ pub fn a_history_keeps_a_room()
 /// needs, by the lists just before it.
 pub fn an_accepted_request_was_allowed()
     ensures { (start : Room) (past : History) (event : EventModel) → WasAllowed start past event }
+{}
+
+/// What a caller may not see of a history does not show in the answers to it, repeats among them: after two pasts that
+/// differ only in what others did, and what of it the caller cannot see, each event of the caller's is answered alike.
+pub fn what_may_not_be_seen_of_a_history_does_not_show()
+    ensures { (caller : SubjectModel) (is_own_name : List ℕ → Bool) (a b : Room) (past other : History)
+        (event : EventModel) → IsRoom a → IsRoom b → AlikePasts caller is_own_name a b past other →
+        caller_of event ≡ caller → asks_lawfully event → IsTrue (is_own_name (sid_of event)) →
+        answer_to a past event ≡ answer_to b other event }
+{}
+
+/// The bytes of documents show to reads alone. Two rooms differ in bytes of files, and not in how many they are; so do
+/// two pasts, in what others asked to write. After them each event of the caller's is answered alike, or it is an
+/// accepted READ of the caller's, or that same request sent again, which had READ_DATA when it was accepted: its answer
+/// is that READ's reply.
+pub fn the_bytes_of_documents_show_to_reads_alone()
+    ensures { (caller : SubjectModel) (a b : Room) (past other : History) (event : EventModel) →
+        room_with blank a ≡ room_with blank b → DifferInBytes caller past other →
+        bytes_eq caller.name (caller_of event).name ≡ true →
+        (answer_to a past event ≡ answer_to b other event)
+        ⊎ TellsOfRead a past event (answer_to a past event) }
 {}

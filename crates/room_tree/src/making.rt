@@ -82,11 +82,6 @@ fn number_for_new<S: Shelf>(shelf: &mut S, above: &LoadedObject) -> Result<u32, 
     check_children(count)?;
     let next = shelf.next_id()?;
     check_number(next)?;
-    // Lawful records have no node of this number, and a shelf over tables learns so that it need not count the folder
-    // again after this commit. In records that are not lawful a node that has it is not put over.
-    if let Some(_) = shelf.node(next)? {
-        return Err(Stop::of(RefusalCode::RoomFull));
-    }
     Ok(next)
 }
 

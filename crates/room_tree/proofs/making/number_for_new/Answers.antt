@@ -40,28 +40,13 @@ returns-in_err-check_number-clause-value g c = λ available laid_out t e room st
     (ap (λ n. refuse_if (nat_le max_children n) FolderFull) (sym count) ∙ sym c.in_ok-check_children.ensures)
     ∙ sym c.in_err-check_number.ensures)
 
-pub returns-in-Some-clause-value : goal.returns-in-Some-clause-value
-returns-in-Some-clause-value g c = λ available laid_out t e room stand folder found.
-    let numbered = c.node.ensures.frame.call.was_available available in
-    let before = c.next_id.ensures.frame.call.was_available numbered in
-    let declared = c.count_children.ensures.frame.call.laid_out before laid_out in
-    let same = ap (λ (r : Records). r.objects) (c.count_children.ensures.frame.same before laid_out) ∙ e in
-    let next = c.in_ok-next.ensures.value numbered declared ∙ ap (λ (r : ObjectRecords). r.next) same in
-    let asked = c.next_id.ensures.frame.call.laid_out numbered declared in
-    let stays = ap (λ (r : Records). r.objects) (c.next_id.ensures.frame.same numbered declared) ∙ same in
-    let taken = rw c.in-Some.is at (c.in_ok-node.ensures.value available asked) in
-    let told = stand.rules.numbered c.in_ok-next.next c.in-Some.field-0
-    (sym (taken ∙ ap (λ (r : ObjectRecords). r.node c.in_ok-next.next) stays)) in
-    absurd (omega (arith, told.2, next))
-
 pub returns-clause-value : goal.returns-clause-value
 returns-clause-value g c = λ available laid_out t e room stand folder found.
-    let numbered = c.node.ensures.frame.call.was_available available in
-    let before = c.next_id.ensures.frame.call.was_available numbered in
+    let before = c.next_id.ensures.frame.call.was_available available in
     let declared = c.count_children.ensures.frame.call.laid_out before laid_out in
     let same = ap (λ (r : Records). r.objects) (c.count_children.ensures.frame.same before laid_out) ∙ e in
     let count = c.in_ok-count.ensures.value before laid_out t e room stand folder found in
-    let next = c.in_ok-next.ensures.value numbered declared ∙ ap (λ (r : ObjectRecords). r.next) same in (
+    let next = c.in_ok-next.ensures.value available declared ∙ ap (λ (r : ObjectRecords). r.next) same in (
       number_left t room stand folder c.in_ok-next.next next
           (ap (λ n. refuse_if (nat_le max_children n) FolderFull) (sym count) ∙ sym c.in_ok-check_children.ensures)
           ∙ sym c.in_ok-check_number.ensures,

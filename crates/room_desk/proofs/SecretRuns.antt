@@ -1,0 +1,186 @@
+-- What a caller may not see of a run does not show in the answers of the run to it.
+use Rattle.std.proofs.Common.{◌≡◌, ℕ, ◌+◌, refl, ap, sym, ◌∙◌, arith, inl, inr, Bool, true, false, not, ◌&&◌, cond}
+use Rattle.std.proofs.Common.{List, []}
+use Rattle.std.proofs.Common.{◌∷◌, length, Result, Ok, Err, suc}
+use Rattle.std.specs.Prelude.{IsTrue}
+use Rattle.std.specs.Str.{bytes_eq}
+use Rattle.std.proofs.lemmas.Bool.{and_right}
+use Rattle.room_acl.specs.SubjectModel.{SubjectModel}
+use Rattle.room_records.specs.Room.{Room, IsRoom}
+use Rattle.room_wire.specs.declared.fault.WireFault.{WireFault}
+use Rattle.room_wire.specs.Asks.AskOf.{AskModel, Check, Event, ask_of}
+use Rattle.room_wire.specs.Asks.EventModel.{EventModel}
+use Rattle.room_wire.specs.Messages.MessageModel.{MessageModel}
+use Rattle.room_desk.specs.AnswerModel.{AnswerModel}
+use Rattle.room_desk.specs.History.{History, answer_to}
+use Rattle.room_desk.specs.Representation.{Run, Step}
+use Rattle.room_desk.specs.Serving.{AnswersOrDelays, IsRun}
+use Rattle.room_desk.specs.Stops.{is_delay}
+use Rattle.room_desk.specs.AlikePasts.{AlikePasts, Begin, Both, First, Second, Others, caller_of, sid_of}
+use Rattle.room_desk.specs.AlikePasts.{LeavesSessions, is_own, asks_own, told, Writes}
+use Rattle.room_desk.proofs.Stops.{never_delay}
+use Rattle.room_desk.proofs.Secrets.{answers_alike}
+
+-- a list, the last element first, before another
+abbrev onto : {X : Type 0} → List X → List X → List X
+onto [] ys = ys
+onto (x ∷ xs) ys = onto xs (x ∷ ys)
+
+longer : {X : Type 0} (xs ys : List X) → length (onto xs ys) ≡ length xs + length ys
+longer [] ys = omega arith
+longer (x ∷ xs) ys = longer xs (x ∷ ys) ∙ omega arith
+
+same_front : {X : Type 0} (xs ys a b : List X) → length a ≡ length b → onto xs a ≡ onto ys b → (xs ≡ ys) × (a ≡ b)
+same_front [] [] a b long same = (refl, same)
+same_front [] (y ∷ ys) a b long same = absurd (omega (arith, longer ys (y ∷ b), ap length same, long))
+same_front (x ∷ xs) [] a b long same = absurd (omega (arith, longer xs (x ∷ a), ap length same, long))
+same_front (x ∷ xs) (y ∷ ys) a b long same =
+    let (others, first) = same_front xs ys (x ∷ a) (y ∷ b) (ap suc long) same in
+    let heads : x ≡ y = cc in
+    let behind : a ≡ b = cc in
+    ((λ i. heads i ∷ others i), behind)
+
+module _ (caller : SubjectModel) (is_own_name : List ℕ → Bool) where
+  abbrev own : EventModel → Bool
+  own = is_own caller is_own_name
+
+  -- the answers to the caller's own events of a history, the latest first
+  abbrev told_of : Room → History → List AnswerModel
+  told_of start [] = []
+  told_of start (event ∷ past) = cond (own event) (answer_to start past event ∷ told_of start past) (told_of start past)
+
+  with_both : (t : Bool) (x y : AnswerModel) (xs ys : List AnswerModel) → x ≡ y → xs ≡ ys
+      → cond t (x ∷ xs) xs ≡ cond t (y ∷ ys) ys
+  with_both t x y xs ys first others = (λ i. cond t (first i ∷ others i) (others i))
+
+  without : (t : Bool) (x : AnswerModel) (xs : List AnswerModel) → t ≡ false → cond t (x ∷ xs) xs ≡ xs
+  without true x xs off = cc
+  without false x xs off = refl
+
+  others_own : (past : History) (event : EventModel) → LeavesSessions caller is_own_name past event → own event ≡ false
+  others_own past event (inl named) =
+      and_right (bytes_eq caller.name (caller_of event).name) _ (named_off (is_own_name (sid_of event)) named)
+    where
+      named_off : (t : Bool) → IsTrue (not t) → t ≡ false
+      named_off false h = refl
+      named_off true h = let no : false ≡ true = h in cc
+  others_own past event (inr idle) = ap (λ t. t && is_own_name (sid_of event)) idle.0
+
+  module _ (a b : Room) (room_a : IsRoom a) (room_b : IsRoom b) where
+    told_alike : (past other : History) → AlikePasts caller is_own_name a b past other
+        → told_of a past ≡ told_of b other
+    told_alike past other (Begin start) = refl
+    told_alike past other (Both p o e is lawful named alike) =
+        with_both (own e) (answer_to a p e) (answer_to b o e) (told_of a p) (told_of b o)
+        (answers_alike caller is_own_name a b room_a room_b p o alike e is lawful named) (told_alike p o alike)
+    told_alike past other (First p o e lawful leaves unseen alike) =
+        without (own e) (answer_to a p e) (told_of a p) (others_own p e leaves) ∙ told_alike p o alike
+    told_alike past other (Second p o e lawful leaves unseen alike) =
+        told_alike p o alike ∙ sym (without (own e) (answer_to b o e) (told_of b o) (others_own o e leaves))
+    told_alike past other (Others p o e f lawful lawful' leaves leaves' seen alike) =
+        without (own e) (answer_to a p e) (told_of a p) (others_own p e leaves) ∙ told_alike p o alike
+        ∙ sym (without (own f) (answer_to b o f) (told_of b o) (others_own o f leaves'))
+
+  -- what a step of a run adds to them
+  abbrev added : Bool → AnswerModel → List AnswerModel → List AnswerModel
+  added t answered so_far = cond (t && not (is_delay answered)) (answered ∷ so_far) so_far
+
+  added_first : (t : Bool) (answered : AnswerModel) (later so_far : List AnswerModel)
+      → onto (cond (t && not (is_delay answered)) (answered ∷ later) later) so_far
+      ≡ onto later (added t answered so_far)
+  added_first t answered later so_far = by_test (t && not (is_delay answered))
+    where
+      by_test : (u : Bool) → onto (cond u (answered ∷ later) later) so_far
+          ≡ onto later (cond u (answered ∷ so_far) so_far)
+      by_test true = refl
+      by_test false = refl
+
+  delay_adds_none : (t : Bool) (answered : AnswerModel) (so_far : List AnswerModel) → is_delay answered ≡ true
+      → so_far ≡ added t answered so_far
+  delay_adds_none true answered so_far delay = rw delay refl
+  delay_adds_none false answered so_far delay = refl
+
+  answer_adds : (t : Bool) (answered x : AnswerModel) (so_far : List AnswerModel) → answered ≡ x → is_delay x ≡ false
+      → cond t (x ∷ so_far) so_far ≡ added t answered so_far
+  answer_adds true answered x so_far is other = rw (is, other) refl
+  answer_adds false answered x so_far is other = refl
+
+  step_adds : (start : Room) (past next : History) (event : EventModel) (answered : AnswerModel)
+      → Step start past event answered next → told_of start next ≡ added (own event) answered (told_of start past)
+  step_adds start past next event answered (inl joins) =
+      ap (told_of start) joins.1
+      ∙ answer_adds (own event) answered (answer_to start past event) (told_of start past) joins.0
+      (never_delay start past event)
+  step_adds start past next event answered (inr delay) =
+      ap (told_of start) delay.1 ∙ delay_adds_none (own event) answered (told_of start past) (ap is_delay delay.0)
+
+  run_adds : (start : Room) (past next : History) (events : List EventModel) (answers : List AnswerModel)
+      → Run start past events answers next → onto (told own events answers) (told_of start past) ≡ told_of start next
+  run_adds start past next [] [] is = ap (told_of start) (sym is)
+  run_adds start past next [] (answered ∷ answers) none = absurd none
+  run_adds start past next (event ∷ events) [] none = absurd none
+  run_adds start past next (event ∷ events) (answered ∷ answers) (mid, step, run) =
+      added_first (own event) answered (told own events answers) (told_of start past)
+      ∙ ap (onto (told own events answers)) (sym (step_adds start past mid event answered step))
+      ∙ run_adds start mid next events answers run
+
+  module _ (users : List SubjectModel) where
+    abbrev own_message : MessageModel → Bool
+    own_message m = asks_own caller is_own_name (ask_of users m)
+
+    ask_adds : (start : Room) (past next : History) (ask : Result AskModel WireFault) (answered : AnswerModel)
+        → AnswersOrDelays start past ask answered next
+        → told_of start next ≡ added (asks_own caller is_own_name ask) answered (told_of start past)
+    ask_adds start past next (Ok (Event event)) answered step = step_adds start past next event answered step
+    ask_adds start past next (Ok (Check question)) answered (inl joins) = ap (told_of start) joins.1
+    ask_adds start past next (Ok (Check question)) answered (inr delay) = ap (told_of start) delay.1
+    ask_adds start past next (Err fault) answered (inl joins) = ap (told_of start) joins.1
+    ask_adds start past next (Err fault) answered (inr delay) = ap (told_of start) delay.1
+
+    -- the answers of a stream
+    abbrev pub stream_answers : (start : Room) (past next : History) (ms : List MessageModel) (out : List ℕ)
+        → IsRun users start past ms out next → List AnswerModel
+    stream_answers start past next [] out run = []
+    stream_answers start past next (m ∷ ms) out run = run.0 ∷ stream_answers start run.1 next ms run.2 run.4
+
+    pub stream_writes : (start : Room) (past next : History) (ms : List MessageModel) (out : List ℕ)
+        (run : IsRun users start past ms out next) → Writes ms (stream_answers start past next ms out run) out
+    stream_writes start past next [] out run = run.0
+    stream_writes start past next (m ∷ ms) out run = (run.2, run.5, stream_writes start run.1 next ms run.2 run.4)
+
+    stream_adds : (start : Room) (past next : History) (ms : List MessageModel) (out : List ℕ)
+        (run : IsRun users start past ms out next)
+        → onto (told own_message ms (stream_answers start past next ms out run)) (told_of start past)
+        ≡ told_of start next
+    stream_adds start past next [] out run = ap (told_of start) (sym run.1)
+    stream_adds start past next (m ∷ ms) out run =
+        let answers = stream_answers start run.1 next ms run.2 run.4 in
+        added_first (own_message m) run.0 (told own_message ms answers) (told_of start past)
+        ∙ ap (onto (told own_message ms answers)) (sym (ask_adds start past run.1 (ask_of users m) run.0 run.3))
+        ∙ stream_adds start run.1 next ms run.2 run.4
+
+  module _ (a b : Room) (room_a : IsRoom a) (room_b : IsRoom b) (past other next last : History)
+      (alike : AlikePasts caller is_own_name a b past other) (later : AlikePasts caller is_own_name a b next last) where
+    told_same : (xs ys : List AnswerModel) → onto xs (told_of a past) ≡ told_of a next
+        → onto ys (told_of b other) ≡ told_of b last → xs ≡ ys
+    told_same xs ys one two =
+        (same_front xs ys (told_of a past) (told_of b other) (ap length (told_alike a b room_a room_b past other alike))
+        (one ∙ told_alike a b room_a room_b next last later ∙ sym two)).0
+
+    pub runs_tell : (events events' : List EventModel) (answers answers' : List AnswerModel)
+        → Run a past events answers next → Run b other events' answers' last
+        → told own events answers ≡ told own events' answers'
+    runs_tell events events' answers answers' run run' =
+        told_same _ _ (run_adds a past next events answers run) (run_adds b other last events' answers' run')
+
+    pub streams_tell : (users users' : List SubjectModel) (ms ks : List MessageModel) (out put : List ℕ)
+        → IsRun users a past ms out next → IsRun users' b other ks put last
+        → (answers answers' : List AnswerModel) × Writes ms answers out × Writes ks answers' put
+        × (told (own_message users) ms answers ≡ told (own_message users') ks answers')
+    streams_tell users users' ms ks out put run run' = (
+      stream_answers users a past next ms out run,
+      stream_answers users' b other last ks put run',
+      stream_writes users a past next ms out run,
+      stream_writes users' b other last ks put run',
+      told_same _ _ (stream_adds users a past next ms out run) (stream_adds users' b other last ks put run'),
+    )
