@@ -23,7 +23,7 @@ pub use asks::routing::{CheckRoute, Routes};
 pub use fault::WireFault;
 pub use forms::command_texts::command_text;
 pub use forms::commands::read_command;
-pub use forms::laws::{command_of_text_is_one, command_text_reads_back};
+pub use forms::laws::{base64_is_the_standards, command_of_text_is_one, command_text_reads_back};
 pub use forms::replies::reply_text;
 pub use messages::laws::{message_is_one, split_is_one};
 pub use messages::message::{Message, Take};

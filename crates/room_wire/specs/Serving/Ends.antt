@@ -1,5 +1,5 @@
 -- The ends of serving: what was read, and what was written.
-use Rattle.std.specs.Prelude.{◌≡◌, ℕ, ◌-◌, ◌^◌, ◌<◌, ◌⊎◌, List, [], ◌++◌, length, min, Option}
+use Rattle.std.specs.Prelude.{◌≡◌, ℕ, ◌-◌, ◌^◌, ◌<◌, ◌≤◌, ◌⊎◌, List, [], ◌++◌, length, min, Option}
 use Rattle.std.specs.Io.KnownBytes.{Appends, Consumes, IsAtEnd}
 use Rattle.room_wire.specs.Answers.AnswerModel.{AnswerModel, bad_answer}
 use Rattle.room_wire.specs.Messages.MessageModel.{MessageModel, NoMessage, NeverMessage}
@@ -37,6 +37,10 @@ Serves may_answer before later left after old new why count =
     (bytes rest : List ℕ) × (ms : List MessageModel) × (out : List ℕ)
     × Consumes left after bytes × Outputs may_answer before ms out later
     × (count ≡ min (length ms) (2 ^ 64 - 1)) × Wrote bytes rest ms out after old new why
+
+-- so many bytes or more were read
+abbrev pub ConsumesMany : (left after : Option (List ℕ)) → ℕ → Type 0
+ConsumesMany left after n = (bytes : List ℕ) × Consumes left after bytes × (n ≤ length bytes)
 
 abbrev pub Refused : Option (List ℕ) → Option (List ℕ) → Why → Type 0
 Refused old new BadMessage = Appends old new bad_answer

@@ -1,8 +1,8 @@
 //! Serving messages over a reader and a writer.
-ghost use Rattle.std.specs.Prelude.{◌≡◌, ◌+◌, ◌-◌, ◌^◌, ℕ, List, [], min, length};
+ghost use Rattle.std.specs.Prelude.{◌≡◌, ◌+◌, ◌-◌, ◌^◌, ℕ, List, [], min, length, IfOk, IfErr};
 ghost use Rattle.room_wire.specs.Messages.MessageModel.{MessageModel};
 ghost use Rattle.room_wire.specs.Serving.Outputs.{AnswersOne, Outputs, Rounds};
-ghost use Rattle.room_wire.specs.Serving.Ends.{Serves, Refuses};
+ghost use Rattle.room_wire.specs.Serving.Ends.{ConsumesMany, Serves, Refuses};
 
 use crate::answers::answer::Answer;
 use crate::answers::code::Code;
@@ -81,7 +81,7 @@ fn refuse<W: Write>(output: &mut Vec<u8>, writer: &mut W, count: u64) -> ServeEn
     ServeEnd { why, count }
 }
 
-/// Serves over buffers that are lent.
+/// Serves over buffers that are lent. An error, with the count so far, comes where 2^64 - 1 bytes or more were read.
 fn serve_with<C, S: Service<C>, R: Read, W: Write>(
     service: &mut S,
     context: &C,
@@ -89,29 +89,33 @@ fn serve_with<C, S: Service<C>, R: Read, W: Write>(
     output: &mut Vec<u8>,
     reader: &mut R,
     writer: &mut W,
-) -> ServeEnd
+) -> Result<ServeEnd, u64>
     requires { input.old ≡ [] }
-    ensures { Serves (S.may_answer context.now) service.old
+    ensures served { IfOk result (λ end. Serves (S.may_answer context.now) service.old
         service.new (R.remaining reader.old) (R.remaining reader.new)
-        (W.contents writer.old) (W.contents writer.new) result.why result.count }
+        (W.contents writer.old) (W.contents writer.new) end.why end.count) }
+    ensures endless { IfErr result (λ count. Serves (S.may_answer context.now) service.old
+        service.new (R.remaining reader.old) (R.remaining reader.new)
+        (W.contents writer.old) (W.contents writer.new) Why.ReadFailed count
+        × ConsumesMany (R.remaining reader.old) (R.remaining reader.new) (2 ^ 64 - 1)) }
 {
     let mut count = 0;
-    'reads: for _ in 0..u64::MAX {
+    'reads: for done in 0..u64::MAX {
         match input.read_from(reader) {
             Err(_) => {
-                return ServeEnd {
+                return Ok(ServeEnd {
                     why: Why::ReadFailed,
                     count,
-                };
+                });
             }
             Ok(0) => {
                 if input.bytes().is_empty() {
-                    return ServeEnd {
+                    return Ok(ServeEnd {
                         why: Why::Closed,
                         count,
-                    };
+                    });
                 }
-                return refuse(output, writer, count);
+                return Ok(refuse(output, writer, count));
             }
             Ok(_) => {}
         }
@@ -119,25 +123,22 @@ fn serve_with<C, S: Service<C>, R: Read, W: Write>(
         count = total;
         match stop {
             RoundsEnd::NeedsMore => {}
-            RoundsEnd::Broken => return refuse(output, writer, count),
+            RoundsEnd::Broken => return Ok(refuse(output, writer, count)),
             RoundsEnd::Last => {
-                return ServeEnd {
+                return Ok(ServeEnd {
                     why: Why::Closed,
                     count,
-                };
+                });
             }
             RoundsEnd::NotWritten => {
-                return ServeEnd {
+                return Ok(ServeEnd {
                     why: Why::WriteFailed,
                     count,
-                };
+                });
             }
         }
     }
-    ServeEnd {
-        why: Why::ReadFailed,
-        count,
-    }
+    Err(count)
 }
 
 /// Answers the messages of a stream by a service until the stream ends. What an earlier stream left in the buffers is
@@ -156,12 +157,19 @@ pub fn serve_messages<C, S: Service<C>, R: Read, W: Write>(
         (W.contents writer.old) (W.contents writer.new) result.why result.count }
 {
     buffers.input.clear();
-    serve_with(
+    let served = serve_with(
         service,
         context,
         &mut buffers.input,
         &mut buffers.output,
         reader,
         writer,
-    )
+    );
+    match served {
+        Ok(end) => end,
+        Err(count) => ServeEnd {
+            why: Why::ReadFailed,
+            count,
+        },
+    }
 }

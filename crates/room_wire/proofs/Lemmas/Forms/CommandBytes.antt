@@ -21,7 +21,7 @@ decoded_none given text (Failed d) inner same e is =
     sym (ap (λ t. result_ok (decode_of standard t)) (sym same) ∙ ap result_ok e)
 decoded_none given text OutOfMemory inner same e is = absurd cc
 
-are_bytes : (bytes : List ℕ) → AreBytes bytes → IsBytes bytes
+pub are_bytes : (bytes : List ℕ) → AreBytes bytes → IsBytes bytes
 are_bytes [] h i = omega arith
 are_bytes (b ∷ bytes) h zero = h.0
 are_bytes (b ∷ bytes) h (suc i) = are_bytes bytes h.1 i

@@ -1,4 +1,4 @@
-use Rattle.std.proofs.Common.{◌<◌, ◌++◌, [], refl, sym, ap, subst, ◌∙◌, arith, length, inl, inr}
+use Rattle.std.proofs.Common.{◌<◌, ◌≢◌, ◌++◌, [], refl, sym, ap, subst, ◌∙◌, arith, length, length-append, inl, inr}
 use Rattle.std.proofs.KnownBytes.{Appends-nil, Appends-trans, Consumes-nil, Consumes-trans, Consumes-kept}
 use Rattle.room_wire.specs.Messages.MessageModel.{NoMessage}
 use Rattle.room_wire.specs.Messages.Stream.{Follows}
@@ -22,10 +22,11 @@ reads-init g c = (
   Consumes-nil _,
   Appends-nil _,
   omega arith,
+  omega arith,
 )
 
-pub returns-in-Err : goal.returns-in-Err
-returns-in-Err g c =
+pub returns-in-Err-clause-served : goal.returns-in-Err-clause-served
+returns-in-Err-clause-served g c =
     let so = c.reads.invariant in (
       so.0,
       c.reads.input,
@@ -37,8 +38,8 @@ returns-in-Err g c =
       (so.8, so.3, so.5),
     )
 
-pub returns-in-Ok-eq0 : goal.returns-in-Ok-eq0
-returns-in-Ok-eq0 g c =
+pub returns-in-Ok-eq0-clause-served : goal.returns-in-Ok-eq0-clause-served
+returns-in-Ok-eq0-clause-served g c =
     let so = c.reads.invariant in
     let came = c.in-Ok-eq0.ensures.ok in
     let end = c.in-Ok-eq0.ensures.end c.in-Ok-eq0.field-0-test in
@@ -56,8 +57,8 @@ returns-in-Ok-eq0 g c =
           (inl end.1) c.refuse.ensures.1,
     )
 
-pub returns-then-is_empty : goal.returns-then-is_empty
-returns-then-is_empty g c =
+pub returns-then-is_empty-clause-served : goal.returns-then-is_empty-clause-served
+returns-then-is_empty-clause-served g c =
     let so = c.reads.invariant in
     let came = c.in-Ok-eq0.ensures.ok in
     let end = c.in-Ok-eq0.ensures.end c.in-Ok-eq0.field-0-test in (
@@ -78,8 +79,8 @@ returns-then-is_empty g c =
       ),
     )
 
-pub returns-in-Broken : goal.returns-in-Broken
-returns-in-Broken g c =
+pub returns-in-Broken-clause-served : goal.returns-in-Broken-clause-served
+returns-in-Broken-clause-served g c =
     let so = c.reads.invariant in
     let came = c.in-Ok.ensures.ok in
     let may = g.S.Service.may_answer c.args.context.now in
@@ -99,8 +100,8 @@ returns-in-Broken g c =
           (never_none _ did.2) did.3 (inr did.2) c.refuse-in-Broken.ensures.1,
     )
 
-pub returns-in-Last : goal.returns-in-Last
-returns-in-Last g c =
+pub returns-in-Last-clause-served : goal.returns-in-Last-clause-served
+returns-in-Last-clause-served g c =
     let so = c.reads.invariant in
     let came = c.in-Ok.ensures.ok in
     let may = g.S.Service.may_answer c.args.context.now in
@@ -121,8 +122,8 @@ returns-in-Last g c =
       ),
     )
 
-pub returns-in-NotWritten : goal.returns-in-NotWritten
-returns-in-NotWritten g c =
+pub returns-in-NotWritten-clause-served : goal.returns-in-NotWritten-clause-served
+returns-in-NotWritten-clause-served g c =
     let so = c.reads.invariant in
     let came = c.in-Ok.ensures.ok in
     let may = g.S.Service.may_answer c.args.context.now in
@@ -159,7 +160,11 @@ reads-preserved g c =
       Consumes-trans _ _ _ so.0 came.0 so.7 came.1,
       Appends-trans _ _ _ so.2 out so.8 did.1,
       omega (arith, more_count so.1 ks, so.9, c.answer_all-stop.ensures.4),
+      (let some : c.in-Ok.field-0 ≢ 0 = c.in-Ok.field-0-test.1 in
+          omega (arith, length-append so.0 came.0, came.3, so.10, some)),
     )
 
-pub returns : goal.returns
-returns g c = let so = c.reads.invariant in (so.0, c.reads.input, so.1, so.2, so.7, so.4, so.9, (so.8, so.3, so.5))
+pub returns-clause-endless : goal.returns-clause-endless
+returns-clause-endless g c =
+    let so = c.reads.invariant in
+    ((so.0, c.reads.input, so.1, so.2, so.7, so.4, so.9, (so.8, so.3, so.5)), (so.0, so.7, omega (arith, so.10)))

@@ -1,4 +1,4 @@
-use Rattle.std.proofs.Common.{◌≡◌, ◌-◌, ◌^◌, ◌<◌, ℕ, List, min, length}
+use Rattle.std.proofs.Common.{◌≡◌, ◌-◌, ◌^◌, ◌<◌, ◌≤◌, ℕ, List, min, length}
 use Rattle.std.specs.Io.KnownBytes.{Appends, Consumes}
 use Rattle.room_wire.specs.Messages.Limits.{max_message}
 use Rattle.room_wire.specs.Messages.MessageModel.{MessageModel, NoMessage}
@@ -14,3 +14,4 @@ invariant-reads g l =
     × Consumes (g.R.Read.remaining l.fn.reader) (g.R.Read.remaining l.reader) bytes
     × Appends (g.W.Write.contents l.fn.writer) (g.W.Write.contents l.writer) out
     × (l.count ≡ min (length ms) (2 ^ 64 - 1))
+    × (l.done ≤ length bytes)

@@ -1,6 +1,6 @@
 use Rattle.std.proofs.Common.{◌≡◌, ◌≤◌, ◌-◌, ◌+◌, take, length, List, ◌++◌, ℕ, ap, arith, ◌∙◌, slice_range}
 use borrow.Rule.Slice.PartMut.{put_mid}
-use Rattle.std.proofs.lemmas.List.{with_items_is}
+use Rattle.std.proofs.lemmas.List.{with_items_is, length-take-le}
 use Rattle.room_wire.proofs.Lemmas.Messages.Boundaries.{front_then, whole_length}
 use Rattle.room_wire.proofs.serving.input.Input.read_from.Goals as goal
 
@@ -22,4 +22,5 @@ returns-clause-ok g c =
           ∙ front_then old new e n _ inside c.in_ok-count.ensures.bound.0
           ∙ ap (λ (t : List ℕ). t ++ take n new)
           (ap (take e) c.deref_mut.ensures.value ∙ c.move_to_front.ensures.front ∙ c.self.view_is),
+      length-take-le n new c.in_ok-count.ensures.bound.0,
     )
