@@ -1,5 +1,5 @@
 //! The users of a roster's table.
-ghost use Rattle.std.specs.Prelude.{◌≡◌, ℕ, List, true, false, Err, IfOk, OnOk, string_bytes};
+ghost use Rattle.std.specs.Prelude.{◌≡◌, ℕ, List, true, false, Ok, Err, IfOk, OnOk, if◌then◌else◌, string_bytes};
 ghost use Rattle.std.specs.List.{AllByRecursion};
 ghost use Rattle.toml.specs.Data.{array};
 ghost use Rattle.toml.specs.View.{view, table_view};
@@ -12,6 +12,17 @@ use crate::groups::{groups, principal};
 use room_records::Roster;
 use std::alloc::Global;
 use toml::{Table, Value};
+
+/// A user that may not join makes a roster bad, and nothing else.
+fn needs_joined(joined: bool) -> Result<(), RosterFault>
+    ensures { result ≡ (if joined then Ok tt else Err RosterFault.Bad) }
+{
+    if joined {
+        Ok(())
+    } else {
+        Err(RosterFault::Bad)
+    }
+}
 
 /// Adds the user of this name with the groups that the value lists.
 fn add_user(
@@ -29,11 +40,8 @@ fn add_user(
 {
     let name = principal(alloc, name)?;
     let groups = groups(alloc, value)?;
-    if roster.add(name, groups)? {
-        Ok(())
-    } else {
-        Err(RosterFault::Bad)
-    }
+    let joined = roster.add(name, groups)?;
+    needs_joined(joined)
 }
 
 /// The roster of the table `users`.
