@@ -1,7 +1,7 @@
 //! The program `fileroom`: `main` alone. What it does stands in the crate `room_program`.
 #![tactic(auto)]
 
-use room_program::{Fault, Host, Wary, run_program};
+use room_program::{Fault, Host, Unknown, run_program};
 use std::env;
 use std::io::{self, ErrorKind, Write};
 use std::process::ExitCode;
@@ -26,7 +26,7 @@ fn main(rt: HostRuntime) -> ExitCode {
     let status = match words(&rt) {
         Ok(words) => run_program(
             rt.alloc(),
-            &mut Host::new(&rt, Wary),
+            &mut Host::new(&rt, Unknown),
             words.as_slice(),
             &mut rt.stdin(),
             &mut rt.stdout(),

@@ -76,7 +76,7 @@ module _ {D : Type 0} (g : Ghosts D) where
       let room = fresh_in (found_nothing g (image_of g files) empty opened is (was_clean made.3 was)) in
       record {
         db = (file_state closed).now;
-        held = closed_holds g stays closed (Copied left) (image_of g left) (live, copied) is_open
+        held = closed_holds g stays closed (Copied left) (image_of g files) (image_of g left) (live, copied) is_open
             (made.1 is_open) (clean, inl refl);
         room = inl room.0.room;
         rows = stand_at_first (fresh_room owner group) _ room.1.room room.1.sessions room.1.slots;

@@ -61,7 +61,7 @@ use Rattle.room_program.specs.Calls.{Exchange, Accepted}
 use Rattle.room_program.specs.Files.{Adopted, Takes, Untaken, Made, Unmade}
 use Rattle.room_program.specs.Files.{TakesRoster, OpensStore, TakesRoom, IsUnopened}
 use Rattle.room_program.specs.Faults.{done_of_report}
-use Rattle.room_program.specs.Ends.{InitEnds, SelftestEnds}
+use Rattle.room_program.specs.Ends.{InitEnds, IsAnswered, SelftestEnds, first_sent, second_sent, due_answers}
 use Rattle.room_program.specs.Replays.{Replays}
 use Rattle.room_program.specs.Rooms.{ServesRoom, Listens, Reports, WritesReport, report_text, FailsRoom}
 use Rattle.room_program.specs.Found.{IsOpenedOver, Holds, HoldsRoom, HoldsNothing, MayBeLeft, IsLeftBy}
@@ -194,7 +194,7 @@ module _ {D : Type 0} (g : Ghosts D) where
   pub found_database : (image : Image) (db : Database) → Holds image db → (opened : Held (FileStore D g))
       → IsOpenedOver image opened → HasCleanDisk (file_state opened) → (file_state opened).now ≡ db
   found_database image db held opened is clean =
-      let (shown, finds) = is clean in
+      let (shown, finds, plain) = is clean in
       let same = ap (λ (d : Database). d.trees) shown.0.clean
       ∙ ∥∥₁_elim held.trees (Trees-set _ _) (finds.holds db.trees) in
       one_database _ _ (shown.1 shown.0.is_open).0 held.sound same
@@ -203,7 +203,7 @@ module _ {D : Type 0} (g : Ghosts D) where
   pub found_nothing : (image : Image) → HoldsNothing image → (opened : Held (FileStore D g))
       → IsOpenedOver image opened → HasCleanDisk (file_state opened) → opened.schema ≡ schema_0
   found_nothing image empty opened is clean =
-      let (shown, finds) = is clean in
+      let (shown, finds, plain) = is clean in
       let none : (file_state opened).committed.trees catalog_tree ≡ [] = elim finds.reads [
         | inl (size, pages, wanted, adopts, ours, trees) ↦
             absurd (let some = rw empty at adopts.found.present in omega (arith, some))
@@ -239,10 +239,10 @@ module _ {D : Type 0} (g : Ghosts D) where
 
   -- also where it was closed
   pub closed_holds : ((file : D) → g.may_leave file (g.seen file)) → (closed : Held (FileStore D g))
-      (new : Left D g) (image : Image) → Closes closed new → IsTrue (file_state closed).is_open
-      → (file_state closed).now.trees ≡ (file_state closed).committed.trees → IsLeftBy new image
+      (new : Left D g) (found image : Image) → Closes closed new → IsTrue (file_state closed).is_open
+      → (file_state closed).now.trees ≡ (file_state closed).committed.trees → IsLeftBy found new image
       → Holds image (file_state closed).now
-  closed_holds stays closed (Copied files) image (live, copied) is_open rests (clean, at) =
+  closed_holds stays closed (Copied files) found image (live, copied) is_open rests (clean, at) =
       let alone : HoldsAlone image (file_state closed).committed.trees = elim at [
         | inl is ↦ subst (λ i. HoldsAlone i (file_state closed).committed.trees) (sym is) (copied clean).seen
         | inr out ↦ (copied clean).left image out
@@ -250,11 +250,11 @@ module _ {D : Type 0} (g : Ghosts D) where
         trees = subst (λ t. ∥ HoldsDatabase image t ∥₁) (sym rests) alone.both;
         sound = (live is_open).0;
       }
-  closed_holds stays closed (Uncopied why it) image (live, kept, fails) is_open rests (clean, left) =
+  closed_holds stays closed (Uncopied why it) found image (live, kept, fails) is_open rests (clean, left) =
       kept_holds stays closed it image live kept is_open rests left.numbered left.may
-  closed_holds stays closed (Unopened rest) image none is_open rests at = absurd none
-  closed_holds stays closed (Kept it) image none is_open rests at = absurd none
-  closed_holds stays closed Nothing image none is_open rests at = absurd none
+  closed_holds stays closed (Unopened rest) found image none is_open rests at = absurd none
+  closed_holds stays closed (Kept it) found image none is_open rests at = absurd none
+  closed_holds stays closed Nothing found image none is_open rests at = absurd none
 
   -- what is kept of one that was given up
   abbrev pub KeptIn : Held (FileStore D g) → Image → Type 0
@@ -265,39 +265,40 @@ module _ {D : Type 0} (g : Ghosts D) where
   was_sure gone image (it, (closed, clean), numbered, may) = omega (arith, closed.quiet.clean, clean)
 
   -- where its log was copied, it was there
-  pub closed_in : (closed : Held (FileStore D g)) (new : Left D g) (image : Image) → Closes closed new
-      → IsLeftBy new image
+  pub closed_in : (closed : Held (FileStore D g)) (new : Left D g) (found image : Image) → Closes closed new
+      → IsLeftBy found new image
       → HasCleanDisk (file_state closed) × (IsTrue (file_state closed).is_open ⊎ KeptIn closed image)
-  closed_in closed (Copied files) image (live, copied) (clean, at) =
+  closed_in closed (Copied files) found image (live, copied) (clean, at) =
       ((copied clean).was_clean, inl (copied clean).was_open)
-  closed_in closed (Uncopied why it) image (live, kept, fails) (clean, left) =
+  closed_in closed (Uncopied why it) found image (live, kept, fails) (clean, left) =
       let all : KeptIn closed image = (it, (kept, clean), left.numbered, left.may) in
       (was_sure closed image all, inr all)
-  closed_in closed (Unopened rest) image none at = absurd none
-  closed_in closed (Kept it) image none at = absurd none
-  closed_in closed Nothing image none at = absurd none
+  closed_in closed (Unopened rest) found image none at = absurd none
+  closed_in closed (Kept it) found image none at = absurd none
+  closed_in closed Nothing found image none at = absurd none
 
   -- and where it was let go
   pub left_holds : ((file : D) → g.may_leave file (g.seen file)) → (gone : Held (FileStore D g))
-      (new : Left D g) (image : Image) → LetsGo gone new → IsTrue (file_state gone).is_open
-      → (file_state gone).now.trees ≡ (file_state gone).committed.trees → IsLeftBy new image
+      (new : Left D g) (found image : Image) → LetsGo gone new → IsTrue (file_state gone).is_open
+      → (file_state gone).now.trees ≡ (file_state gone).committed.trees → IsLeftBy found new image
       → Holds image (file_state gone).now
-  left_holds stays gone (Kept it) image (live, kept) is_open rests (clean, left) =
+  left_holds stays gone (Kept it) found image (live, kept) is_open rests (clean, left) =
       kept_holds stays gone it image live kept.closed is_open rests (kept.numbered clean) left
-  left_holds stays gone (Unopened rest) image none is_open rests at = absurd none
-  left_holds stays gone (Copied files) image none is_open rests at = absurd none
-  left_holds stays gone (Uncopied why it) image none is_open rests at = absurd none
-  left_holds stays gone Nothing image none is_open rests at = absurd none
+  left_holds stays gone (Unopened rest) found image none is_open rests at = absurd none
+  left_holds stays gone (Copied files) found image none is_open rests at = absurd none
+  left_holds stays gone (Uncopied why it) found image none is_open rests at = absurd none
+  left_holds stays gone Nothing found image none is_open rests at = absurd none
 
-  pub kept_in : (gone : Held (FileStore D g)) (new : Left D g) (image : Image) → LetsGo gone new → IsLeftBy new image
+  pub kept_in : (gone : Held (FileStore D g)) (new : Left D g) (found image : Image) → LetsGo gone new
+      → IsLeftBy found new image
       → HasCleanDisk (file_state gone) × KeptIn gone image
-  kept_in gone (Kept it) image (live, kept) (clean, left) =
+  kept_in gone (Kept it) found image (live, kept) (clean, left) =
       let all : KeptIn gone image = (it, (kept.closed, clean), kept.numbered clean, left) in
       (was_sure gone image all, all)
-  kept_in gone (Unopened rest) image none at = absurd none
-  kept_in gone (Copied files) image none at = absurd none
-  kept_in gone (Uncopied why it) image none at = absurd none
-  kept_in gone Nothing image none at = absurd none
+  kept_in gone (Unopened rest) found image none at = absurd none
+  kept_in gone (Copied files) found image none at = absurd none
+  kept_in gone (Uncopied why it) found image none at = absurd none
+  kept_in gone Nothing found image none at = absurd none
 
 -- a room that the files held
 module _ {D : Type 0} (g : Ghosts D) (image : Image) (start : Room) (past : History)
@@ -311,6 +312,13 @@ module _ {D : Type 0} (g : Ghosts D) (image : Image) (start : Room) (past : Hist
         subst (λ (d : Database). IsRoomOfVersion2 d ⊎ IsRoomOfVersion1 d) same held.room,
         subst (λ (d : Database). RepresentsHistory start (records_of d.trees) past) same held.rows,
       ))
+
+  -- whose store has a table
+  pub has_none : (opened : Held (FileStore D g)) → IsOpenedOver image opened → has_a_table opened.schema ≡ false
+      → HasCleanDisk (file_state opened) → ⊥
+  has_none opened over none was =
+      let same = found_database g image held.db held.held opened over was in
+      true≢false (sym (has_tables held.db held.room) ∙ ap (λ (d : Database). has_a_table d.schema) (sym same) ∙ none)
 
   -- and it is in what a crash leaves of a store in which it was only taken
   pub may_room : ((file : D) → g.may_leave file (g.seen file)) → (opened : Held (FileStore D g))
@@ -381,12 +389,12 @@ module _ {D M : Type 0} (g : Ghosts D) (image : Image) (does : M → Call (Held 
     shown = λ clean is_open db holds.
         let shows = same clean is_open ∙ found_database g image db holds opened is (was_clean survives clean) in (
           shows,
-          λ one at. subst (Holds one) shows (left_holds g stays let_go (left later) one
+          λ one at. subst (Holds one) shows (left_holds g stays let_go (left later) image one
               (tells begun later (leaves let_go) gone) is_open (rests clean is_open) at),
         );
     room = λ start past held one at.
         let (clean, (it, (closed, at_it), numbered, may)) =
-        kept_in g let_go (left later) one (tells begun later (leaves let_go) gone) at in
+        kept_in g let_go (left later) image one (tells begun later (leaves let_go) gone) at in
         let was = was_clean survives clean in
         may_room g image start past held stays opened is was it (λ trees found.
         elim (survives.crash clean trees (closed.quiet.outcomes trees found)) [
@@ -501,7 +509,7 @@ module _ {D M : Type 0} (g : Ghosts D) (image : Image) (does : M → Call (Held 
                         rows,
                         λ one at. record {
                           db = (file_state last.0.conn).now;
-                          held = closed_holds g stays last.0.conn (left later) one
+                          held = closed_holds g stays last.0.conn (left later) image one
                               (tells over later (closes last.0.conn) closed) is_open (last.0.rests is_open) at;
                           room = inl laid_out.0.0;
                           rows = rows;
@@ -553,7 +561,7 @@ module _ {D M : Type 0} (g : Ghosts D) (image : Image) (does : M → Call (Held 
                       stood (clean, is_open) in
                       record {
                         db = (file_state last.0.conn).now;
-                        held = left_holds g stays last.0.conn (left later) one
+                        held = left_holds g stays last.0.conn (left later) image one
                             (tells seen later (leaves last.0.conn) gone) is_open (last.0.rests is_open) at;
                         room = inl laid_out.0.0;
                         rows = rows;
@@ -561,13 +569,6 @@ module _ {D M : Type 0} (g : Ghosts D) (image : Image) (does : M → Call (Held 
                 ),
           ),
         )
-
-  -- where there is no table, the files held no room
-  has_none : (opened : File) → IsOpenedOver image opened → has_a_table opened.schema ≡ false
-      → (start : Room) (past : History) → HoldsRoom image start past → HasCleanDisk (file_state opened) → ⊥
-  has_none opened over none start past held was =
-      let same = found_database g image held.db held.held opened over was in
-      true≢false (sym (has_tables held.db held.room) ∙ ap (λ (d : Database). has_a_table d.schema) (sym same) ∙ none)
 
   -- and where no room was made in it
   unmade : (owner group : List ℕ) (opened let_go : File) (begun later : M) (why : Fault) → IsOpenedOver image opened
@@ -578,10 +579,10 @@ module _ {D M : Type 0} (g : Ghosts D) (image : Image) (does : M → Call (Held 
       (λ clean is_open. refl) (λ _. ⊥) (no_change (file_state let_go)) (λ start past held was trees none. absurd none)
   unmade owner group opened let_go begun later fault.StoreFailed is gone (none, (rests, same, survives)) =
       spared opened let_go begun later is gone (λ clean. rests) same _ survives
-      (λ start past held was. absurd (has_none opened is none start past held was))
+      (λ start past held was. absurd (has_none g image start past held opened is none was))
   unmade owner group opened let_go begun later fault.Memory is gone (none, (rests, same, survives)) =
       spared opened let_go begun later is gone (λ clean. rests) same _ survives
-      (λ start past held was. absurd (has_none opened is none start past held was))
+      (λ start past held was. absurd (has_none g image start past held opened is none was))
   unmade owner group opened let_go begun later fault.BadName is gone none = absurd none
   unmade owner group opened let_go begun later fault.CannotReadRoster is gone none = absurd none
   unmade owner group opened let_go begun later fault.BadRoster is gone none = absurd none
@@ -620,13 +621,13 @@ module _ {D M : Type 0} (g : Ghosts D) (image : Image) (does : M → Call (Held 
         λ clean.
             let was = was_clean made.3 clean in
             let over = (tells before begun (opens db (Ok opened)) is).0 in (
-              λ start past held. has_none opened over made.0 start past held was,
+              λ start past held. has_none g image start past held opened over made.0 was,
               λ empty.
                   let (is_open, made_fresh) = made.2 clean in
                   let fresh = made_fresh (found_nothing g image empty opened over was) in
                   λ one at. record {
                     db = (file_state closed).now;
-                    held = closed_holds g stays closed (left later) one
+                    held = closed_holds g stays closed (left later) image one
                         (tells begun later (closes closed) did) is_open (made.1 is_open) at;
                     room = inl fresh.0.room;
                     rows = stand_at_first (fresh_room owner group) _ fresh.1.room fresh.1.sessions fresh.1.slots;
@@ -657,22 +658,23 @@ module _ {D M : Type 0} (g : Ghosts D) (image : Image) (does : M → Call (Held 
     replay_left roster owner group input rest output written done
         (inr (names, users, took, why, count, next, is, all)) = roster_left roster before later (Ok users) took
 
+    heard_left : (served : M) (done : Result (Unit {0}) Fault) → IsAnswered does served later done
+        → left later ≡ left served
+    heard_left served (Ok done) heard = tells served later (hears (Some due_answers)) heard
+    heard_left served (Err why) (is, answers, other, heard) = tells served later (hears answers) heard
+
     selftest_left : (done : Result (Unit {0}) Fault) → SelftestEnds does accepts fails before later done
         → left later ≡ left before
     selftest_left done (inl (why, is, fault, same)) = ap left same
-    selftest_left (Ok done) (inr (first, second, served, one, two, answers, asked, again, took, heard)) =
-        tells served later (hears (Some answers)) heard ∙ accepted_left 2 second served took
-        ∙ tells first second (asks two true) again ∙ tells before first (asks one true) asked
-    selftest_left (Err why) (inr (fault, one, two, inl asked)) = tells before later (asks one false) asked
-    selftest_left (Err why) (inr (fault, one, two, inr (first, asked, inl again))) =
-        tells first later (asks two false) again ∙ tells before first (asks one true) asked
-    selftest_left (Err why) (inr (fault, one, two, inr (first, asked, inr (second, again, inl fewer)))) =
+    selftest_left done (inr (inl (is, asked))) = tells before later (asks first_sent false) asked
+    selftest_left done (inr (inr (first, asked, inl (is, again)))) =
+        tells first later (asks second_sent false) again ∙ tells before first (asks first_sent true) asked
+    selftest_left done (inr (inr (first, asked, inr (second, again, inl (is, fewer))))) =
         fails_so fewer.2 later fewer.4 ∙ accepted_left fewer.0 second fewer.2 fewer.3
-        ∙ tells first second (asks two true) again ∙ tells before first (asks one true) asked
-    selftest_left (Err why)
-        (inr (fault, one, two, inr (first, asked, inr (second, again, inr (served, answers, took, heard))))) =
-        tells served later (hears answers) heard ∙ accepted_left 2 second served took
-        ∙ tells first second (asks two true) again ∙ tells before first (asks one true) asked
+        ∙ tells first second (asks second_sent true) again ∙ tells before first (asks first_sent true) asked
+    selftest_left done (inr (inr (first, asked, inr (second, again, inr (served, took, heard))))) =
+        heard_left served done heard ∙ accepted_left 2 second served took
+        ∙ tells first second (asks second_sent true) again ∙ tells before first (asks first_sent true) asked
 
     job_found : (job : Job) → RunsJob (program accepts fails) before later job old new status
         → JobFound (program accepts fails) left image before later job old new status

@@ -9,9 +9,8 @@ use Rattle.sqlite.specs.Held.{Held}
 use Rattle.room_program.specs.declared.fault.Fault.{Fault}
 use Rattle.room_program.specs.declared.fault.Fault.TheVariants.{StoreFailed}
 use Rattle.room_program.specs.Machines.{Call}
-use Rattle.room_program.specs.Machines.Call.{asks, opens, leaves}
-use Rattle.room_program.specs.Calls.{Exchange, Accepted}
-use Rattle.room_program.specs.Ends.{InitEnds, IsAnswered, Talks}
+use Rattle.room_program.specs.Machines.Call.{opens, leaves}
+use Rattle.room_program.specs.Ends.{InitEnds}
 use Rattle.room_program.specs.Files.{OpensStore}
 use Rattle.room_program.specs.Replays.{Replays}
 use Rattle.room_program.specs.Rooms.{Reports, ServesRoom}
@@ -24,16 +23,6 @@ of_two P a b x y e f p = subst (P x) f (subst (λ t. P t b) e p)
 of_three : (P : List ℕ → List ℕ → List ℕ → Type 0) (a b c x y z : List ℕ)
     → a ≡ x → b ≡ y → c ≡ z → P a b c → P x y z
 of_three P a b c x y z e f h p = of_two (P x) b c y z f h (subst (λ t. P t b c) e p)
-
--- two connections were asked and accepted, and the later one was heard
-pub talked : {M C : Type 0} (does : M → Call C → M → Type 0) (accepts : M → Exchange → M → Type 0)
-    (fails : M → M → Type 0) (old first second served new : M) (one two : List ℕ) → does old (asks one true) first
-    → does first (asks two true) second → Accepted accepts 2 second served → (done : Result (Unit {0}) Fault)
-    → IsAnswered does served new done → Talks does accepts fails old new done
-talked does accepts fails old first second served new one two asked again took (Ok done) (answers, heard) =
-    (first, second, served, one, two, answers, asked, again, took, heard)
-talked does accepts fails old first second served new one two asked again took (Err why) (fault, answers, heard) =
-    (fault, one, two, inr (first, asked, inr (second, again, inr (served, answers, took, heard))))
 
 -- a store was opened, and is outside a transaction, or was let go
 pub opened_outside : {S M : Type 0} (does : M → Call (Held S) → M → Type 0) (path : List ℕ) (old begun new : M)

@@ -1,5 +1,5 @@
 -- From one run to the next, over the files that the one before it left.
-use Rattle.std.proofs.Common.{◌≡◌, ℕ, zero, suc, List, IsTrue, refl, sym, subst}
+use Rattle.std.proofs.Common.{◌≡◌, ℕ, List, IsTrue, refl, sym, subst}
 use Rattle.std.proofs.Common.{inl, inr, false, ◌∷◌, ◌⊎◌}
 use Rattle.std.proofs.Common.{Option, Result, Ok, Err, [], ap, ◌∙◌}
 use Rattle.std.proofs.Math.Logic.{∥∥₁_map, ∥∥₁_elim}
@@ -7,13 +7,13 @@ use Rattle.sqlite_disk.specs.declared.Disk.{Ghosts}
 use Rattle.sqlite_trees.specs.Tree.{Trees}
 use Rattle.sqlite.specs.FileStore.{recovers, view}
 use Rattle.sqlite.proofs.Theorems.{next_run, opens_again}
-use Rattle.sqlite_store.specs.Laws.{settled_at}
+use Rattle.sqlite_store.specs.Laws.{settled_at, stays_at}
 use Rattle.sqlite.specs.Effect.{Database}
 use Rattle.sqlite.specs.Recovery.{Image}
 use Rattle.sqlite.specs.declared.FileStore.{FileStore}
 use Rattle.sqlite.specs.State.{HasCleanDisk}
 use Rattle.sqlite.specs.Held.{Held, AreDatabases}
-use Rattle.sqlite.specs.Files.{file_state, over_files}
+use Rattle.sqlite.specs.Files.{file_state, over_files, HoldsDatabase}
 use Rattle.room_acl.specs.SubjectModel.{SubjectModel}
 use Rattle.room_records.specs.Records.{Records}
 use Rattle.room_records.specs.Room.{Room}
@@ -38,18 +38,19 @@ use Rattle.room_program.specs.declared.left.Left.{Left}
 use Rattle.room_program.specs.declared.left.Left.TheVariants.{Nothing}
 use Rattle.room_program.specs.Machines.{Call}
 use Rattle.room_program.specs.Calls.{Exchange, ServesEach}
-use Rattle.room_program.specs.Machines.Call.{opens, closes, leaves}
+use Rattle.room_program.specs.Machines.Call.{looks, opens, closes, leaves}
 use Rattle.room_program.specs.Rooms.{Listens, WritesReport}
 use Rattle.room_words.specs.declared.job.ReportKind.{ReportKind}
 use Rattle.room_program.specs.Ends.{InitEnds}
-use Rattle.room_program.specs.Files.{Adopted, Takes, TakesRoom, Untaken, Made, Unmade}
-use Rattle.room_program.specs.Streams.{Served, ServesSome}
+use Rattle.room_program.specs.Files.{Adopted, Takes, TakesRoom, OpensStore, Untaken, Made, Unmade}
+use Rattle.room_program.specs.Streams.{GoesOn, Served}
 use Rattle.room_program.specs.Found.{IsOpenedOver, Holds, HoldsRoom, IsLeftBy, ActsOn, MayBeLeft, SeesSums, SparesRoom}
 use Rattle.room_program.specs.Restarts.{ActsOnce, Steps, KeepsRoom, KeepsRoomOrMore, HoldsStill}
-use Rattle.room_program.specs.Restarts.{GoesOnBySome, GoesOnOrMore, AnswersOrMore}
+use Rattle.room_program.specs.Restarts.{GoesOnOrMore, AnswersOrMore}
 use Rattle.room_program.proofs.Found.{stands, closed_holds, closed_in, kept_in, unopened, served, read_stands}
-use Rattle.room_program.proofs.Streams.{connections_answered}
+use Rattle.room_program.proofs.Streams.{stays, connections_answered}
 use Rattle.room_program.proofs.Found.{spares, makes_found, one_database, found_database}
+use Rattle.room_program.proofs.Unopened.{may_hold}
 
 module _ {D : Type 0} (g : Ghosts D) where
   -- what a crash left of a store is found by the next run
@@ -57,7 +58,7 @@ module _ {D : Type 0} (g : Ghosts D) where
       → MayBeLeft it left → IsTrue (view it).is_numbered → AreDatabases (recovers it) → IsOpenedOver left opened
       → HasCleanDisk (file_state opened) → ∥ recovers it (file_state opened).now.trees ∥₁
   found_left it left opened may numbered sound is clean =
-      let (shown, finds) = is clean in
+      let (shown, finds, plain) = is clean in
       ∥∥₁_map (next_run it numbered sound left may (file_state opened) finds)
       (λ found. subst (λ (d : Database). recovers it d.trees) (sym shown.0.clean) found)
 
@@ -68,35 +69,41 @@ module _ {D : Type 0} (g : Ghosts D) where
 
 -- ---- so many steps
 
-pub keeps_or_more : (found left : Image) → KeepsRoom found left → KeepsRoomOrMore found left
-keeps_or_more found left keeps start past held =
+pub keeps_or_more : (users : List SubjectModel) (found left : Image) → KeepsRoom users found left
+    → KeepsRoomOrMore users found left
+keeps_or_more users found left keeps start past held =
     let (next, goes, there) = keeps start past held in
-    ∣ (next, (goes.0, next, goes.1, inl refl), there) ∣₁
+    ∣ (next, (next, goes, inl refl), there) ∣₁
 
--- no message was served
-nothing_served : (start : Room) (past : History) → GoesOnBySome start past past
-nothing_served start past =
-    ([], record { messages = []; output = []; run = (refl, refl); events = []; on = refl })
+pub still_keeps : (users : List SubjectModel) (found left : Image) → HoldsStill found left
+    → KeepsRoomOrMore users found left
+still_keeps users found left still start past held =
+    ∥∥₁_map (still start past held) (λ there. (past, (past, stays users start past, inl refl), there))
 
-pub still_keeps : (found left : Image) → HoldsStill found left → KeepsRoomOrMore found left
-still_keeps found left still start past held =
-    let (users, none) = nothing_served start past in
-    ∥∥₁_map (still start past held) (λ there. (past, (users, past, none, inl refl), there))
+abbrev Rosters : Type 0
+Rosters = List (List SubjectModel)
 
-pub room_after : (more : ℕ) (found left : Image) (start : Room) (past : History) → Steps KeepsRoom more found left
-    → HoldsRoom found start past
-    → (next : History) × Steps (GoesOnBySome start) more past next × HoldsRoom left start next
-room_after zero found left start past keeps held = keeps start past held
-room_after (suc more) found left start past (mid, keeps, later) held =
+abbrev GoOn : Room → Rosters → (past next : History) → Type 0
+GoOn start rosters past next = Steps (λ users past next. GoesOn users start past next) rosters past next
+
+pub room_after : (rosters : Rosters) (found left : Image) (start : Room) (past : History)
+    → Steps KeepsRoom rosters found left → HoldsRoom found start past
+    → (next : History) × GoOn start rosters past next × HoldsRoom left start next
+room_after [] found left start past same held = (past, refl, subst (λ i. HoldsRoom i start past) (sym same) held)
+room_after (users ∷ more) found left start past (mid, keeps, later) held =
     let (then, goes, there) = keeps start past held in
     let (next, on, last) = room_after more mid left start then later there in
     (next, (then, goes, on), last)
 
-pub room_after_or_more : (more : ℕ) (found left : Image) (start : Room) (past : History)
-    → Steps KeepsRoomOrMore more found left → HoldsRoom found start past
-    → ∥ ((next : History) × Steps (GoesOnOrMore start) more past next × HoldsRoom left start next) ∥₁
-room_after_or_more zero found left start past keeps held = keeps start past held
-room_after_or_more (suc more) found left start past (mid, keeps, later) held =
+abbrev GoOnOrMore : Room → Rosters → (past next : History) → Type 0
+GoOnOrMore start rosters past next = Steps (λ users past next. GoesOnOrMore users start past next) rosters past next
+
+pub room_after_or_more : (rosters : Rosters) (found left : Image) (start : Room) (past : History)
+    → Steps KeepsRoomOrMore rosters found left → HoldsRoom found start past
+    → ∥ ((next : History) × GoOnOrMore start rosters past next × HoldsRoom left start next) ∥₁
+room_after_or_more [] found left start past same held =
+    ∣ (past, refl, subst (λ i. HoldsRoom i start past) (sym same) held) ∣₁
+room_after_or_more (users ∷ more) found left start past (mid, keeps, later) held =
     ∥∥₁_elim (keeps start past held) squash₁ (λ one.
     let (then, goes, there) = one in
     ∥∥₁_map (room_after_or_more more mid left start then later there) (λ all. (all.0, (then, goes, all.1), all.2)))
@@ -104,33 +111,17 @@ room_after_or_more (suc more) found left start past (mid, keeps, later) held =
 -- ---- one run over files that held a room
 
 -- its shelf went from one history to the next
-abbrev RunsOn : {S : Type 0} (view : S → View) → S → S → Type 0
-RunsOn view taken last = (start : Room) (past : History) → StandsFor start past (view taken)
-    → (next : History) × GoesOnBySome start past next × StandsFor start next (view last)
-
-module _ {S : Type 0} (view : S → View) where
-  pub by_messages : (users : List SubjectModel) (taken last : S) → ServesSome view users taken last
-      → (view last).is_intact → RunsOn view taken last
-  by_messages users taken last some intact start past stand =
-      let (next, goes, there) = some.run intact start past stand in
-      (next, (users, goes), there)
-
-  -- by a report to itself
-  pub by_report : (kind : ReportKind) (users : List SubjectModel) (taken last : S) (old new : Option (List ℕ))
-      (done : Result (Unit {0}) Fault) → WritesReport view kind users taken last old new done → RunsOn view taken last
-  by_report kind users taken last old new done writes start past stand = (
-    past,
-    nothing_served start past,
-    read_stands view kind users taken last old new done writes start past stand,
-  )
+abbrev RunsOn : {S : Type 0} (view : S → View) → List SubjectModel → S → S → Type 0
+RunsOn view users taken last = (start : Room) (past : History) → StandsFor start past (view taken)
+    → (next : History) × GoesOn users start past next × StandsFor start next (view last)
 
 module _ {D : Type 0} (g : Ghosts D) (found left : Image) (opened : Held (FileStore D g))
     (taken last : SqlShelf (FileStore D g) over_files × Known) (users : List SubjectModel)
     (is : IsOpenedOver found opened) (adopted : Adopted over_files opened taken)
     (clean : HasCleanDisk (file_state last.0.conn)) where
   -- the files hold then what the store showed last
-  pub keeps_room : RunsOn (cached_view (sql_view over_files)) taken last → IsTrue (file_state last.0.conn).is_open
-      → Holds left (file_state last.0.conn).now → KeepsRoom found left
+  pub keeps_room : RunsOn (cached_view (sql_view over_files)) users taken last
+      → IsTrue (file_state last.0.conn).is_open → Holds left (file_state last.0.conn).now → KeepsRoom users found left
   keeps_room on is_open holds start past held =
       let (next, goes, stand) = on start past (stands g found start past held opened taken is adopted) in
       let (laid_out, rows) = stand (clean, is_open) in (
@@ -139,18 +130,13 @@ module _ {D : Type 0} (g : Ghosts D) (found left : Image) (opened : Held (FileSt
         record { db = (file_state last.0.conn).now; held = holds; room = inl laid_out.0.0; rows = rows },
       )
 
-  -- or, once a fault has shut it, that with one event more: so it is in what a crash leaves of a store that leaves no
-  -- more than its own
-  pub keeps_room_or_more : AnswersOrMore (cached_view (sql_view over_files)) users taken last
-      → (it : FileStore D g) → ((trees : Trees) → recovers it trees → recovers last.0.conn.store trees)
-      → IsTrue (view it).is_numbered → MayBeLeft it left → KeepsRoomOrMore found left
-  keeps_room_or_more answers it only numbered at start past held =
+  -- or that with one event more, where they hold what a crash may leave of it
+  room_or_more : AnswersOrMore (cached_view (sql_view over_files)) users taken last → (start : Room) (past : History)
+      → HoldsRoom found start past → (trees : Trees) → recovers last.0.conn.store trees → HoldsDatabase left trees
+      → (next : History) × GoesOnOrMore users start past next × HoldsRoom left start next
+  room_or_more answers start past held trees may holds =
       let (next, goes, left_so, laid) =
       answers start past (stands g found start past held opened taken is adopted) in
-      let sound : AreDatabases (recovers it) = λ trees may. databases g last.0.conn.store laid trees (only trees may) in
-      ∥∥₁_map (opens_again it numbered sound left at) (λ one.
-      let (trees, here, holds) = one in
-      let may = only trees here in
       let (schema, of_room) = laid trees may in
       let room : (past : History) → RepresentsHistory start (records_of trees) past → HoldsRoom left start past
       = λ past rows. record {
@@ -159,13 +145,72 @@ module _ {D : Type 0} (g : Ghosts D) (found left : Image) (opened : Held (FileSt
         room = inl of_room;
         rows = rows;
       } in elim (left_so (records_of trees) (clean, (trees, may, refl))) [
-        | inl rows ↦ (next, (users, next, goes, inl refl), room next rows)
-        | inr (m, event, asks, (changes, rows)) ↦ (
+        | inl rows ↦ (next, (next, goes, inl refl), room next rows)
+        | inr (m, event, lawful, asks, (changes, rows)) ↦ (
           event ∷ next,
-          (users, next, goes, inr (m, event, asks, changes, refl)),
+          (next, goes, inr (m, event, lawful, asks, changes, refl)),
           room (event ∷ next) rows,
         )
-      ])
+      ]
+
+  -- so they do while it is there
+  pub open_or_more : AnswersOrMore (cached_view (sql_view over_files)) users taken last
+      → ((file : D) → g.may_leave file (g.seen file)) → IsTrue (file_state last.0.conn).is_open
+      → Holds left (file_state last.0.conn).now → KeepsRoomOrMore users found left
+  open_or_more answers stays is_open holds start past held =
+      let may = subst (recovers last.0.conn.store) (sym (last.0.rests is_open))
+      (stays_at last.0.conn.store stays is_open) in
+      ∥∥₁_map holds.trees (λ there.
+      room_or_more answers start past held (file_state last.0.conn).now.trees may there)
+
+  -- and once a fault has shut it, where they were left by a store that leaves no more than its own
+  pub keeps_room_or_more : AnswersOrMore (cached_view (sql_view over_files)) users taken last
+      → (it : FileStore D g) → ((trees : Trees) → recovers it trees → recovers last.0.conn.store trees)
+      → IsTrue (view it).is_numbered → MayBeLeft it left → KeepsRoomOrMore users found left
+  keeps_room_or_more answers it only numbered at start past held =
+      let (next, goes, left_so, laid) =
+      answers start past (stands g found start past held opened taken is adopted) in
+      let sound : AreDatabases (recovers it) = λ trees may. databases g last.0.conn.store laid trees (only trees may) in
+      ∥∥₁_map (opens_again it numbered sound left at) (λ one.
+      room_or_more answers start past held one.0 (only one.0 one.1) one.2)
+
+-- a report over a shelf of a room that the files held: it is in what a crash leaves of a store that leaves no more than
+-- its own
+module _ {D : Type 0} (g : Ghosts D) (image one : Image) (opened : Held (FileStore D g))
+    (taken last : SqlShelf (FileStore D g) over_files × Known) (is : IsOpenedOver image opened)
+    (adopted : Adopted over_files opened taken) (stays : (file : D) → g.may_leave file (g.seen file)) where
+  pub report_still : (kind : ReportKind) (users : List SubjectModel) (old new : Option (List ℕ))
+      (done : Result (Unit {0}) Fault)
+      → WritesReport (cached_view (sql_view over_files)) kind users taken last old new done
+      → HasCleanDisk (file_state last.0.conn) → (it : FileStore D g)
+      → ((trees : Trees) → recovers it trees → recovers last.0.conn.store trees) → IsTrue (view it).is_numbered
+      → MayBeLeft it one → HoldsStill image one
+  report_still kind users old new done writes clean it only numbered may start past held =
+      let was = writes.read.call.was_intact clean in
+      let there = (adopted.1 was).0 in
+      let (laid_out, rows) = stands g image start past held opened taken is adopted (was, there) in
+      let settled : (trees : Trees) → recovers taken.0.conn.store trees → trees ≡ (file_state taken.0.conn).now.trees
+      = λ trees left. settled_at taken.0.conn.store stays trees there left ∙ sym (taken.0.rests there) in
+      let laid : (trees : Trees) → recovers last.0.conn.store trees → AreOfRoom trees =
+      writes.read.stays_laid_out clean (λ trees left. (
+        (file_state taken.0.conn).now.schema,
+        subst (λ t. IsRoomOfVersion2 (record { schema = (file_state taken.0.conn).now.schema; trees = t }))
+            (sym (settled trees left)) laid_out.0.0,
+      )) in
+      let sound : AreDatabases (recovers it)
+      = λ trees left. databases g last.0.conn.store laid trees (only trees left) in
+      ∥∥₁_map (opens_again it numbered sound one may) (λ one_of.
+      let (trees, here, holds) = one_of in
+      let left = only trees here in
+      let (schema, of_room) = laid trees left in
+      let (intact, (before, was_left, as_before)) = writes.read.crash (records_of trees) (clean, (trees, left, refl)) in
+      record {
+        db = record { schema = schema; trees = trees };
+        held = record { trees = ∣ holds ∣₁; sound = of_room.sound };
+        room = inl of_room;
+        rows = subst (λ r. RepresentsHistory start r past)
+            (sym (as_before ∙ ap records_of (settled before was_left))) rows;
+      })
 
 -- a `serve` that took its room and closed it
 module _ {D M : Type 0} (g : Ghosts D) (image : Image) (does : M → Call (Held (FileStore D g)) → M → Type 0)
@@ -191,16 +236,16 @@ module _ {D M : Type 0} (g : Ghosts D) (image : Image) (does : M → Call (Held 
       (done : Result (Unit {0}) Fault) (one : Image)
       → TakesRoom does (λ opened taken. Takes over_files opened taken) db read taken (Ok shelf)
       → Listens does accepts fails shown users port count taken over shelf last done
-      → does over (closes last.0.conn) later → IsTrue (file_state last.0.conn).is_open → IsLeftBy (left later) one
-      → KeepsRoom image one
+      → does over (closes last.0.conn) later → IsTrue (file_state last.0.conn).is_open → IsLeftBy image (left later) one
+      → KeepsRoom users image one
   served_run accepts fails db users port count read taken over later shelf last done one room listens closed is_open
       at =
       let (opened, is, adopted) = took db read taken shelf room in
       let some = served does _ accepts fails users port count taken over shelf last done listens in
       let told = tells over later (closes last.0.conn) closed in
-      let clean = (closed_in g last.0.conn (left later) one told at).0 in
-      keeps_room g image one opened shelf last users is adopted clean (by_messages _ users shelf last some clean)
-      is_open (closed_holds g stays last.0.conn (left later) one told is_open (last.0.rests is_open) at)
+      let clean = (closed_in g last.0.conn (left later) image one told at).0 in
+      keeps_room g image one opened shelf last users is adopted clean (some.run clean)
+      is_open (closed_holds g stays last.0.conn (left later) image one told is_open (last.0.rests is_open) at)
 
   -- the laws of a shelf, of this one
   settled : (s : Taken) (left : Records) → (shown s).is_available → (shown s).crash_may_leave left
@@ -218,7 +263,7 @@ module _ {D M : Type 0} (g : Ghosts D) (image : Image) (does : M → Call (Held 
         → ServesEach accepts (Served shown users) n old last before after → (shown before).is_available
         → (shown after).is_intact → AnswersOrMore shown users before after
     leave_answered users n old last before after each there intact =
-        connections_answered shown settled leaves_laid_out accepts users n old last before after after [] [] each
+        connections_answered shown settled leaves_laid_out accepts users n old last before after after [] [] each tt
         (refl, refl) there intact
 
     answered : (users : List SubjectModel) (port count : ℕ) (taken over : M) (shelf last : Taken)
@@ -236,16 +281,17 @@ module _ {D M : Type 0} (g : Ghosts D) (image : Image) (does : M → Call (Held 
         (shelf last : Taken) (done : Result (Unit {0}) Fault) (one : Image)
         → TakesRoom does (λ opened taken. Takes over_files opened taken) db read taken (Ok shelf)
         → Listens does accepts fails shown users port count taken over shelf last done
-        → does over (closes last.0.conn) later → IsLeftBy (left later) one → KeepsRoomOrMore image one
+        → does over (closes last.0.conn) later → IsLeftBy image (left later) one → KeepsRoomOrMore users image one
     served_shut db users port count read taken over later shelf last done one room listens closed at =
         let (opened, is, adopted) = took db read taken shelf room in
         let some = served does _ accepts fails users port count taken over shelf last done listens in
-        let (clean, either) = closed_in g last.0.conn (left later) one (tells over later (closes last.0.conn) closed)
+        let (clean, either) =
+        closed_in g last.0.conn (left later) image one (tells over later (closes last.0.conn) closed)
         at in
         let was = some.frame.was_intact clean in
         elim either [
-          | inl is_open ↦ keeps_or_more image one (served_run accepts fails db users port count read taken over later
-              shelf last done one room listens closed is_open at)
+          | inl is_open ↦ keeps_or_more users image one (served_run accepts fails db users port count read taken over
+              later shelf last done one room listens closed is_open at)
           | inr (it, (kept, sure), numbered, may) ↦ keeps_room_or_more g image one opened shelf last users is adopted
               clean (answered users port count taken over shelf last done listens (was, (adopted.1 was).0) clean)
               it kept.quiet.outcomes numbered may
@@ -256,42 +302,25 @@ module _ {D M : Type 0} (g : Ghosts D) (image : Image) (does : M → Call (Held 
       (taken last : Taken) (old new : Option (List ℕ)) (done : Result (Unit {0}) Fault) (one : Image)
       → TakesRoom does (λ opened taken. Takes over_files opened taken) db read seen (Ok taken)
       → WritesReport shown kind users taken last old new done
-      → does seen (leaves last.0.conn) later → IsLeftBy (left later) one → HoldsStill image one
-  reported_run db kind users read seen later taken last old new done one room writes gone at start past held =
+      → does seen (leaves last.0.conn) later → IsLeftBy image (left later) one → HoldsStill image one
+  reported_run db kind users read seen later taken last old new done one room writes gone at =
       let (opened, is, adopted) = took db read seen taken room in
       let (clean, (it, (kept, sure), numbered, may)) =
-      kept_in g last.0.conn (left later) one (tells seen later (leaves last.0.conn) gone) at in
-      let was = writes.read.call.was_intact clean in
-      let there = (adopted.1 was).0 in
-      let (laid_out, rows) = stands g image start past held opened taken is adopted (was, there) in
-      let only : (trees : Trees) → recovers taken.0.conn.store trees → trees ≡ (file_state taken.0.conn).now.trees
-      = λ trees left. settled_at taken.0.conn.store stays trees there left ∙ sym (taken.0.rests there) in
-      let laid : (trees : Trees) → recovers last.0.conn.store trees → AreOfRoom trees =
-      writes.read.stays_laid_out clean (λ trees left. (
-        (file_state taken.0.conn).now.schema,
-        subst (λ t. IsRoomOfVersion2 (record { schema = (file_state taken.0.conn).now.schema; trees = t }))
-            (sym (only trees left)) laid_out.0.0,
-      )) in
-      ∥∥₁_map (opens_again it numbered (kept.sound sure) one may) (λ one_of.
-      let (trees, here, holds) = one_of in
-      let left = kept.quiet.outcomes trees here in
-      let (schema, of_room) = laid trees left in
-      let (intact, (before, was_left, as_before)) = writes.read.crash (records_of trees) (clean, (trees, left, refl)) in
-      record {
-        db = record { schema = schema; trees = trees };
-        held = record { trees = ∣ holds ∣₁; sound = of_room.sound };
-        room = inl of_room;
-        rows = subst (λ r. RepresentsHistory start r past)
-            (sym (as_before ∙ ap records_of (only before was_left))) rows;
-      })
+      kept_in g last.0.conn (left later) image one (tells seen later (leaves last.0.conn) gone) at in
+      report_still g image one opened taken last is adopted stays kind users old new done writes clean it
+      kept.quiet.outcomes numbered may
 
-  -- no file was opened, so nothing is known of any
-  ungiven : (from to : M) (one : Image) → left from ≡ Nothing → left to ≡ left from → IsLeftBy (left to) one → ⊥
-  ungiven from to one none same at = subst (λ (l : Left D g). IsLeftBy l one) (same ∙ none) at
+  -- no file was opened, so they are as they were found
+  unopened_still : (from to : M) (one : Image) → left from ≡ Nothing → left to ≡ left from
+      → IsLeftBy image (left to) one → one ≡ image
+  unopened_still from to one none same at = subst (λ (l : Left D g). IsLeftBy image l one) (same ∙ none) at
+
+  as_found : (one : Image) → one ≡ image → HoldsStill image one
+  as_found one same start past held = ∣ subst (λ i. HoldsRoom i start past) (sym same) held ∣₁
 
   spared_run : (read later : M) (one : Image) → left read ≡ Nothing → SeesSums image (left later)
-      → IsLeftBy (left later) one → SparesRoom does left image read later → HoldsStill image one
-  spared_run read later one none sees at (inl same) = absurd (ungiven read later one none same at)
+      → IsLeftBy image (left later) one → SparesRoom does left image read later → HoldsStill image one
+  spared_run read later one none sees at (inl same) = as_found one (unopened_still read later one none same at)
   spared_run read later one none sees at (inr (inl stay)) = λ start past held. ∣ record {
     db = held.db;
     held = stay sees held.db held.held one at;
@@ -304,18 +333,43 @@ module _ {D M : Type 0} (g : Ghosts D) (image : Image) (does : M → Call (Held 
   -- a room that was not taken
   pub untaken_run : (db : List ℕ) (read later : M) (why : Fault) (one : Image)
       → TakesRoom does (λ opened taken. Takes over_files opened taken) db read later (Err why)
-      → left read ≡ Nothing → SeesSums image (left later) → IsLeftBy (left later) one → HoldsStill image one
+      → left read ≡ Nothing → SeesSums image (left later) → IsLeftBy image (left later) one → HoldsStill image one
   untaken_run db read later why one untook none sees at =
       spared_run read later one none sees at (spares g image does left stays tells db read later why untook)
+
+  -- what was none stays
+  pub no_room_run : (db : List ℕ) (read later : M) (one : Image) (held : Database)
+      → TakesRoom does (λ opened taken. Takes over_files opened taken) db read later (Err fault.NotARoom)
+      → left read ≡ Nothing → IsLeftBy image (left later) one → Holds image held → Holds one held
+  no_room_run db read later one held (inl (begun, looked, none)) clear at holds =
+      subst (λ i. Holds i held)
+      (sym (unopened_still read later one clear (tells read later (looks db begun) looked) at)) holds
+  no_room_run db read later one held (inr (seen, looked, inl (why, is, opened))) clear at holds =
+      let same : why ≡ fault.NotARoom = (let e = is in cc) in
+      absurd (subst (λ f. OpensStore does db seen later (Err f)) same opened)
+  no_room_run db read later one held (inr (seen, looked, inr (opened, begun, is, (let_go, none, gone)))) clear at
+      holds =
+      let over = (tells seen begun (opens db (Ok opened)) is).0 in
+      let (clean, (it, (kept, sure), numbered, may)) =
+      kept_in g let_go (left later) image one (tells begun later (leaves let_go) gone) at in
+      let before = (none.no_room refl).0.crash in
+      let was = was_clean before clean in
+      let same = found_database g image held holds opened over was in
+      may_hold g it one held may numbered holds.sound (λ trees found.
+      elim (before.crash clean trees (kept.quiet.outcomes trees found)) [
+        | inl old ↦ settled_at opened.store stays trees (over was).0.0.is_open old
+            ∙ sym (ap (λ (d : Database). d.trees) (over was).0.0.clean) ∙ ap (λ (d : Database). d.trees) same
+        | inr none ↦ absurd none
+      ])
 
   -- a room that was there as one was to be made
   pub unmade_run : (db owner group : List ℕ) (before later : M) (why : Fault) (one : Image)
       → InitEnds does (Made over_files owner group) (Unmade over_files owner group) db owner group before later
       (Err why)
-      → left before ≡ Nothing → SeesSums image (left later) → IsLeftBy (left later) one → HoldsStill image one
+      → left before ≡ Nothing → SeesSums image (left later) → IsLeftBy image (left later) one → HoldsStill image one
   unmade_run db owner group before later why one ends none sees at =
       elim (makes_found g image does left stays tells db owner group before later (Err why) ends) [
-        | inl (names, same) ↦ absurd (ungiven before later one none (ap left same) at)
+        | inl (names, same) ↦ as_found one (unopened_still before later one none (ap left same) at)
         | inr (inl (unopened, so)) ↦ spared_run before later one none sees at so
         | inr (inr (opened, begun, is, so)) ↦ spared_run before later one none sees at (inr (inr (begun, so)))
       ]
@@ -328,7 +382,7 @@ pub found_records : {D E : Type 0} (g : Ghosts D) (h : Ghosts E) (was : SqlShelf
     → HasCleanDisk (file_state opened) → ∥ (IsRoomOfVersion2 (file_state opened).now
     × (sql_view over_files was).crash_may_leave (records_of (file_state opened).now.trees)) ∥₁
 found_records g h was left opened clean laid numbered may is there =
-    let (shown, finds) = is there in
+    let (shown, finds, plain) = is there in
     ∥∥₁_map (found_left g was.conn.store left opened may numbered (databases g was.conn.store laid) is there) (λ found.
     let (schema, room) = laid _ found in (
       subst IsRoomOfVersion2 (one_database _ _ room.sound (shown.1 shown.0.is_open).0 refl) room,

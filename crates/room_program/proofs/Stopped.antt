@@ -1,6 +1,6 @@
 -- What a stop in the middle of an event leaves.
-use Rattle.std.proofs.Common.{◌≡◌, ◌∙◌, refl, subst, inl, inr, ◌∷◌}
-use Rattle.std.proofs.Common.{Result, Ok, Err}
+use Rattle.std.proofs.Common.{◌≡◌, ◌∙◌, ◌⊎◌, ℕ, List, [], false, refl, sym, ap, subst, inl, inr, ◌∷◌, IsTrue}
+use Rattle.std.proofs.Common.{Option, Result, Ok, Err}
 use Rattle.std.proofs.Math.Logic.{∥∥₁_map}
 use Rattle.sqlite_disk.specs.declared.Disk.{Ghosts}
 use Rattle.sqlite_disk.specs.declared.Files.{Files}
@@ -10,16 +10,22 @@ use Rattle.sqlite_trees.proofs.Doubt.{no_doubt}
 use Rattle.sqlite.specs.WalFiles.{outcomes}
 use Rattle.sqlite.specs.WalReads.{AreClean}
 use Rattle.sqlite.specs.FileStore.{state, view, files as files_in}
+use Rattle.sqlite_store.specs.Laws.{settled_at}
+use Rattle.sqlite.specs.Effect.{Database}
 use Rattle.sqlite.proofs.Theorems.{opens_again}
 use Rattle.sqlite.specs.Recovery.{Image}
 use Rattle.sqlite.specs.declared.FileStore.{FileStore}
 use Rattle.sqlite.specs.State.{HasCleanDisk, Survives}
 use Rattle.sqlite.specs.Held.{Held}
-use Rattle.sqlite.specs.Files.{file_state, over_files}
-use Rattle.room_records.specs.Room.{Room}
+use Rattle.sqlite.specs.Files.{file_state, over_files, HoldsDatabase}
+use Rattle.room_acl.specs.SubjectModel.{SubjectModel}
+use Rattle.room_records.specs.Room.{Room, fresh_room}
 use Rattle.room_records.specs.Shelf.{View, LeavesNew}
 use Rattle.room_cache.specs.declared.known.Known.{Known}
 use Rattle.room_cache.specs.Cached.{cached_view}
+use Rattle.room_tables.specs.Tables.{Fresh, has_a_table}
+use Rattle.room_tables.specs.Layout.{under}
+use Rattle.room_tables.specs.Fresh.{MayBeMade}
 use Rattle.room_tables.specs.Rows.{records_of}
 use Rattle.room_sql.specs.declared.sql_shelf.SqlShelf.{SqlShelf}
 use Rattle.room_sql.specs.SqlView.{sql_view}
@@ -27,13 +33,20 @@ use Rattle.room_sql.specs.Taken.{MayBeTaken}
 use Rattle.room_sql.proofs.Frames.{was_clean}
 use Rattle.room_wire.specs.Asks.EventModel.{EventModel}
 use Rattle.room_desk.specs.History.{History}
-use Rattle.room_desk.specs.Representation.{RepresentsHistory}
+use Rattle.room_desk.specs.Representation.{RepresentsHistory, StandsFor}
+use Rattle.room_desk.proofs.Beginnings.{stand_at_first}
 use Rattle.room_program.specs.declared.fault.Fault.{Fault}
-use Rattle.room_program.specs.Files.{Takes}
-use Rattle.room_program.specs.Found.{IsOpenedOver, HoldsRoom}
-use Rattle.room_program.specs.Halts.{StandsOrWith, HoldsOldOrNew, HoldsRoomWith, IsTakenOut, connection_of}
-use Rattle.room_program.specs.Restarts.{HoldsStill}
-use Rattle.room_program.proofs.Found.{may_room, was_sound}
+use Rattle.room_program.specs.declared.fault.Fault.TheVariants as fault
+use Rattle.room_program.specs.declared.left.Left.{Left}
+use Rattle.room_program.specs.Files.{Adopted, Made, Takes, Unmade}
+use Rattle.room_program.specs.Found.{Closes, HoldsNothing, HoldsRoom, IsLeftBy, IsOpenedOver, MayBeLeft}
+use Rattle.room_program.specs.Halts.{StandsOrWith, HoldsOldOrNew, HoldsFreshOrNone, HoldsRoomWith, IsTakenOut}
+use Rattle.room_program.specs.Halts.{connection_of}
+use Rattle.room_program.specs.Restarts.{AnswersOrMore, HoldsStill, KeepsRoomOrMore}
+use Rattle.room_program.proofs.Found.{may_room, was_sound, has_none, found_nothing, closed_holds, closed_in}
+use Rattle.room_words.specs.declared.job.ReportKind.{ReportKind}
+use Rattle.room_program.specs.Rooms.{WritesReport}
+use Rattle.room_program.proofs.Restarts.{open_or_more, keeps_room_or_more, report_still}
 
 -- A shelf's store is taken out of its connection and closed, and its files have returned what was written
 module _ {D : Type 0} (g : Ghosts D) (was : SqlShelf (FileStore D g) over_files) (it : FileStore D g)
@@ -109,3 +122,151 @@ module _ {D : Type 0} (g : Ghosts D) (stays : (file : D) → g.may_leave file (g
       may_room g found start past held stays opened is (was_clean survives clean) it
       (λ trees left. survives.crash clean trees (out.quiet.outcomes trees left)) (out.sound none) (out.numbered none)
       image there
+
+-- A store was taken out of its connection and closed
+module _ {D : Type 0} (g : Ghosts D) (shut : Held (FileStore D g)) (it : FileStore D g)
+    (out : IsTakenOut over_files shut it) (files : Files D) (closed : (files.log, files.db) ≡ files_in it)
+    (honest : AreClean g files.log files.db) (stays : (file : D) → g.may_leave file (g.seen file)) where
+  sure_in : AreClean g (files_in it).0 (files_in it).1
+  sure_in = subst (λ (p : D × D). AreClean g p.0 p.1) closed honest
+
+  none_in : IsClean (view it)
+  none_in = no_doubt _ (clean_is it.pool ∙ sure_in)
+
+  was_in : HasCleanDisk (file_state shut)
+  was_in = was_sound g shut it out none_in
+
+  left_in : (image : Image) → outcomes g files.log files.db image → MayBeLeft it image
+  left_in image may = may_leave_is it.pool image sure_in (subst (λ (p : D × D). outcomes g p.0 p.1 image) closed may)
+
+  -- in the middle of an `init`
+  module _ (found : Image) (opened : Held (FileStore D g)) (is : IsOpenedOver found opened) (owner group : List ℕ)
+      (why : Fault) (image : Image) (may : outcomes g files.log files.db image) where
+    abbrev Ended : Type 0
+    Ended = Made over_files owner group opened shut ⊎ Unmade over_files owner group opened shut why
+
+    -- there was a table, and the store is as it was; or none, and a crash leaves what it left, or what is made
+    abbrev Tried : Type 0
+    Tried = (shut ≡ opened) ⊎ ((has_a_table opened.schema ≡ false)
+        × Survives (file_state opened) (file_state shut) (MayBeMade owner group (file_state opened).now))
+
+    not_made : (why : Fault) → Unmade over_files owner group opened shut why → Tried
+    not_made fault.RoomExists (some, same, rests) = inl same
+    not_made fault.StoreFailed (none, (rests, same, survives)) = inr (none, survives)
+    not_made fault.Memory (none, (rests, same, survives)) = inr (none, survives)
+    not_made fault.BadName none = absurd none
+    not_made fault.CannotReadRoster none = absurd none
+    not_made fault.BadRoster none = absurd none
+    not_made fault.NotARoom none = absurd none
+    not_made fault.NetworkFailed none = absurd none
+    not_made fault.BadMessage none = absurd none
+    not_made fault.ReadFailed none = absurd none
+    not_made fault.WriteFailed none = absurd none
+    not_made fault.SelftestFailed none = absurd none
+
+    tried : Ended → Tried
+    tried (inl made) = inr (made.0, made.3)
+    tried (inr unmade) = not_made why unmade
+
+    pub init_still : Ended → HoldsStill found image
+    init_still ended start past held = elim (tried ended) [
+      | inl same ↦ may_room g found start past held stays opened is
+          (subst (λ c. HasCleanDisk (file_state c)) same was_in) it
+          (λ trees left. inl (subst (λ c. (file_state c).may_leave trees) same (out.quiet.outcomes trees left)))
+          (out.sound none_in) (out.numbered none_in) image (left_in image may)
+      | inr (none, survives) ↦ absurd (has_none g found start past held opened is none (was_clean survives was_in))
+    ]
+
+    pub init_fresh : Ended → HoldsNothing found → HoldsFreshOrNone image owner group
+    init_fresh ended empty =
+        let either = tried ended in
+        let was : HasCleanDisk (file_state opened) = elim either [
+          | inl same ↦ subst (λ c. HasCleanDisk (file_state c)) same was_in
+          | inr (none, survives) ↦ was_clean survives was_in
+        ] in
+        let (shown, finds, plain) = is was in
+        let schema = found_nothing g found empty opened is was in
+        ∥∥₁_map (opens_again it (out.numbered none_in) (out.sound none_in) image (left_in image may)) (λ one.
+        let (trees, here, holds) = one in
+        let may_be : (file_state opened).may_leave trees ⊎ MayBeMade owner group (file_state opened).now trees =
+        elim either [
+          | inl same ↦ inl (subst (λ c. (file_state c).may_leave trees) same (out.quiet.outcomes trees here))
+          | inr (none, survives) ↦ survives.crash was_in trees (out.quiet.outcomes trees here)
+        ] in elim may_be [
+          | inl old ↦
+              let there = settled_at opened.store stays trees shown.0.is_open old
+              ∙ sym (ap (λ (d : Database). d.trees) shown.0.clean) in
+              inr (
+                (file_state opened).now,
+                record { trees = ∣ subst (HoldsDatabase image) there holds ∣₁; sound = (shown.1 shown.0.is_open).0 },
+                schema,
+              )
+          | inr made ↦
+              let fresh = made.0 schema in
+              inl (record {
+                db = under Fresh trees;
+                held = record { trees = ∣ holds ∣₁; sound = fresh.0.room.sound };
+                room = inl fresh.0.room;
+                rows = stand_at_first (fresh_room owner group) _ fresh.1.room fresh.1.sessions fresh.1.slots;
+              })
+        ])
+
+-- A report that is cut off
+pub report_cut_off : {D : Type 0} (g : Ghosts D) (last : SqlShelf (FileStore D g) over_files × Known)
+    (it : FileStore D g) (out : IsTakenOut over_files last.0.conn it) (files : Files D)
+    (closed : (files.log, files.db) ≡ files_in it) (honest : AreClean g files.log files.db)
+    (stays : (file : D) → g.may_leave file (g.seen file)) (found : Image) (opened : Held (FileStore D g))
+    (taken : SqlShelf (FileStore D g) over_files × Known) → IsOpenedOver found opened
+    → Adopted over_files opened taken → (kind : ReportKind) (users : List SubjectModel) (old new : Option (List ℕ))
+    (done : Result (Unit {0}) Fault)
+    → WritesReport (cached_view (sql_view over_files)) kind users taken last old new done
+    → (image : Image) → outcomes g files.log files.db image → HoldsStill found image
+report_cut_off g last it out files closed honest stays found opened taken is adopted kind users old new done writes
+    image may =
+    let none : IsClean (view it) = none_in g last.0.conn it out files closed honest stays in
+    report_still g found image opened taken last is adopted stays kind users old new done writes
+    (was_in g last.0.conn it out files closed honest stays) it out.quiet.outcomes (out.numbered none)
+    (left_in g last.0.conn it out files closed honest stays image may)
+
+-- A close that is cut off
+module _ {D : Type 0} (g : Ghosts D) (stays : (file : D) → g.may_leave file (g.seen file))
+    (closed : Held (FileStore D g)) (left : Left D g) (is : Closes closed left) (found image : Image)
+    (at : IsLeftBy found left image) where
+  pub close_served : (last : SqlShelf (FileStore D g) over_files × Known) (start : Room) (past : History)
+      → last.0.conn ≡ closed → StandsFor start past (cached_view (sql_view over_files) last)
+      → (cached_view (sql_view over_files) last).is_available → HoldsRoom image start past
+  close_served last start past same stands there =
+      let (laid_out, rows) = stands there in record {
+        db = (file_state last.0.conn).now;
+        held = closed_holds g stays last.0.conn left found image (subst (λ c. Closes c left) (sym same) is) there.1
+            (last.0.rests there.1) at;
+        room = inl laid_out.0.0;
+        rows = rows;
+      }
+
+  pub close_shut : (opened : Held (FileStore D g)) (taken last : SqlShelf (FileStore D g) over_files × Known)
+      (users : List SubjectModel) → last.0.conn ≡ closed → IsOpenedOver found opened
+      → Adopted over_files opened taken → AnswersOrMore (cached_view (sql_view over_files)) users taken last
+      → KeepsRoomOrMore users found image
+  close_shut opened taken last users same over adopted answers =
+      let of_last = subst (λ c. Closes c left) (sym same) is in
+      let (clean, either) = closed_in g last.0.conn left found image of_last at in
+      elim either [
+        | inl is_open ↦ open_or_more g found image opened taken last users over adopted clean answers stays is_open
+            (closed_holds g stays last.0.conn left found image of_last is_open (last.0.rests is_open) at)
+        | inr (it, (kept, sure), numbered, may) ↦ keeps_room_or_more g found image opened taken last users over adopted
+            clean answers it kept.quiet.outcomes numbered may
+      ]
+
+  pub close_made : (opened : Held (FileStore D g)) (owner group : List ℕ) → IsOpenedOver found opened
+      → Made over_files owner group opened closed → HoldsNothing found → HoldsRoom image (fresh_room owner group) []
+  close_made opened owner group over made empty =
+      let clean = (closed_in g closed left found image is at).0 in
+      let was = was_clean made.3 clean in
+      let (is_open, made_fresh) = made.2 clean in
+      let fresh = made_fresh (found_nothing g found empty opened over was) in record {
+        db = (file_state closed).now;
+        held = closed_holds g stays closed left found image is is_open (made.1 is_open) at;
+        room = inl fresh.0.room;
+        rows = stand_at_first (fresh_room owner group) _ fresh.1.room fresh.1.sessions fresh.1.slots;
+      }

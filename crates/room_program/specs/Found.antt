@@ -1,5 +1,5 @@
 -- What a run finds in files that held something as they were opened, and what it leaves in them.
-use Rattle.std.specs.Prelude.{◌≡◌, ◌⊎◌, ℕ, List, [], Option, Result, Ok, Err, OnOk, IfOk, IfErr, IsTrue}
+use Rattle.std.specs.Prelude.{◌≡◌, ◌⊎◌, ℕ, List, [], false, Option, Result, Ok, Err, OnOk, IfOk, IfErr, IsTrue}
 use Rattle.std.specs.Prelude.{string_bytes}
 use Rattle.std.specs.Io.KnownBytes.{Appends}
 use Rattle.sqlite_disk.specs.declared.Disk.{Ghosts}
@@ -17,7 +17,7 @@ use Rattle.sqlite.specs.Recovery.{Image}
 use Rattle.sqlite.specs.declared.FileStore.{FileStore}
 use Rattle.sqlite.specs.State.{HasCleanDisk, IsLive}
 use Rattle.sqlite.specs.Held.{Held}
-use Rattle.sqlite.specs.Files.{file_state, IsOpened, IsClosed, HoldsDatabase, image_of}
+use Rattle.sqlite.specs.Files.{file_state, IsOpened, IsClosed, HoldsDatabase, IsBlankAs, image_of}
 use Rattle.sqlite.specs.Files.{IsCleanLeft, FailsToOpenFiles, LeavesFiles, FailsToClose}
 use Rattle.sqlite.specs.declared.error.Error.{Error}
 use Rattle.sqlite.specs.declared.error.Error.TheVariants.{SqliteFailure}
@@ -50,9 +50,10 @@ use Rattle.room_program.specs.Streams.{GoesOn}
 
 -- ---- what the calls of the system say of files
 
--- a connection that was opened over files that held this image
+-- a connection that was opened over files that held this image; pages of a file that was blank do not end in sums
 abbrev pub IsOpenedOver : {D : Type 0} {g : Ghosts D} → Image → Held (FileStore D g) → Type 0
 IsOpenedOver image c = HasCleanDisk (file_state c) → IsOpened c × FindsIn image (file_state c)
+    × (IsBlankAs false image → (store.view c.store).has_sums ≡ false)
 
 -- two files that were just opened: they held this image, which is all that a crash may leave of them
 pub record AreJustOpened {D : Type 0} (g : Ghosts D) (image : Image) (files : Files D) : Type 0 where
@@ -137,13 +138,14 @@ MayHoldStill (leftover.Unopened files) image = (state_of files).may_leave image
 MayHoldStill (leftover.Store it) image = MayBeLeftNumbered it image
 
 -- what the files may hold once a run has given them up, while the disk returned what was written: after a close as they
--- read now, and as a crash leaves them; else as a crash leaves the store or the files that were given up
-abbrev pub IsLeftBy : {D : Type 0} {g : Ghosts D} → Left D g → Image → Type 0
-IsLeftBy Nothing image = ⊥
-IsLeftBy (Unopened rest) image = IsCleanLeft rest × MayHoldStill rest image
-IsLeftBy {D} {g} (Copied files) image = AreClean g files.log files.db × MayHold g files image
-IsLeftBy (Uncopied why it) image = IsClean (store.view it) × MayBeLeftNumbered it image
-IsLeftBy (Kept it) image = IsClean (store.view it) × MayBeLeft it image
+-- read now, and as a crash leaves them; else as a crash leaves the store or the files that were given up. Where no file
+-- was opened, they are as they were found
+abbrev pub IsLeftBy : {D : Type 0} {g : Ghosts D} → (found : Image) → Left D g → Image → Type 0
+IsLeftBy found Nothing image = image ≡ found
+IsLeftBy found (Unopened rest) image = IsCleanLeft rest × MayHoldStill rest image
+IsLeftBy {D} {g} found (Copied files) image = AreClean g files.log files.db × MayHold g files image
+IsLeftBy found (Uncopied why it) image = IsClean (store.view it) × MayBeLeftNumbered it image
+IsLeftBy found (Kept it) image = IsClean (store.view it) × MayBeLeft it image
 
 -- Pages that end in sums, as the extension cksumvfs makes them and no room of ours, were taken for such by an open that
 -- failed: it reads that off the file, and the toolchain's clause tells the other way round alone
@@ -153,32 +155,32 @@ SeesSums found (Unopened (leftover.Unopened files)) = (trees : Trees) (held : Ho
 SeesSums found other = Unit {0}
 
 -- then they hold a room with this history
-abbrev pub LeavesRoom : {D : Type 0} {g : Ghosts D} → Left D g → Room → History → Type 0
-LeavesRoom left start past = (image : Image) → IsLeftBy left image → HoldsRoom image start past
+abbrev pub LeavesRoom : {D : Type 0} {g : Ghosts D} → (found : Image) → Left D g → Room → History → Type 0
+LeavesRoom found left start past = (image : Image) → IsLeftBy found left image → HoldsRoom image start past
 
 -- ---- what a job does over files
 
 -- the history went on by messages of these users, while the disk returns what was written, and the rows of the store
 -- stand for it, where no fault has shut it; once the store is closed, so do the files
-abbrev pub GoesOnIn : {D : Type 0} {g : Ghosts D} → List SubjectModel → Room → History
+abbrev pub GoesOnIn : {D : Type 0} {g : Ghosts D} → (found : Image) → List SubjectModel → Room → History
     → Held (FileStore D g) → Left D g → Type 0
-GoesOnIn users start past closed left =
+GoesOnIn found users start past closed left =
     HasCleanDisk (file_state closed) → (next : History) × GoesOn users start past next
     × (IsTrue (file_state closed).is_open → RepresentsHistory start (records_of (file_state closed).now.trees) next
-    × LeavesRoom left start next)
+    × LeavesRoom found left start next)
 
 -- no store was to be had in the files, and they hold what they held
 abbrev pub StayUnopened : {D : Type 0} {g : Ghosts D} → Image → Left D g → Type 0
 StayUnopened image left = SeesSums image left → (db : Database) → Holds image db
-    → (after : Image) → IsLeftBy left after → Holds after db
+    → (after : Image) → IsLeftBy image left after → Holds after db
 
 -- a store that was opened was let go: where no fault has shut it, it shows what the files held, and they hold it then;
 -- and a room that they held is in them with its history, of either version, also where a fault has shut the store
 pub record IsSparedIn {D : Type 0} {g : Ghosts D} (image : Image) (let_go : Held (FileStore D g)) (left : Left D g)
     : Type 0 where
   pub shown : HasCleanDisk (file_state let_go) → IsTrue (file_state let_go).is_open → (db : Database)
-      → Holds image db → ((file_state let_go).now ≡ db) × ((after : Image) → IsLeftBy left after → Holds after db)
-  pub room : (start : Room) (past : History) → HoldsRoom image start past → (after : Image) → IsLeftBy left after
+      → Holds image db → ((file_state let_go).now ≡ db) × ((after : Image) → IsLeftBy image left after → Holds after db)
+  pub room : (start : Room) (past : History) → HoldsRoom image start past → (after : Image) → IsLeftBy image left after
       → ∥ HoldsRoom after start past ∥₁
 
 abbrev pub SparesFound : {M D : Type 0} {g : Ghosts D} → (does : M → Call (Held (FileStore D g)) → M → Type 0)
@@ -205,7 +207,7 @@ ServesFound {M} {D} {Shelf} {g} m left image db roster port count start past bef
     × ((FailsRoom m.does m.takes db read later done × SparesRoom m.does left image read later)
     ⊎ ((shelf last : Shelf) × (taken over : M) × TakesRoom m.does m.takes db read taken (Ok shelf)
     × Listens m.does m.accepts m.fails m.view users port count taken over shelf last done
-    × m.does over (closes (m.store last)) later × GoesOnIn users start past (m.store last) (left later))))
+    × m.does over (closes (m.store last)) later × GoesOnIn image users start past (m.store last) (left later))))
 
 -- `report` over files that held a room: the roster or the room could not be had, nothing is written, and the room is
 -- spared; or where the report is done, and the disk has returned what was written, it is that of this room, and where
@@ -221,7 +223,7 @@ ReportsFound {M} {D} {Shelf} {g} m left image db roster kind start past before l
     × WritesReport m.view kind users taken last old new done × m.does seen (leaves (m.store last)) later
     × (HasCleanDisk (file_state (m.store last))
     → OnOk done (Appends old new (report_text kind (state_after start past) users))
-    × (IsTrue (file_state (m.store last)).is_open → LeavesRoom (left later) start past)))))
+    × (IsTrue (file_state (m.store last)).is_open → LeavesRoom image (left later) start past)))))
 
 -- `init` over files: it made a room only where they held none, and where they held nothing, they hold the fresh one
 -- then. Else nothing was asked of them, or they were spared
@@ -231,7 +233,7 @@ abbrev pub MakesFound : {M D : Type 0} {g : Ghosts D} → (does : M → Call (He
 MakesFound {M} {D} {g} does left image db owner group before later (Ok done) =
     (over : M) × (closed : Held (FileStore D g)) × does over (closes closed) later
     × (HasCleanDisk (file_state closed) → ((start : Room) (past : History) → ¬ HoldsRoom image start past)
-    × (HoldsNothing image → LeavesRoom (left later) (fresh_room owner group) []))
+    × (HoldsNothing image → LeavesRoom image (left later) (fresh_room owner group) []))
 MakesFound {M} {D} {g} does left image db owner group before later (Err fault) =
     (IsNamesFault owner group fault × (later ≡ before))
     ⊎ ((OpensStore does db before later (Err fault) × SparesRoom does left image before later)

@@ -1,5 +1,5 @@
 -- What a stop in the middle of a call leaves of a store's files.
-use Rattle.std.specs.Prelude.{◌≡◌, ◌⊎◌, ◌∷◌, true, Result, Ok, Err, IsTrue}
+use Rattle.std.specs.Prelude.{◌≡◌, ◌⊎◌, ℕ, List, [], ◌∷◌, true, Result, Ok, Err, IsTrue}
 use Rattle.sqlite_disk.specs.declared.Disk.{Ghosts}
 use Rattle.sqlite_disk.specs.declared.Files.{Files}
 use Rattle.sqlite_disk.specs.declared.fuse.Fuse.{Fuse}
@@ -12,9 +12,10 @@ use Rattle.sqlite.specs.Recovery.{Image}
 use Rattle.sqlite.specs.Effect.{Database}
 use Rattle.sqlite.specs.Held.{Held, AreDatabases, state}
 use Rattle.sqlite.specs.State.{IsLive}
-use Rattle.room_records.specs.Room.{Room}
+use Rattle.room_records.specs.Room.{Room, fresh_room}
 use Rattle.room_records.specs.Shelf.{View, LeavesNew}
 use Rattle.room_tables.specs.Layout.{IsRoomOfVersion2}
+use Rattle.room_tables.specs.Tables.{schema_0}
 use Rattle.room_tables.specs.Rows.{records_of}
 use Rattle.room_wire.specs.Asks.EventModel.{EventModel}
 use Rattle.room_desk.specs.History.{History, changes_rows}
@@ -53,6 +54,11 @@ pub record AnsweredThenLeft {S : Type 0} (view : S → View) (before : S) (event
 abbrev pub HoldsOldOrNew : Image → Room → History → EventModel → Type 0
 HoldsOldOrNew image start past event = ∥ (HoldsRoom image start past
     ⊎ ((changes_rows past event ≡ true) × HoldsRoom image start (event ∷ past))) ∥₁
+
+-- these files hold a fresh room of this owner and group, or a database without a table
+abbrev pub HoldsFreshOrNone : Image → (owner group : List ℕ) → Type 0
+HoldsFreshOrNone image owner group = ∥ (HoldsRoom image (fresh_room owner group) []
+    ⊎ ((db : Database) × Holds image db × (db.schema ≡ schema_0))) ∥₁
 
 -- these files hold a room of version 2 with records like these
 abbrev pub HoldsRoomWith : Image → (Records → Type 0) → Type 0

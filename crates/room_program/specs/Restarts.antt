@@ -1,5 +1,5 @@
 -- From one run to the next, over the files that the one before it left.
-use Rattle.std.specs.Prelude.{◌≡◌, ◌⊎◌, ℕ, zero, suc, List, ◌∷◌, true, Ok}
+use Rattle.std.specs.Prelude.{◌≡◌, ◌⊎◌, List, [], ◌∷◌, true, Ok}
 use Rattle.sqlite.specs.Recovery.{Image}
 use Rattle.room_acl.specs.SubjectModel.{SubjectModel}
 use Rattle.room_records.specs.Room.{Room}
@@ -7,7 +7,7 @@ use Rattle.room_records.specs.Shelf.{View, LeavesNew}
 use Rattle.room_wire.specs.declared.answers.code.Code.TheVariants.{Delay}
 use Rattle.room_wire.specs.Asks.AskOf.{Event, ask_of}
 use Rattle.room_wire.specs.Asks.EventModel.{EventModel}
-use Rattle.room_wire.specs.Messages.MessageModel.{MessageModel}
+use Rattle.room_wire.specs.Messages.MessageModel.{MessageModel, IsMessage}
 use Rattle.room_desk.specs.AnswerModel.{AnswerModel, Refused}
 use Rattle.room_desk.specs.History.{History, answer_to, changes_rows}
 use Rattle.room_desk.specs.Representation.{RepresentsHistory, StandsFor, StandsWith}
@@ -24,36 +24,32 @@ ActsOnce start past event answered after =
 
 -- ---- one run after another
 
--- a history went on by messages of some users
-abbrev pub GoesOnBySome : Room → (past next : History) → Type 0
-GoesOnBySome start past next = (users : List SubjectModel) × GoesOn users start past next
+-- a history went on by messages of these users, and perhaps by one event more that such a message asked, which changes
+-- what is kept: it was under way as a fault shut the store
+abbrev pub GoesOnOrMore : List SubjectModel → Room → (past next : History) → Type 0
+GoesOnOrMore users start past next = (told : History) × GoesOn users start past told
+    × ((next ≡ told) ⊎ ((m : MessageModel) × (event : EventModel) × IsMessage m
+    × (ask_of users m ≡ Ok (Event event)) × (changes_rows told event ≡ true) × (next ≡ event ∷ told)))
 
--- or by those and one event more that such a message asked, which changes what is kept: it was under way as a fault
--- shut the store
-abbrev pub GoesOnOrMore : Room → (past next : History) → Type 0
-GoesOnOrMore start past next = (users : List SubjectModel) × (told : History) × GoesOn users start past told
-    × ((next ≡ told) ⊎ ((m : MessageModel) × (event : EventModel) × (ask_of users m ≡ Ok (Event event))
-    × (changes_rows told event ≡ true) × (next ≡ event ∷ told)))
-
--- a room that the files held is in those that were left, and its history went on
-abbrev pub KeepsRoom : (found left : Image) → Type 0
-KeepsRoom found left = (start : Room) (past : History) → HoldsRoom found start past
-    → (next : History) × GoesOnBySome start past next × HoldsRoom left start next
+-- a room that the files held is in those that were left, and its history went on by messages of these users
+abbrev pub KeepsRoom : List SubjectModel → (found left : Image) → Type 0
+KeepsRoom users found left = (start : Room) (past : History) → HoldsRoom found start past
+    → (next : History) × GoesOn users start past next × HoldsRoom left start next
 
 -- the same, where a fault had shut the store
-abbrev pub KeepsRoomOrMore : (found left : Image) → Type 0
-KeepsRoomOrMore found left = (start : Room) (past : History) → HoldsRoom found start past
-    → ∥ ((next : History) × GoesOnOrMore start past next × HoldsRoom left start next) ∥₁
+abbrev pub KeepsRoomOrMore : List SubjectModel → (found left : Image) → Type 0
+KeepsRoomOrMore users found left = (start : Room) (past : History) → HoldsRoom found start past
+    → ∥ ((next : History) × GoesOnOrMore users start past next × HoldsRoom left start next) ∥₁
 
 -- a room that the files held is in those that were left, with the same history
 abbrev pub HoldsStill : (found left : Image) → Type 0
 HoldsStill found left =
     (start : Room) (past : History) → HoldsRoom found start past → ∥ HoldsRoom left start past ∥₁
 
--- one step, and so many more
-abbrev pub Steps : {A : Type 0} → (A → A → Type 0) → ℕ → A → A → Type 0
-Steps step zero from to = step from to
-Steps {A} step (suc more) from to = (mid : A) × step from mid × Steps step more mid to
+-- a step for each of these, one after another
+abbrev pub Steps : {U A : Type 0} → (U → A → A → Type 0) → List U → A → A → Type 0
+Steps step [] from to = to ≡ from
+Steps {U} {A} step (one ∷ more) from to = (mid : A) × step one from mid × Steps step more mid to
 
 -- messages of these users were answered, and then a crash leaves records that stand for the history by their answers,
 -- or for it with one event more that such a message asked, and that are laid out
@@ -61,6 +57,6 @@ abbrev pub AnswersOrMore : {S : Type 0} (view : S → View) → List SubjectMode
 AnswersOrMore view users before after = (start : Room) (past : History) → StandsFor start past (view before)
     → (next : History) × GoesOn users start past next
     × LeavesNew (view after) (λ left. RepresentsHistory start left next
-    ⊎ ((m : MessageModel) × (event : EventModel) × (ask_of users m ≡ Ok (Event event))
+    ⊎ ((m : MessageModel) × (event : EventModel) × IsMessage m × (ask_of users m ≡ Ok (Event event))
     × StandsWith start next event left))
     × (view after).leaves_laid_out

@@ -1,10 +1,11 @@
 -- A history that goes on by the messages of one stream after another.
 use Rattle.std.specs.Prelude.{◌≡◌, ℕ, List, ◌++◌}
+use Rattle.std.specs.List.{AllByRecursion}
 use Rattle.room_acl.specs.SubjectModel.{SubjectModel}
 use Rattle.room_records.specs.Room.{Room}
 use Rattle.room_records.specs.Shelf.{View}
 use Rattle.room_wire.specs.Asks.EventModel.{EventModel}
-use Rattle.room_wire.specs.Messages.MessageModel.{MessageModel}
+use Rattle.room_wire.specs.Messages.MessageModel.{MessageModel, IsMessage}
 use Rattle.room_wire.specs.Serving.Ends.{Serves}
 use Rattle.room_wire.specs.Answers.AnswerModel.{AnswerModel}
 use Rattle.room_desk.specs.History.{History}
@@ -15,6 +16,7 @@ use Rattle.room_program.specs.Calls.{Exchange}
 -- these users' messages are a run from the history to the next, which has their events more
 pub record GoesOn (users : List SubjectModel) (start : Room) (past next : History) : Type 0 where
   pub messages : List MessageModel
+  pub lawful : AllByRecursion IsMessage messages
   pub output : List ℕ
   pub run : IsRun users start past messages output next
   pub events : List EventModel

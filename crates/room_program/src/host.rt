@@ -1,12 +1,12 @@
 //! The machine that the program runs on.
-ghost use Rattle.std.specs.Prelude.{◌≡◌, [], ◌∷◌, false};
+ghost use Rattle.std.specs.Prelude.{◌≡◌, [], ◌∷◌, true};
 ghost use Rattle.std.specs.Net.Addr.{ipv4_octets};
 ghost use Rattle.std.specs.Net.Socket.{v4_ip, v4_port};
 ghost use Rattle.sqlite.specs.WalFiles.{image_at};
 ghost use Rattle.room_program.specs.Machines.Call.{closes, leaves, opens};
 ghost use Rattle.room_program.specs.Found.{ActsOn};
 
-use crate::left::{Left, store_in};
+use crate::left::{Left, closed_off, store_in};
 use crate::listening::{Listener, Server};
 use crate::machine::Machine;
 use room_records::Roster;
@@ -44,9 +44,10 @@ pub struct HostOver<'a, S: Start, D: Disk> {
 
 impl<'a, S: Start, D: Disk> HostOver<'a, S, D> {
     /// The system of this runtime. It opens one store, whose files hold what `start` stands for, and listens for
-    /// nothing yet. The store supposes nothing of a write that a crash cuts.
+    /// nothing yet. Of a write that a crash cuts the store supposes that each byte below the last flushed length is
+    /// the old or the new one, so that most commits flush once.
     pub fn new(rt: &'a HostRuntime, start: S) -> HostOver<'a, S, D>
-        requires { S.Start.is_mixing ≡ false }
+        requires { S.Start.is_mixing ≡ true }
         ensures { result.left ≡ Left.Nothing }
     {
         HostOver {
@@ -90,12 +91,7 @@ fn open<S: Start>(
 fn close<S: Start>(connection: FileConnection<S>) -> Left<FileFrom<S>>
     ensures { ActsOn (image_at S.Start) (closes connection) Left.Nothing result }
 {
-    // What it shows is a database.
-    let _live = connection.schema();
-    match connection.close_files() {
-        Ok(files) => Left::Copied(files),
-        Err((error, store)) => Left::Uncopied(error, store),
-    }
+    closed_off(connection)
 }
 
 /// Takes a store out of its connection, and copies nothing.

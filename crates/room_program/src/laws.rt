@@ -1,6 +1,8 @@
 //! Laws from one run to the next, over the files that the one before it left. Each function here does nothing.
 ghost use Rattle.std.specs.Prelude.{◌≡◌, ◌⊎◌, ℕ, List, ◌∷◌, Option, Result, false, Ok, Err, IsTrue};
 ghost use Rattle.sqlite.specs.WalFiles.{image_at};
+ghost use Rattle.std.specs.List.{AllByRecursion};
+ghost use Rattle.sqlite.specs.Effect.{Database};
 ghost use Rattle.sqlite.specs.Recovery.{Image};
 ghost use Rattle.sqlite.specs.FileStore.{view};
 ghost use Rattle.sqlite.specs.View.{IsClean};
@@ -11,7 +13,7 @@ ghost use Rattle.room_records.specs.Room.{Room};
 ghost use Rattle.room_tables.specs.Layout.{IsRoomOfVersion2};
 ghost use Rattle.room_tables.specs.Rows.{records_of};
 ghost use Rattle.room_wire.specs.Asks.EventModel.{EventModel};
-ghost use Rattle.room_wire.specs.Messages.MessageModel.{MessageModel};
+ghost use Rattle.room_wire.specs.Messages.MessageModel.{MessageModel, IsMessage};
 ghost use Rattle.room_wire.specs.Serving.Outputs.{Outputs};
 ghost use Rattle.room_desk.specs.AnswerModel.{AnswerModel};
 ghost use Rattle.room_desk.specs.History.{History, leaves_no_reply};
@@ -23,11 +25,11 @@ ghost use Rattle.room_program.specs.Files.{Adopted, Made, Takes, TakesRoom, Unma
 ghost use Rattle.room_program.specs.Machines.Call.{closes, leaves};
 ghost use Rattle.room_program.specs.Rooms.{Listens, WritesReport};
 ghost use Rattle.room_words.specs.declared.job.ReportKind.{ReportKind};
-ghost use Rattle.room_program.specs.Streams.{Served};
-ghost use Rattle.room_program.specs.Found.{HoldsRoom, IsOpenedOver, IsLeftBy, MayBeLeft, SeesSums};
+ghost use Rattle.room_program.specs.Streams.{GoesOn, Served};
+ghost use Rattle.room_program.specs.Found.{Holds, HoldsRoom, IsOpenedOver, IsLeftBy, MayBeLeft, SeesSums};
 ghost use Rattle.room_program.specs.Restarts.{ActsOnce, AnswersOrMore};
 ghost use Rattle.room_program.specs.Restarts.{Steps, KeepsRoom, KeepsRoomOrMore, HoldsStill};
-ghost use Rattle.room_program.specs.Restarts.{GoesOnBySome, GoesOnOrMore};
+ghost use Rattle.room_program.specs.Restarts.{GoesOnOrMore};
 
 use crate::host::{FileConnection, Host};
 use crate::left::{Left, store_off, store_under};
@@ -39,25 +41,30 @@ use room_sql::SqlShelf;
 use sqlite::{FileFrom, FileStore, Start};
 use sqlite_trees::store::Store;
 
-/// Restart as often as you like: however many runs follow one another, each over the files that the one before it
-/// left, the room and its history are in them, and the history only went on (`again`). Where a fault shut the store in
-/// some of them, the event that was under way then may have joined it (`in_doubt`). A run of the one kind is one of the
-/// other too (`either`), and so is one that leaves the room as it was (`still`).
+/// Restart as often as you like: however many runs follow one another, each over the files that the one before it left,
+/// the room and its history are in them, and the history only went on, in each run by messages of users of its own
+/// roster (`again`). Where a fault shut the store in some of them, the event that was under way then may have joined it
+/// (`in_doubt`). A run of the one kind is one of the other too (`either`), and so is one that leaves the room as it was
+/// (`still`).
 pub fn a_room_outlives_its_runs()
-    ensures again { (more : ℕ) (found left : Image) (start : Room) (past : History) → Steps KeepsRoom more found left
-        → HoldsRoom found start past
-        → (next : History) × Steps (GoesOnBySome start) more past next × HoldsRoom left start next }
-    ensures in_doubt { (more : ℕ) (found left : Image) (start : Room) (past : History) →
-        Steps KeepsRoomOrMore more found left → HoldsRoom found start past
-        → ∥ ((next : History) × Steps (GoesOnOrMore start) more past next × HoldsRoom left start next) ∥₁ }
-    ensures either { (found left : Image) → KeepsRoom found left → KeepsRoomOrMore found left }
-    ensures still { (found left : Image) → HoldsStill found left → KeepsRoomOrMore found left }
+    ensures again { (rosters : List (List SubjectModel)) (found left : Image) (start : Room) (past : History) →
+        Steps KeepsRoom rosters found left → HoldsRoom found start past
+        → (next : History) × Steps (λ users past next. GoesOn users start past next) rosters past next
+        × HoldsRoom left start next }
+    ensures in_doubt { (rosters : List (List SubjectModel)) (found left : Image) (start : Room) (past : History) →
+        Steps KeepsRoomOrMore rosters found left → HoldsRoom found start past
+        → ∥ ((next : History) × Steps (λ users past next. GoesOnOrMore users start past next) rosters past next
+        × HoldsRoom left start next) ∥₁ }
+    ensures either { (users : List SubjectModel) (found left : Image) →
+        KeepsRoom users found left → KeepsRoomOrMore users found left }
+    ensures still { (users : List SubjectModel) (found left : Image) →
+        HoldsStill found left → KeepsRoomOrMore users found left }
 {}
 
 /// A run that ends keeps the room: a `serve` that took it and closed it (`serve`), and where a fault had shut its
 /// store, perhaps with one event more (`serve_shut`). A `report`, which lets it go, left it with the same history
 /// (`report`); so did a run that could not take it, whatever the fault, also one in the middle of an upgrade
-/// (`untaken`), and an `init` over it (`init`).
+/// (`untaken`), and an `init` over it (`init`). A database that is no room stays as it was (`no_room`).
 pub fn a_run_that_ends_keeps_the_room<S: Start>()
     ensures serve { (db : List ℕ) (users : List SubjectModel) (port count : ℕ) (read taken over later : _)
         (shelf last : _) (done : Result (Unit {0}) Fault) (left : Image) →
@@ -67,7 +74,8 @@ pub fn a_run_that_ends_keeps_the_room<S: Start>()
         ⟦<Host<'static, S> as Listener>⟧.accepts ⟦<Host<'static, S> as Listener>⟧.fails
         ⟦<CachedShelf<SqlShelf<FileStore<FileFrom<S>>>> as Shelf>⟧.view users port count taken over shelf last done →
         ⟦<Host<'static, S> as Machine<FileConnection<S>>>⟧.does over (closes last.0.conn) later →
-        IsTrue (file_state last.0.conn).is_open → IsLeftBy later.left left → KeepsRoom (image_at S.Start) left }
+        IsTrue (file_state last.0.conn).is_open → IsLeftBy (image_at S.Start) later.left left
+        → KeepsRoom users (image_at S.Start) left }
     ensures serve_shut { (db : List ℕ) (users : List SubjectModel) (port count : ℕ) (read taken over later : _)
         (shelf last : _) (done : Result (Unit {0}) Fault) (left : Image) →
         TakesRoom ⟦<Host<'static, S> as Machine<FileConnection<S>>>⟧.does
@@ -76,7 +84,7 @@ pub fn a_run_that_ends_keeps_the_room<S: Start>()
         ⟦<Host<'static, S> as Listener>⟧.accepts ⟦<Host<'static, S> as Listener>⟧.fails
         ⟦<CachedShelf<SqlShelf<FileStore<FileFrom<S>>>> as Shelf>⟧.view users port count taken over shelf last done →
         ⟦<Host<'static, S> as Machine<FileConnection<S>>>⟧.does over (closes last.0.conn) later →
-        IsLeftBy later.left left → KeepsRoomOrMore (image_at S.Start) left }
+        IsLeftBy (image_at S.Start) later.left left → KeepsRoomOrMore users (image_at S.Start) left }
     ensures report { (db : List ℕ) (kind : ReportKind) (users : List SubjectModel) (read seen later : _)
         (taken last : _) (old new : Option (List ℕ)) (done : Result (Unit {0}) Fault) (left : Image) →
         TakesRoom ⟦<Host<'static, S> as Machine<FileConnection<S>>>⟧.does
@@ -84,25 +92,30 @@ pub fn a_run_that_ends_keeps_the_room<S: Start>()
         WritesReport ⟦<CachedShelf<SqlShelf<FileStore<FileFrom<S>>>> as Shelf>⟧.view
         kind users taken last old new done →
         ⟦<Host<'static, S> as Machine<FileConnection<S>>>⟧.does seen (leaves last.0.conn) later →
-        IsLeftBy later.left left → HoldsStill (image_at S.Start) left }
+        IsLeftBy (image_at S.Start) later.left left → HoldsStill (image_at S.Start) left }
     ensures untaken { (db : List ℕ) (read later : _) (why : Fault) (left : Image) →
         TakesRoom ⟦<Host<'static, S> as Machine<FileConnection<S>>>⟧.does
         (λ opened taken. Takes ⟦<FileStore<FileFrom<S>> as Store>⟧ opened taken) db read later (Err why) →
-        read.left ≡ Left.Nothing → SeesSums (image_at S.Start) later.left → IsLeftBy later.left left
+        read.left ≡ Left.Nothing → SeesSums (image_at S.Start) later.left → IsLeftBy (image_at S.Start) later.left left
         → HoldsStill (image_at S.Start) left }
+    ensures no_room { (db : List ℕ) (read later : _) (left : Image) (held : Database) →
+        TakesRoom ⟦<Host<'static, S> as Machine<FileConnection<S>>>⟧.does
+        (λ opened taken. Takes ⟦<FileStore<FileFrom<S>> as Store>⟧ opened taken)
+        db read later (Err Fault.NotARoom) → read.left ≡ Left.Nothing
+        → IsLeftBy (image_at S.Start) later.left left → Holds (image_at S.Start) held → Holds left held }
     ensures init { (db owner group : List ℕ) (before later : _) (why : Fault) (left : Image) →
         InitEnds ⟦<Host<'static, S> as Machine<FileConnection<S>>>⟧.does
         (Made ⟦<FileStore<FileFrom<S>> as Store>⟧ owner group)
         (Unmade ⟦<FileStore<FileFrom<S>> as Store>⟧ owner group) db owner group before later (Err why) →
-        before.left ≡ Left.Nothing → SeesSums (image_at S.Start) later.left → IsLeftBy later.left left
-        → HoldsStill (image_at S.Start) left }
+        before.left ≡ Left.Nothing → SeesSums (image_at S.Start) later.left
+        → IsLeftBy (image_at S.Start) later.left left → HoldsStill (image_at S.Start) left }
 {}
 
 /// And so does one that stops between two connections, with the shelf `last`, while its store is there: a crash may
 /// leave the image `left` of its files. Each of the `count` connections before was served as `Desk::serve` promises
-/// (`there`: the invariant of `serve_listener`, whose own clause a run that stops never reaches). So does a `report`
-/// (`report`). Once a fault has shut the store, it keeps the room, or the room with one event more (`shut`). The store
-/// has returned what was written, also as it is taken out of its connection.
+/// (`there`: the invariant of `serve_listener`, whose own clause a run that stops never reaches). Once a fault has shut
+/// the store, it keeps the room, or the room with one event more (`shut`); of a `report` with its history, whether one
+/// has or not (`report`). The store has returned what was written, also as it is taken out of its connection.
 pub fn a_run_that_stops_keeps_the_room<S: Start>(
     last: CachedShelf<SqlShelf<FileStore<FileFrom<S>>>>,
 ) -> FileStore<FileFrom<S>>
@@ -111,18 +124,17 @@ pub fn a_run_that_stops_keeps_the_room<S: Start>(
         ServesEach ⟦<Host<'static, S> as Listener>⟧.accepts
         (Served ⟦<CachedShelf<SqlShelf<FileStore<FileFrom<S>>>> as Shelf>⟧.view users) count bound over taken last →
         IsClean (view result) → IsTrue (file_state last.0.conn).is_open →
-        MayBeLeft last.0.conn.store left → KeepsRoom (image_at S.Start) left }
+        MayBeLeft last.0.conn.store left → KeepsRoom users (image_at S.Start) left }
     ensures report { (opened : _) (taken : _) (kind : ReportKind) (users : List SubjectModel)
         (old new : Option (List ℕ)) (done : Result (Unit {0}) Fault) (left : Image) →
         IsOpenedOver (image_at S.Start) opened → Adopted ⟦<FileStore<FileFrom<S>> as Store>⟧ opened taken →
         WritesReport ⟦<CachedShelf<SqlShelf<FileStore<FileFrom<S>>>> as Shelf>⟧.view
         kind users taken last old new done →
-        IsClean (view result) → IsTrue (file_state last.0.conn).is_open →
-        MayBeLeft last.0.conn.store left → KeepsRoom (image_at S.Start) left }
+        IsClean (view result) → MayBeLeft last.0.conn.store left → HoldsStill (image_at S.Start) left }
     ensures shut { (opened : _) (taken : _) (users : List SubjectModel) (left : Image) →
         IsOpenedOver (image_at S.Start) opened → Adopted ⟦<FileStore<FileFrom<S>> as Store>⟧ opened taken →
         AnswersOrMore ⟦<CachedShelf<SqlShelf<FileStore<FileFrom<S>>>> as Shelf>⟧.view users taken last →
-        IsClean (view result) → MayBeLeft last.0.conn.store left → KeepsRoomOrMore (image_at S.Start) left }
+        IsClean (view result) → MayBeLeft last.0.conn.store left → KeepsRoomOrMore users (image_at S.Start) left }
 {
     store_under(last)
 }
@@ -133,7 +145,7 @@ pub fn a_run_that_stops_keeps_the_room<S: Start>(
 pub fn connections_leave_what_was_answered<L: Listener, S: Shelf>()
     ensures { (users : List SubjectModel) (n : ℕ) (old last : L) (before between after : S)
         (ms : List MessageModel) (out : List ℕ) →
-        ServesEach L.accepts (Served S.view users) n old last before between →
+        ServesEach L.accepts (Served S.view users) n old last before between → AllByRecursion IsMessage ms →
         Outputs (MayAnswer S.view users) between ms out after → (S.view before).is_available →
         (S.view after).is_intact → AnswersOrMore S.view users before after }
 {}
@@ -151,7 +163,7 @@ pub fn the_next_run_finds_what_this_one_saw<S: Start, T: Start>(
         (file_state opened.now).now ≡ (file_state was.conn).now }
     ensures closed { (over later : _) →
         ⟦<Host<'static, S> as Machine<FileConnection<S>>>⟧.does over (closes was.conn) later →
-        IsTrue (file_state was.conn).is_open → IsLeftBy later.left (image_at T.Start) →
+        IsTrue (file_state was.conn).is_open → IsLeftBy (image_at S.Start) later.left (image_at T.Start) →
         IsOpenedOver (image_at T.Start) opened.now → HasCleanDisk (file_state opened.now) →
         (file_state opened.now).now ≡ (file_state was.conn).now }
     ensures shut { IsClean (view result)

@@ -1,5 +1,6 @@
 //! What is left of the store that a run opened.
 ghost use Rattle.std.specs.Prelude.{◌≡◌};
+ghost use Rattle.room_program.specs.Found.{Closes};
 ghost use Rattle.room_program.specs.Halts.{IsTakenOut};
 
 use crate::halts::FileShelf;
@@ -70,4 +71,16 @@ pub(crate) fn store_under<D: Disk + Drop>(shelf: FileShelf<D>) -> FileStore<D>
     ensures { IsTakenOut ⟦<FileStore<D> as Store>⟧ shelf.0.conn result }
 {
     store_off(shelf.into_inner())
+}
+
+/// Closes a store, so that its log is copied into the database file.
+pub(crate) fn closed_off<D: Disk + Drop>(connection: Connection<FileStore<D>>) -> Left<D>
+    ensures { Closes connection result }
+{
+    // What it shows is a database.
+    let _live = connection.schema();
+    match connection.close_files() {
+        Ok(files) => Left::Copied(files),
+        Err((error, store)) => Left::Uncopied(error, store),
+    }
 }

@@ -40,4 +40,4 @@ pub use machine::Machine;
 pub use network::serve_listener;
 pub use room_words::{Job, ReportKind, WordsFault, read_words};
 pub use running::{run_machine, run_program};
-pub use sqlite::{Start, Wary};
+pub use sqlite::{Start, Unknown, Wary};

@@ -72,8 +72,13 @@ impl Listener for TcpListener {
     fn serve_next<V: Server>(&mut self, server: &mut V, roster: &Roster) -> io::Result<()> {
         let stream = accept(self)?;
         let end = server.serve_connection(roster, &mut &stream, &mut &stream);
-        if end.why == Why::Closed || end.why == Why::BadMessage {
-            finish(&stream);
+        match end.why {
+            Why::BadMessage => finish(&stream),
+            // Its peer said that it sends no more: nothing is waited for, and the next connection is taken.
+            Why::Closed => {
+                let _ = stream.shutdown(Shutdown::Write);
+            }
+            _ => {}
         }
         Ok(())
     }

@@ -288,8 +288,9 @@ pub fn run_machine<
 /// done or help was shown, 1 after a fault, whose line goes to `errors`, 2 where the words are no
 /// row of the command table. Memory is taken from `alloc`.
 ///
-/// It holds for any `S`, which stands for what the files of the store held as they were opened; `main` passes `Wary`,
-/// which supposes nothing of a write that a crash cuts. What the run does to these files it says by the words
+/// It holds for any `S`, which stands for what the files of the store held as they were opened; `main` passes
+/// `Unknown`, which supposes of a write that a crash cuts that each byte is the old or the new one, as `Host` asks.
+/// What the run does to these files it says by the words
 /// (`files`). `serve`: where they held a room whose rows stand for a history, they stand then for that history followed
 /// by events that messages of users of the roster ask, and so do those in the files once the store is closed. `report`
 /// writes the report of the room of that history. `init` makes a room only where there was none, and where there was no

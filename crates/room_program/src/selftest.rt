@@ -1,6 +1,6 @@
 //! Trying a room in memory over sockets to itself.
-ghost use Rattle.std.specs.Prelude.{IfErr};
-ghost use Rattle.room_program.specs.Ends.{AcceptsTwo, IsAnswered, IsSelftestFault, SelftestEnds, Talks};
+ghost use Rattle.std.specs.Prelude.{◌≡◌, ◌↔◌, IfErr, IsTrue};
+ghost use Rattle.room_program.specs.Ends.{AcceptsTwo, IsAnswered, IsSelftestFault, SelftestEnds, Talks, due_answers};
 
 use crate::fault::Fault;
 use crate::listening::Listener;
@@ -53,12 +53,19 @@ fn desk(alloc: Global) -> Result<Desk<MemShelf>, Fault>
     }
 }
 
+/// Whether these are the answers that are due.
+fn is_due(answers: &[u8]) -> bool
+    ensures { IsTrue result ↔ (answers.now ≡ due_answers) }
+{
+    answers == ANSWERS.as_bytes()
+}
+
 /// Whether the connection made last was answered so, and no more.
 fn is_answered<C, M: Machine<C> + Listener>(machine: &mut M) -> Result<(), Fault>
     ensures { IsAnswered M.does machine.old machine.new result }
 {
     match machine.hear() {
-        Ok(answers) if answers.as_slice() == ANSWERS.as_bytes() => Ok(()),
+        Ok(answers) if is_due(answers.as_slice()) => Ok(()),
         _ => Err(Fault::SelftestFailed),
     }
 }

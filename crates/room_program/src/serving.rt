@@ -14,7 +14,18 @@ use room_desk::Desk;
 use room_records::{Roster, Shelf};
 use room_sql::SqlShelf;
 use sqlite::{Alter, Connection};
-use std::alloc::Global;
+use std::alloc::{AllocError, Global};
+
+/// The bytes of a block that is larger than what any request takes at once.
+const KEPT_BYTES: usize = 4 << 20;
+
+/// Takes a block and frees it, so that the C library keeps what requests free: of glibc, a heap's end goes back to the
+/// system only where it is twice the largest block that was freed (mallopt(3)), and a block below that size is no
+/// mapping of its own. Else each request for a large document waits for pages that the one before gave back.
+fn keep_freed_memory(alloc: Global) {
+    let block: Result<Vec<u8>, AllocError> = Vec::with_capacity(alloc, KEPT_BYTES);
+    drop(block);
+}
 
 /// Serves `count` connections over a desk.
 fn serve_all<R: Shelf, L: Listener>(
@@ -60,6 +71,7 @@ fn listen_over<C, R: Shelf, M: Machine<C> + Listener>(
     ensures { Listens M.does M.accepts M.fails R.view roster.now
         port count machine.old machine.new shelf result.1 result.0 }
 {
+    keep_freed_memory(alloc);
     let mut desk = Desk::new(alloc, shelf);
     let done = listen(machine, &mut desk, roster, port, count);
     (done, desk.into_shelf())

@@ -4,7 +4,10 @@ use Rattle.room_program.proofs.host.open.Goals as goal
 
 -- what is opened is a store over what the files held
 pub returns-in-Ok : goal.returns-in-Ok
-returns-in-Ok g c = (λ clean. (c.in-Ok.ensures.opened clean, c.in-Ok.ensures.found clean), refl)
+returns-in-Ok g c = (
+  λ clean. (c.in-Ok.ensures.opened clean, c.in-Ok.ensures.found clean, c.in-Ok.ensures.sums clean),
+  refl,
+)
 
 -- and what is left of them is known, as they were just opened
 pub returns-in-Err-default-Some : goal.returns-in-Err-default-Some

@@ -2,7 +2,8 @@ use Rattle.std.proofs.Common.{◌≡◌, inl, refl}
 use Rattle.sqlite.specs.WalFiles.{image_at}
 use Rattle.room_program.specs.Calls.{IsUnknown}
 use Rattle.room_program.specs.Found.{ActsOn}
-use Rattle.room_program.proofs.Restarts.{served_run, served_shut, reported_run, untaken_run, unmade_run}
+use Rattle.room_program.proofs.Restarts.{served_run, served_shut, reported_run, untaken_run, no_room_run}
+use Rattle.room_program.proofs.Restarts.{unmade_run}
 use Rattle.room_program.proofs.laws.a_run_that_ends_keeps_the_room.Goals as goal
 
 pub returns-clause-serve : goal.returns-clause-serve
@@ -23,12 +24,11 @@ returns-clause-serve_shut g c db users port count read taken over later shelf la
     db users port count read taken over later shelf last done left room listens closed at
 
 pub returns-clause-report : goal.returns-clause-report
-returns-clause-report g c db kind users read seen later taken last old new done left room writes gone at start past
-    held =
+returns-clause-report g c db kind users read seen later taken last old new done left room writes gone at =
     reported_run _ (image_at g.S.Start)
     (λ old call new. ActsOn (image_at g.S.Start) call old.left new.left)
     (λ host. host.left) (λ file. inl refl) (λ old new call did. did)
-    db kind users read seen later taken last old new done left room writes gone at start past held
+    db kind users read seen later taken last old new done left room writes gone at
 
 pub returns-clause-untaken : goal.returns-clause-untaken
 returns-clause-untaken g c db read later why left took none sees at =
@@ -36,6 +36,13 @@ returns-clause-untaken g c db read later why left took none sees at =
     (λ old call new. ActsOn (image_at g.S.Start) call old.left new.left)
     (λ host. host.left) (λ file. inl refl) (λ old new call did. did)
     db read later why left took none sees at
+
+pub returns-clause-no_room : goal.returns-clause-no_room
+returns-clause-no_room g c db read later left held took none at holds =
+    no_room_run _ (image_at g.S.Start)
+    (λ old call new. ActsOn (image_at g.S.Start) call old.left new.left)
+    (λ host. host.left) (λ file. inl refl) (λ old new call did. did)
+    db read later left held took none at holds
 
 pub returns-clause-init : goal.returns-clause-init
 returns-clause-init g c db owner group before later why left ends none sees at =

@@ -1,7 +1,7 @@
 use Rattle.std.proofs.Common.{◌≡◌, inl, refl}
 use Rattle.sqlite.specs.WalFiles.{image_at}
 use Rattle.room_program.proofs.Found.{stopped_holds, was_sound}
-use Rattle.room_program.proofs.Restarts.{keeps_room, keeps_room_or_more, by_messages, by_report}
+use Rattle.room_program.proofs.Restarts.{keeps_room, keeps_room_or_more, report_still}
 use Rattle.room_program.proofs.Streams.{serves_each}
 use Rattle.room_program.proofs.laws.a_run_that_stops_keeps_the_room.Goals as goal
 
@@ -10,17 +10,15 @@ returns-clause-there g c opened taken users count bound over left is adopted eac
     let out = c.store_under.ensures in
     let clean = was_sound _ c.args.last.0.conn _ out sure in
     keeps_room _ (image_at g.S.Start) left opened taken c.args.last users is adopted clean
-    (by_messages _ users _ _ (serves_each _ users _ (λ old new. new.left ≡ old.left) bound over taken count over _ each)
-    clean) is_open
+    ((serves_each _ users _ (λ old new. new.left ≡ old.left) bound over taken count over _ each).run clean) is_open
     (stopped_holds _ (λ file. inl refl) c.args.last.0 left out.live is_open (out.was_numbered sure) may)
 
 pub returns-clause-report : goal.returns-clause-report
-returns-clause-report g c opened taken kind users old new done left is adopted writes sure is_open may =
+returns-clause-report g c opened taken kind users old new done left is adopted writes sure may =
     let out = c.store_under.ensures in
-    let clean = was_sound _ c.args.last.0.conn _ out sure in
-    keeps_room _ (image_at g.S.Start) left opened taken c.args.last users is adopted clean
-    (by_report _ kind users _ _ old new done writes) is_open
-    (stopped_holds _ (λ file. inl refl) c.args.last.0 left out.live is_open (out.was_numbered sure) may)
+    report_still _ (image_at g.S.Start) left opened taken c.args.last is adopted (λ file. inl refl) kind users old new
+    done writes (was_sound _ c.args.last.0.conn _ out sure) c.args.last.0.conn.store (λ trees it. it)
+    (out.was_numbered sure) may
 
 pub returns-clause-shut : goal.returns-clause-shut
 returns-clause-shut g c opened taken users left is adopted answers sure may =

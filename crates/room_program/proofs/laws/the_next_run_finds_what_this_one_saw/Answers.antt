@@ -14,7 +14,8 @@ returns-clause-stop g c is_open sure may is there =
 pub returns-clause-closed : goal.returns-clause-closed
 returns-clause-closed g c over later closed is_open at is there =
     found_database _ (image_at g.T.Start) _
-    (closed_holds _ (λ file. inl refl) c.args.was.conn later.left (image_at g.T.Start) closed is_open
+    (closed_holds _ (λ file. inl refl) c.args.was.conn later.left (image_at g.S.Start) (image_at g.T.Start) closed
+    is_open
     (c.args.was.rests is_open) at)
     c.args.opened.now is there
 
