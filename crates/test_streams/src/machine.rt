@@ -36,6 +36,8 @@ pub struct MemoryMachine<'a> {
     last: usize,
     /// Instead of a close the machine stops: the files lose what was not flushed.
     pub stops: bool,
+    /// The last byte that is heard is another.
+    pub mishears: bool,
 }
 
 impl<'a> MemoryMachine<'a> {
@@ -51,6 +53,7 @@ impl<'a> MemoryMachine<'a> {
             answers: Vec::new(alloc),
             last: 0,
             stops: false,
+            mishears: false,
         }
     }
 
@@ -166,7 +169,11 @@ impl<'a> Machine<FileConnection> for MemoryMachine<'a> {
 
     fn hear(&mut self) -> io::Result<Vec<u8>> {
         let from = self.last.min(self.answers.len());
-        Ok(self.answers[from..].to_vec(self.alloc)?)
+        let mut heard = self.answers[from..].to_vec(self.alloc)?;
+        if self.mishears && heard.pop().is_some() {
+            heard.push(b'?')?;
+        }
+        Ok(heard)
     }
 }
 

@@ -183,6 +183,16 @@ fn a_selftest_that_hears_another_answer(rt: HostRuntime) -> Result<(), Fail> {
     runs(alloc, &mut machine, &["selftest"], failed)
 }
 
+/// An answer of the same length is another where one byte is.
+#[test]
+fn a_selftest_that_hears_another_byte(rt: HostRuntime) -> Result<(), Fail> {
+    let alloc = rt.alloc();
+    let mut machine = MemoryMachine::new(alloc, USERS);
+    machine.mishears = true;
+    let failed = Err("fileroom: selftest failed\n");
+    runs(alloc, &mut machine, &["selftest"], failed)
+}
+
 /// The machine stops after a request was answered, and the answer is lost; over what the stop left the request is sent
 /// again, and has acted once.
 #[test]

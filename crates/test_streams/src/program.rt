@@ -1,6 +1,6 @@
 //! Runs of the program over streams in memory.
 use crate::words::words_of;
-use room_program::{Host, Wary, run_program};
+use room_program::{Host, Unknown, run_program};
 use std::io::{Read, Write};
 use std::test::Fail;
 use test_support::{ANSWER, BAD_HTTP, BoundedWriter, Full, Pieces, QUESTION, must};
@@ -14,7 +14,7 @@ fn ended<R: Read, W: Write, E: Write>(
     errors: &mut E,
 ) -> Result<u8, Fail> {
     let words = words_of(rt.alloc(), texts)?;
-    let mut host = Host::new(rt, Wary);
+    let mut host = Host::new(rt, Unknown);
     Ok(run_program(
         rt.alloc(),
         &mut host,
