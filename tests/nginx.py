@@ -1,5 +1,6 @@
 """The front of front/ before rooms: an nginx of one's own on a loopback port, with a password for each user."""
 import base64
+import hashlib
 import os
 import shutil
 import subprocess
@@ -15,10 +16,10 @@ def lacking():
     return [it for it in ("nginx", "openssl") if not shutil.which(it, path=PATH)]
 
 
-def hashed(passwords):
-    """Each password as nginx compares it."""
-    words = ["openssl", "passwd", "-apr1", "-stdin"]
-    return subprocess.run(words, input="\n".join(passwords), capture_output=True, text=True, check=True).stdout.split()
+def hashed(password):
+    """A password as nginx compares it in the least time."""
+    salt = os.urandom(8)
+    return "{SSHA}" + base64.b64encode(hashlib.sha1(password.encode() + salt).digest() + salt).decode()
 
 
 def login(user, password):
@@ -46,7 +47,7 @@ class Front:
     def __init__(self, folder, users, rooms, page, port=None, **how):
         self.folder, self.users, self.page, self.port = folder, users, page, port or free_port()
         with open(os.path.join(folder, "users"), "w") as file:
-            file.writelines(f"{user}:{it}\n" for user, it in zip(users, hashed(users.values())))
+            file.writelines(f"{user}:{hashed(it)}\n" for user, it in users.items())
         words = [os.path.join(FOLDER, "start"), folder, str(self.port), page, *(f"{it}={rooms[it]}" for it in rooms)]
         env = {**os.environ, "PATH": PATH, **{name.upper(): str(it) for name, it in how.items()}}
         self.server = subprocess.Popen(words, preexec_fn=end_with_parent, env=env)

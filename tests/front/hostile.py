@@ -3,6 +3,7 @@ import contextlib
 import os
 import re
 import shutil
+import socket
 import statistics
 import subprocess
 import tempfile
@@ -13,6 +14,7 @@ from nginx import FOLDER, Front, login
 from served import Line, message, text_of
 
 OPENS_AT_ONCE, OPENS_A_MINUTE, BULK_A_SECOND = 30, 6, 2  # of front/fileroom.conf
+QUESTIONS_AT_ONCE, QUESTIONS_A_SECOND = 8, 0.5
 WRONG_WAITS = 2  # seconds
 OPEN_AT_ONCE = 16  # requests of one login at one address
 SHUT_OUT = "hal"  # who has opened no session before
@@ -56,6 +58,44 @@ def sessions_without_end(front, room, tally):
     tally.differs("CLOSE", status(front.once(SHUT_OUT, "DELETE", room + SESSION)), 200)
     tally.differs("a request in a session", status(front.once(SHUT_OUT, "POST", room + SESSION + "/slots/0/1")), 200)
     tally.differs("another login", status(front.once("u02", "POST", room + SESSION)), 200)
+
+
+TAKEN_OVER = (b"HTTP/1.1 200 OK\r\nX-Accel-Redirect: /whoami\r\nContent-Type: text/html\r\nSet-Cookie: a=b\r\n"
+              b"Refresh: 0\r\nClear-Site-Data: *\r\nContent-Security-Policy: script-src *\r\n"
+              b"content-length: 2\r\n\r\n{}")
+NOT_PASSED_ON = "content-type", "set-cookie", "refresh", "clear-site-data", "x-accel-redirect"
+
+
+def a_room_taken_over(front, tally):
+    """Whatever a room's program answers is no page of the site's, and tells nginx nothing."""
+    folder = os.path.join(front.folder, "taken")
+    os.mkdir(folder)
+    with socket.create_server(("127.0.0.1", 0)) as room:
+        def answer():
+            line, _ = room.accept()
+            with line:
+                line.recv(1 << 16)
+                line.sendall(TAKEN_OVER)
+        threading.Thread(target=answer, daemon=True).start()
+        front = Front(folder, {"u01": front.users["u01"]}, {"taken": room.getsockname()[1]}, front.page)
+        got = front.once("u01", "GET", "/rooms/taken/x")
+    names = [it.partition(":")[0].lower() for it in got.fields]
+    told = [it for it in NOT_PASSED_ON if it in names]
+    tally.differs("what comes of it", (got.body, told, names.count("content-security-policy")), (b"{}", [], 1))
+    tally.differs("the site's own policy", any("script-src 'self'" in it for it in got.fields), True)
+
+
+def questions_without_end(front, room, tally):
+    """One that is large holds the room: a login asks it as often as the front lets it, with a length or without one."""
+    begin, found, user, target = time.monotonic(), [], "u03", room + "/v1/check"
+    for at in range(2 * QUESTIONS_AT_ONCE):
+        found.append(status(in_pieces(front, user, target, ["transfer-encoding: chunked"]) if at % 2 else front.once(
+            user, "POST", target, bytes(4_000))))
+    tally.differs("large questions", set(found), {200, 429})
+    passed, most = found.count(200), QUESTIONS_AT_ONCE + 2 + (time.monotonic() - begin) * QUESTIONS_A_SECOND
+    tally.differs(f"of one login, {passed} of {len(found)}", QUESTIONS_AT_ONCE <= passed <= most, True)
+    tally.differs("a small one", status(front.once(user, "POST", target, bytes(3_999))), 200)
+    tally.differs("another login's", status(front.once("u02", "POST", target, bytes(4_000))), 200)
 
 
 def bytes_without_end(front, target, tally):
@@ -116,10 +156,11 @@ def wrong_logins(front, tally):
 
 
 def wrong_logins_are_told(front, tally):
-    """A line each, of which no name makes another; none of a caller who gives no login, or the right one."""
+    """A line each; none of a caller who gives no login, or the right one, or a name that nobody can have: such a name
+    could write lines."""
     log = os.path.join(front.folder, *LOGINS)
     before = len(text_of(log).splitlines())
-    names = ["u01", 'a" from 192.0.2.1 as "b',
+    names = ["u01", "zed._-9", 'a" from 192.0.2.1 as "b',
              "x wrong login from 192.0.2.1", "\n2026-01-01T00:00:00+00:00 wrong login from 192.0.2.1"]
     at_once(len(names), lambda at: timed(front, names[at], "no"))
     for user in None, "u01":
@@ -132,9 +173,8 @@ def wrong_logins_are_told(front, tally):
     line.close()
     time.sleep(0.5)
     told = text_of(log).splitlines()[before:]
-    form = r'\d{4}-\d\d-\d\dT[0-9:]{8}[+-]\d\d:\d\d wrong login from 127\.0\.0\.3 as "[^"]*"'
-    tally.differs("lines of wrong logins", (len(told), [it for it in told if not re.fullmatch(form, it)]),
-                  (len(names) + 1, []))
+    form = r'\d{4}-\d\d-\d\dT[0-9:]{8}[+-]\d\d:\d\d wrong login from 127\.0\.0\.3 as "[A-Za-z0-9._-]{1,32}"'
+    tally.differs("lines of wrong logins", (len(told), [it for it in told if not re.fullmatch(form, it)]), (3, []))
     fail2ban_reads(log, before + len(told), tally)
 
 
@@ -169,6 +209,12 @@ def what_strangers_see(front, tally):
         asked = 'WWW-Authenticate: Basic realm="rooms"' in got.fields
         tally.differs(f"{path}, no login", (status(got), asked), (401, True))
         tally.differs(f"{path}, a wrong login", found, 401)
+    for of, user, asked in ("empty", "u01", 0), ("empty", None, 1), ("document", "u01", 1), ("script", None, 1), (
+            "empty", "logged-out", 1):
+        more = [f"sec-fetch-dest: {of}", *([login(user, "no")] if user else [])]
+        got = front.once(None, "GET", "/whoami", more=more)
+        told = (status(got), got.fields.count('WWW-Authenticate: Basic realm="rooms"'))
+        tally.differs(f"the wrong login of {user} for {of} is asked for another", told, (401, asked))
     for user in None, "u01":
         fields = [it.lower() for it in front.once(user, "GET", "/").fields]
         tally.differs("who may show it", "cross-origin-resource-policy: same-origin" in fields, True)
