@@ -1,20 +1,28 @@
 """`fileroom-admin` below a root of its own: each change whole or not at all, also where it stops at any step, and the
 next call at one of its own; and `check` tells each thing that is put wrong.
 
-What stands for systemctl, nft and runuser writes down what it is asked; nginx looks at the very files, moved; program
+What stands for systemctl, nft and setpriv writes down what it is asked; nginx looks at the very files, moved; program
 and openssl are the machine's.
 """
+import base64
 import contextlib
+import ctypes
+import hashlib
 import io
 import json
 import os
+import select
 import shutil
+import socket
 import subprocess
 import sys
+import threading
 import time
+import zlib
 
 from nginx import PATH, certified
-from served import HERE, PROGRAM, Tally, end_with_parent, started_here, text_of
+from served import (HERE, PROGRAM, Line, Room, Tally, end_with_parent, free_port, session, slot, started_here,
+                    text_of)
 
 SERVICE = os.path.join(HERE, "..", "service")
 ADMIN = os.path.join(SERVICE, "admin", "fileroom-admin")
@@ -27,8 +35,17 @@ http {
     include /etc/nginx/conf.d/*.conf;
 }
 """
+LOGINS = "var/log/nginx/fileroom-logins.log"
+LIBCRYPT = ctypes.CDLL("libcrypt.so.1")
+LIBCRYPT.crypt.restype = ctypes.c_char_p
+FRONT = ["systemctl daemon-reload", "systemctl restart nginx", "systemctl reload-or-restart fileroom-ports",
+         "systemctl enable --now fileroom-try@club.timer fileroom-try@plans.timer",
+         "systemctl try-restart fileroom@club fileroom@plans"]  # what `front` asks of services
+HTTPS = ["systemctl reload-or-restart nginx", "systemctl reload-or-restart fileroom-ports"]  # and `tls`
+IN_GROUP = NGINX.replace("www-data;", "www-data fileroom-front;").replace("768", "4096")
 KILLED, BROKEN, MOST = 9, 3, 1000  # two statuses; steps
-NOTHING = "nothing is wrong that was looked at; rooms: club, more, plans\n"
+EVERY = 1  # of so many steps a call is killed at one
+NOTHING = "no problems found; rooms checked: club, more, plans\n"
 TOLD = 'echo "$(basename "$0") $*" >>"$ROOT/../told"\n'
 STAND_INS = {
     "systemctl": TOLD + r"""if [ "$1" = show ]; then
@@ -36,16 +53,18 @@ STAND_INS = {
     [ "$2 $3" != "--property=MainPID fileroom@plans" ] || mv "$ROOT/../shown-next" "$ROOT/../shown" 2>/dev/null
     exit 0
 fi
+if [ "$1" = is-failed ]; then grep -qsxF -- "failed ${@: -1}" "$ROOT/../broken"; exit; fi
 [ ! -e "$ROOT/../broken" ] || ! grep -qxF -- "${@: -1}" "$ROOT/../broken" """,
-    "runuser": 'shift 3; exec "$@"',
-    "nft": TOLD + 'echo "elements = { 8001, 8002, 8003 }"',
+    "setpriv": 'shift 4; exec "$@"',
+    "nft": TOLD + '[ ! -e "$ROOT/../broken" ] || ! grep -qxF nft "$ROOT/../broken"',
     "room": 'exec "$FILEROOM" --version',
     "fileroom-standby": TOLD + "exit 1",
     # (the same files, with the root's folders in the place of the machine's, and ports that need no root)
     "nginx": """set -e
 at=$(mktemp -d); trap 'rm -r "$at"' EXIT
 cp -r "$ROOT/etc/nginx" "$at/nginx"
-find "$at/nginx" -name '*.conf' -exec sed -i "s,/etc/nginx,$at/nginx,g; s,/var/log/nginx,$at,; /^user /d" {} +
+find "$at/nginx" -name '*.conf' -exec sed -i "s,/etc/nginx,$at/nginx,g; s,/var/log/nginx,$at,; /^user /d
+    s,/var/log/fileroom,$at," {} +
 find "$at/nginx" -name '*.conf' -exec sed -i "s,listen 443,listen 20443,; s,listen 80;,listen 20080;,;
     s,::]:443,::]:20443,; s,::]:80;,::]:20080;," {} +
 PATH=$PATH:/usr/sbin; for it in $(which -a nginx); do [ "$it" = "$0" ] || break; done
@@ -77,6 +96,7 @@ class Machine:
         return os.path.join(self.root, path)
 
     def write(self, path, text):
+        os.makedirs(os.path.dirname(self.at(path)), exist_ok=True)
         with open(self.at(path), "w", encoding="utf-8") as file:
             file.write(text)
 
@@ -119,6 +139,12 @@ class Machine:
         if later is not None:
             self.write("../shown-next", later)
 
+    def has_port(self, uid):
+        """Has a user's program listen at the front's port, in the clear, as the kernel tells it."""
+        self.write("etc/nginx/fileroom/listen.conf", "listen 127.0.0.1:8080 deferred backlog=1024;\n")
+        row = f"{'0' * 31}0:1F90 {'0' * 32}:0000 0A 00000000:00000000 00:00000000 00000000 {uid} 0 1"
+        self.write("proc/net/tcp6", f"  sl  local_address\n   0: {row}\n   1: {row.replace('1F90', '1F91')}\n")
+
     def files(self, logins=None):
         """Each file below the root but the lock and a room's log: its mode and text. Of a login that is none of these a
         name alone, since each hash has another salt."""
@@ -128,7 +154,7 @@ class Machine:
                 path = os.path.join(folder, name)
                 if name.startswith("room.db-") or ".undone-" in name or name == "admin.lock":
                     continue
-                text = "a room" if name == "room.db" else text_of(path)
+                text = "bytes" if name == "room.db" or name.endswith(".tar") else text_of(path)
                 if name == "users" and logins is not None:
                     text = [it if it in logins else it.partition(":")[0] for it in text.splitlines()]
                 found[os.path.relpath(path, self.root)] = oct(os.stat(path).st_mode), text
@@ -155,20 +181,21 @@ def a_room(machine, tally):
     tally.differs("a password of 16 letters", len(word), 16)
     for path, want in (
             ("etc/fileroom/plans.toml", '[users]\nann = ["eng"]\n'), ("etc/fileroom/plans.env", "PORT=8001\n"),
+            ("etc/nginx/nginx.conf", IN_GROUP),
             ("etc/nginx/fileroom/rooms.json", '["plans"]\n'),
             ("etc/nginx/fileroom/rooms/plans.users.json", '{"ann": ["eng"]}\n')):
         tally.differs(path, text_of(machine.at(path)), want)
-    tally.differs("more connections", "worker_connections 4096;" in text_of(machine.at("etc/nginx/nginx.conf")), True)
     tally.differs("the passwords' mode", os.stat(machine.at("etc/nginx/fileroom/users")).st_mode & 0o777, 0o640)
+    tally.differs("the mode of the log", os.stat(machine.at(LOGINS)).st_mode & 0o777, 0o640)
     modes = [oct(os.stat(machine.at(f"etc/nginx/fileroom/{it}")).st_mode & 0o777) for it in ("rooms", "rooms.json")]
     tally.differs("what nginx reads", modes, ["0o755", "0o644"])
     tally.differs("a room", os.path.exists(machine.at("var/lib/fileroom/plans/room.db")), True)
     tally.differs("what the services are asked", machine.told(), asked_for("plans"))
     tally.differs("the login", fits(machine, "ann", word), True)
     tally.differs("once more", machine.does("room", "add", "plans", "ann", "eng")[0], 1)
-    tally.differs("the next port", (machine.does("room", "add", "club", "ann", "eng")[0],
-                                    text_of(machine.at("etc/fileroom/club.env"))), (0, "PORT=8002\n"))
-    for words in (["../x", "ann", "eng"], ["x", "a b", "eng"], ["x", "ann", ""], ["x", "ann", "eng", "--port", "8001"]):
+    tally.differs("another room", (machine.does("room", "add", "club", "ann", "eng")[0],
+                                   text_of(machine.at("etc/fileroom/club.env"))), (0, "PORT=8001\n"))
+    for words in (["../x", "ann", "eng"], ["x", "a b", "eng"], ["x", "ann", ""]):
         before = machine.files()
         status = machine.does("room", "add", *words)[0]
         tally.differs(f"room add {words}", (status, machine.files() == before), (1, True))
@@ -177,8 +204,9 @@ def a_room(machine, tally):
 def asked_for(room):
     """What a new room asks of services."""
     return [f"systemctl {it}" for it in (
-        "daemon-reload", "enable fileroom-ports", "restart fileroom-ports", f"enable --now fileroom@{room}",
-        f"enable --now fileroom-backup@{room}.timer", "reload-or-restart nginx")]
+        "daemon-reload", "enable fileroom-ports", "reload-or-restart fileroom-ports", f"enable --now fileroom@{room}",
+        f"enable --now fileroom-backup@{room}.timer", f"enable --now fileroom-try@{room}.timer",
+        "reload-or-restart nginx")]
 
 
 def undone(asked):
@@ -188,10 +216,26 @@ def undone(asked):
 def fits(machine, user, word):
     """Whether a password is that of the front's line."""
     line = next(it for it in text_of(machine.at("etc/nginx/fileroom/users")).splitlines() if it.startswith(f"{user}:"))
-    _, _, salt, _ = line.split(":", 1)[1].split("$")
-    words = ["openssl", "passwd", "-apr1", "-salt", salt, "-stdin"]
-    done = subprocess.run(words, input=word, capture_output=True, text=True)
-    return f"{user}:{done.stdout.strip()}" == line
+    its_hash = line.partition(":")[2]
+    if its_hash.startswith("{SSHA}"):
+        both = base64.b64decode(its_hash.removeprefix("{SSHA}"))
+        return hashlib.sha1(word.encode() + both[20:]).digest() == both[:20]
+    return LIBCRYPT.crypt(word.encode(), its_hash.encode()).decode() == its_hash
+
+
+def passwords(machine, tally):
+    """One that is given: its bounds, and that it is kept by a slow hash, and one that was drawn by a quick one."""
+    long, given = "x" * 256, 0
+    for typed, want in (("long enough it is\n", "long enough it is"), ("of Windows it is\r\n", "of Windows it is"),
+                        (f"{long}\n", long), ("p\u00e4ssw\u00f6rter\n", "p\u00e4ssw\u00f6rter"), ("short\n", None),
+                        (f"{long}x\n", None), ("\u00e9" * 129, None), ("in two\rparts of it\n", None), ("\n", None)):
+        status, _, faults = machine.does("user", "passwd", "bob", "--stdin", stdin=typed)
+        tally.differs(f"passwd of {typed!r}", (status, faults.count("letters")), (0, 0) if want else (1, 1))
+        given = want or given
+        tally.differs(f"the password after {typed!r}", fits(machine, "bob", given), True)
+    machine.does("user", "passwd", "ann")
+    lines = dict(it.split(":") for it in text_of(machine.at("etc/nginx/fileroom/users")).splitlines())
+    tally.differs("hashes", (lines["bob"][:3], lines["ann"][:6]), ("$y$", "{SSHA}"))
 
 
 def users(machine, tally):
@@ -210,9 +254,7 @@ def users(machine, tally):
     machine.does("user", "groups", "plans", "bob")
     tally.differs("other groups", text_of(roster),
                   '# who is here\n[users]\nann = ["eng"]  # since 2020\n"b.c" = ["eng"]\nbob = []\n')
-    for word, want in ("long enough it is", 0), ("short", 1):
-        status, _, _ = machine.does("user", "passwd", "bob", "--stdin", stdin=f"{word}\n")
-        tally.differs(f"passwd of {word}", (status, fits(machine, "bob", word)), (want, want == 0))
+    passwords(machine, tally)
     tally.differs("the list", machine.does("user", "list", "plans")[1], "plans  ann  eng  login\n"
                   "plans  b.c  eng  no login\nplans  bob  -  login\n")
     machine.told()
@@ -236,6 +278,144 @@ def users(machine, tally):
     tally.differs("a roster of another form", made, '[users]\nann = ["staff"]\n')
 
 
+class Served:
+    """The machine's room plans, at its socket, as systemd-socket-proxyd hands on what comes there."""
+
+    def __init__(self, machine):
+        self.room = Room.__new__(Room)
+        self.room.db = machine.at("var/lib/fileroom/plans/room.db")
+        self.room.roster = machine.at("etc/fileroom/plans.toml")
+        self.room.env, self.room.port, self.numbers = None, free_port(), {}
+        self.meanwhile, self.one_by_one = lambda: None, threading.Lock()  # what happens behind each request
+        self.room.start()
+        os.makedirs(machine.at("run/fileroom"))
+        self.path = machine.at("run/fileroom/plans.sock")
+        self.listener = socket.socket(socket.AF_UNIX)
+        self.listener.bind(self.path)
+        self.listener.listen()
+        threading.Thread(target=self.hand_on, daemon=True).start()
+
+    def hand_on(self):
+        """(One connection after another, as the room takes them.)"""
+        with contextlib.suppress(OSError):
+            while True:
+                line, _ = self.listener.accept()
+                with line, contextlib.suppress(ConnectionError), \
+                        socket.create_connection(("127.0.0.1", self.room.port)) as to:
+                    self.pump(line, to)
+                self.meanwhile()
+
+    @staticmethod
+    def pump(line, to):
+        while True:
+            for one in select.select([line, to], [], [])[0]:
+                data = one.recv(1 << 16)
+                if not data:
+                    return
+                (to if one is line else line).sendall(data)
+
+    def holds(self, user, cmd, path, **more):
+        """What the room answers, asked past the socket."""
+        sid = user.encode().hex().rjust(32, "e")
+        with self.one_by_one:
+            line, self.numbers[user] = Line(self.room.port), self.numbers.get(user, 0) + 1
+            line.ask(session(1, sid, user))
+            told = line.ask(slot(0, self.numbers[user], {"cmd": cmd, "path": path, **more}, user, sid))
+            line.close()
+        return json.loads(told.body)
+
+    def end(self, machine):
+        self.room.kill()
+        self.listener.shutdown(socket.SHUT_RDWR)
+        shutil.rmtree(machine.at("run"))
+
+
+def in_the_way(machine, tally):
+    """Somebody made what is in the place of a trash, and keeps others out of it: it is put aside, and all have one."""
+    saved, room = text_of(machine.at("etc/fileroom/plans.toml")), machine.at("var/lib/fileroom/plans")
+    before = shutil.copytree(room, machine.at("../before"))
+    machine.write("etc/fileroom/plans.toml", '[users]\nann = ["eng"]\nbob = ["eng"]\neve = []\n')
+    own = [{"type": 0, "flag": 0, "mask": 0x1F07FF, "who": "eve"}]
+    everyone = [{"type": 0, "flag": 0, "mask": 0x1F07FF, "who": it} for it in ("OWNER@", "EVERYONE@")]
+    for made in [("CREATE", "/trash")], [("MKDIR", "/trash"), ("CREATE", "/trash/@d"), ("MKDIR", "/trash/@3"),
+                                         ("CREATE", "/trash/@3/bob")]:
+        it = Served(machine)
+        it.holds("ann", "SETLIST", "/", aclflag=0, entries=everyone)
+        for cmd, path in made:
+            it.holds("eve", cmd, path, **({"data": ""} if cmd == "CREATE" else {}))
+        for _, path in reversed(made):
+            it.holds("eve", "SETLIST", path, aclflag=2, entries=own)
+        tally.differs(f"trash, with {len(made)} things in the way", machine.does("trash", "plans"),
+                      (0, "plans: 3 of 3 users have a trash (3 new)\n", ""))
+        owners = {user: it.holds(user, "STAT", path).get("owner") for user, path in (
+            ("ann", "/trash/@d/ann"), ("bob", "/trash/@3/bob"), ("eve", "/trash/@0/eve"))}
+        tally.differs("whose they are", owners, {user: user for user in owners})
+        it.end(machine)
+        shutil.rmtree(room)
+        shutil.copytree(before, room)
+    shutil.rmtree(before)
+    machine.write("etc/fileroom/plans.toml", saved)
+    machine.does("front")
+    machine.told()
+
+
+def trashes(machine, tally):
+    """Each user has a trash that is theirs alone, also one that others made before, or a call left in its middle."""
+    saved, room = text_of(machine.at("etc/fileroom/plans.toml")), machine.at("var/lib/fileroom/plans")
+    before = shutil.copytree(room, machine.at("../before"))
+    machine.write("etc/fileroom/plans.toml", '[users]\nann = ["eng"]\nbob = ["eng"]\neve = []\nkim = []\nlou = []\n')
+    tally.differs("no room", machine.does("trash", "plans"), (1, "", "fileroom-admin: the room is not served\n"))
+    it = Served(machine)
+    of = lambda who, mask=0x1F07FF, flag=3: {"type": 0, "flag": flag, "mask": mask, "who": who}
+    it.holds("ann", "SETLIST", "/", aclflag=1, entries=[of("OWNER@"), of("EVERYONE@")])
+    for path in "/trash", "/trash/bob", "/trash/eve":  # (by somebody who may make folders)
+        it.holds("eve", "MKDIR", path)
+    it.holds("eve", "SETLIST", "/trash/bob", aclflag=2, entries=[of("bob"), of("eve")])
+    it.holds("eve", "CREATE", "/trash/bob/thrown~20260101000000", data="")
+    for path in "/trash/@1", "/trash/@1/kim":
+        it.holds("eve", "MKDIR", path)
+        it.holds("eve", "SETLIST", path, aclflag=2, entries=[of("EVERYONE@")])
+    it.holds("eve", "CHOWN", "/trash/@1/kim", owner="kim", group="kim")
+    it.meanwhile = lambda: [it.holds("eve", "SETLIST", path, aclflag=2, entries=[of("EVERYONE@")])
+                            for path in ("/trash", "/trash/@1", "/trash/bob")]
+    want = {"ann": "/trash/@d/ann", "bob": "/trash/bob", "eve": "/trash/eve", "kim": "/trash/@1/kim",
+            "lou": "/trash/@0/lou"}
+    tally.differs("trash", machine.does("trash", "plans"),
+                  (0, "plans: 5 of 5 users have a trash (5 new)\n", ""))
+    it.meanwhile = lambda: None
+    taken = [it.holds("eve", "RENAME", path, to="/taken")["code"] for path in (want["kim"], "/trash/bob", "/trash/@1")]
+    tally.differs("what somebody takes", taken, [5, 5, 5])
+    owners = {user: it.holds(user, "STAT", path).get("owner") for user, path in want.items()}
+    tally.differs("whose they are", owners, {user: user for user in want})
+    looks = {(user, whose): it.holds(user, "LIST", path)["code"] for user in want for whose, path in want.items()}
+    tally.differs("who looks into whose", looks, {pair: 5 * (len({*pair}) > 1) for pair in looks})
+    makes = [it.holds(user, "MKDIR", f"/trash/of-{user}")["code"] for user in want]
+    tally.differs("who makes more", makes, [0, 5, 5, 5, 5])
+    it.holds("ann", "MKDIR", "/trash/@3")
+    it.holds("ann", "MKDIR", "/trash/@3/zed")
+    machine.write("etc/fileroom/plans.toml", text_of(machine.at("etc/fileroom/plans.toml")) + "zed = []\n")
+    it.room.kill()
+    it.room.start()
+    for entries, flags in (None, 0), ([of("OWNER@"), of("kim", flag=0x43)], 2), ([of("kim")], 1):
+        if entries:  # (a group of that name; and what the folder above may hand down)
+            it.holds("kim", "SETLIST", want["kim"], aclflag=flags, entries=entries)
+        for since in 1, 0:
+            tally.differs("one that was left, or is open, and again", machine.does("trash", "plans"),
+                          (0, f"plans: 6 of 6 users have a trash ({since} new)\n", ""))
+    tally.differs("zed's", it.holds("ann", "LIST", "/trash/@3/zed")["code"], 5)
+    status, said, faults = machine.does("user", "add", "plans", "may", "eng")
+    tally.differs("a new user's", (status, faults, "no trash" in said), (0, "", False))
+    tally.differs("may's", (it.holds("ann", "LIST", "/trash/@7/may")["code"],
+                            it.holds("ann", "LIST", "/trash/@7")["names"]), (5, [["may", "folder"]]))
+    it.end(machine)
+    machine.does("user", "remove", "plans", "may")
+    shutil.rmtree(room)
+    os.rename(before, room)
+    machine.write("etc/fileroom/plans.toml", saved)
+    machine.does("front")
+    machine.told()
+
+
 def faults_undo(machine, tally):
     """What a service, nginx or the room refuses leaves all as it was, and what has read it reads the old again."""
     machine.does("user", "add", "plans", "lou")
@@ -244,8 +424,8 @@ def faults_undo(machine, tally):
     tries = [(it.split()[-1], "room add new ann eng", new) for it in new[2:]]
     for words in "user add plans kim eng", "user groups plans lou eng", "user remove plans lou":
         tries.append(("fileroom@plans", words, ["systemctl try-restart fileroom@plans"]))
-    for words in f"tls {cert} {key}", "front":
-        tries.append(("nginx", words, ["systemctl reload-or-restart nginx"]))
+    tries += [(it.split()[-1], f"tls {cert} {key}", HTTPS) for it in HTTPS]
+    tries += [(it.split()[-1], "front", FRONT) for it in FRONT[1:]]
     for what, words, asked in tries:
         machine.told()
         machine.breaks(what)
@@ -254,7 +434,8 @@ def faults_undo(machine, tally):
         machine.mended()
         tally.differs(f"{words}: {faults}", (status, machine.files() == before), (1, True))
         first = next(at for at, it in enumerate(asked) if it.split()[-1] == what)
-        tally.differs(f"{words}, {what}: asked, and undone", machine.told(), asked[:first + 1] + undone(asked))
+        back = asked[::-1] if words == "front" else undone(asked)  # (a timer that was there stays)
+        tally.differs(f"{words}, {what}: asked, and undone", machine.told(), asked[:first + 1] + back)
     before = machine.files()
     machine.env.update(FILEROOM="false")
     status = machine.does("user", "add", "plans", "kim", "eng")[0]
@@ -269,6 +450,16 @@ def faults_undo(machine, tally):
                                              machine.files() == before), (1, True))
     is_aside(machine, tally, "newer")
     os.remove(machine.at("etc/nginx/conf.d/other.conf"))
+
+
+def a_link_is_no_room(machine, tally):
+    """Who is the rooms' user turns no folder of root's into a room."""
+    victim, link = os.path.join(machine.folder, "victim"), machine.at("var/lib/fileroom/linked")
+    os.mkdir(victim)
+    os.symlink(victim, link)
+    status, _, faults = machine.does("room", "add", "linked", "ann", "eng")
+    tally.differs(f"a link in the place of a room: {faults}", (status, os.listdir(victim)), (1, []))
+    os.remove(link)
 
 
 def is_aside(machine, tally, room):
@@ -309,9 +500,10 @@ def stopped(machine, step, *words, stdin=""):
 
 
 def stops(machine, tally, *words, stdin="", broken=None):
-    """A call that is killed at each of its steps in turn, and the next call at one of its own: after the one behind it
-    all is as before, and no service was asked, or all as after, and then the services were, in their order. Where one
-    of them is broken during the call, its undoing has steps too, and those that were asked have read the old again."""
+    """A call that is killed at its steps in turn, or at one in EVERY, and the next call at one of its own: after the
+    one behind it all is as before, and no service was asked, or all as after, and then the services were, in their
+    order. Where one of them is broken during the call, its undoing has steps too, and those that were asked have read
+    the old again."""
     saved, outcomes = os.path.join(machine.folder, "saved"), set()
     shutil.copytree(machine.root, saved, symlinks=True)
     logins = text_of(machine.at("etc/nginx/fileroom/users")).splitlines()
@@ -319,7 +511,7 @@ def stops(machine, tally, *words, stdin="", broken=None):
     machine.told()
     machine.does(*words, stdin=stdin)
     after, asked = machine.files(logins), machine.told()
-    for at in range(MOST):
+    for at in range(zlib.crc32(" ".join(words).encode()) % EVERY, MOST, EVERY):
         shutil.rmtree(machine.root)
         shutil.copytree(saved, machine.root, symlinks=True)
         machine.breaks(broken or "")
@@ -355,34 +547,34 @@ def written_since(machine, tally):
     tally.differs("what was written by hand", (told[0], text_of(roster)), (0, before + "# by hand\n"))
     of_page = text_of(machine.at("etc/nginx/fileroom/rooms/plans.users.json"))
     tally.differs("the rest is undone", (told[2], "lee" in of_page),
-                  ("fileroom-admin: a change that was stopped is undone\n", False))
+                  ("fileroom-admin: undoing a change that was stopped\n", False))
     machine.does("front")
     machine.does("user", "remove", "plans", "lee")
 
 
 def certificate(machine, tally):
     folder = os.path.join(machine.folder, "tls")
-    cert, key = certified(folder, "DNS:room.example", "DNS:www.room.example", "IP:127.0.0.1")
-    other, its_key = certified(os.path.join(folder, "other"), "IP:127.0.0.1")
+    cert, key = certified(folder, "DNS:room.example", "DNS:www.room.example", "IP:127.0.0.1", "IP:2001:db8::1")
+    other, its_key = certified(os.path.join(folder, "other"), "email:ann@room.example")
     ended, shut = os.path.join(folder, "ended.pem"), os.path.join(folder, "shut.pem")
     for words in ["x509", "-in", cert, "-signkey", key, "-days", "-1", "-out", ended], [
             "pkey", "-in", key, "-aes256", "-passout", "pass:word", "-out", shut]:
         subprocess.run(["openssl", *words], check=True, capture_output=True)
     before = machine.files()
     for words, why in (
-            ((other, its_key), "has no name of a machine"), ((cert, its_key), "is not that of the certificate"),
-            ((ended, key), "the certificate ended"), ((cert, shut), "has a passphrase"), ((key, key), "openssl x509"),
+            ((other, its_key), "has no host name"), ((cert, its_key), "does not match the first certificate"),
+            ((ended, key), "has expired"), ((cert, shut), "has a passphrase"), ((key, key), "openssl x509"),
             ((cert, cert), "no private key"), ((cert, os.path.join(folder, "none")), "no private key")):
         status, _, faults = machine.does("tls", *words)
         tally.differs(f"tls {words}: {faults}", (status, why in faults, machine.files() == before), (1, True, True))
     machine.told()
     status, said, faults = machine.does("tls", cert, key)
-    told = said.startswith("the front listens by https, as room.example www.room.example, until ")
+    told = said.startswith("the front listens by https, as room.example www.room.example 127.0.0.1 [2001:db8::1], ")
     tally.differs(f"tls: {faults}", (status, told), (0, True))
     tally.differs("the key's mode", os.stat(machine.at("etc/nginx/fileroom/tls/key.pem")).st_mode & 0o777, 0o600)
-    tally.differs("the way to https", "server_name room.example www.room.example;" in text_of(
+    tally.differs("the way to https", "server_name room.example www.room.example 127.0.0.1 [2001:db8::1];" in text_of(
         machine.at("etc/nginx/conf.d/fileroom-redirect.conf")), True)
-    tally.differs("nginx reads it", machine.told(), ["systemctl reload-or-restart nginx"])
+    tally.differs("nginx reads it", machine.told(), HTTPS)
     return certified(os.path.join(folder, "next"), "DNS:room.example")
 
 
@@ -398,7 +590,7 @@ def looked_at(machine, tally):
     listed = machine.does("check")
     # (the certificate is of two days)
     tally.differs("check", (listed[0], listed[1].splitlines()[0][:20], len(listed[1].splitlines())),
-                  (1, "the certificate ends", 2))
+                  (1, "the certificate expi", 2))
     key = machine.at("etc/nginx/fileroom/tls/key.pem")
     for days, status in (20, 1), (23, 0):
         words = ["openssl", "req", "-x509", "-key", key, "-days", str(days), "-subj", "/CN=x", "-out", cert]
@@ -409,20 +601,22 @@ def looked_at(machine, tally):
     open_to_many(machine, tally)
     # (what is found, or those that are; and how it comes to be so)
     put_wrong = {
-        "the page has another roster": lambda: machine.write("etc/fileroom/club.toml", "[users]\nann = []\n"),
-        **{f"/{it} is not that of the installed program": lambda it=it: machine.write(it, "# another\n" + text_of(
+        "the page's roster differs": lambda: machine.write("etc/fileroom/club.toml", "[users]\nann = []\n"),
+        **{f"/{it} is not from the installed version": lambda it=it: machine.write(it, "# another\n" + text_of(
             machine.at(it))) for it in ("etc/nginx/fileroom/proxy.conf", "etc/nginx/conf.d/fileroom.conf",
                                         "etc/nginx/modules-enabled/60-fileroom.conf")},
-        "has a login, and is in no roster": lambda: machine.write(
+        "has a login but is in no roster": lambda: machine.write(
             "etc/nginx/fileroom/users", text_of(machine.at("etc/nginx/fileroom/users")) + "zed:x\n"),
-        "in the clear": lambda: machine.write("etc/nginx/fileroom/listen.conf", "listen 8080;\n"),
-        "a change was stopped": lambda: machine.write("etc/fileroom/admin.journal", "{}"),
-        "nginx does not take its files": lambda: machine.write("etc/nginx/conf.d/other.conf", "no such word;\n"),
-        "plans: its place in the front": lambda: machine.write("etc/nginx/fileroom/rooms/plans.conf", ""),
-        ("club: its place in the front", "club has the port of plans", "plans has the port of club"):
-            lambda: machine.write("etc/fileroom/club.env", "PORT=8001\n"),
+        "unencrypted connections": lambda: machine.write("etc/nginx/fileroom/listen.conf", "listen 8080;\n"),
+        "Debian's default site answers": lambda: machine.write("etc/nginx/sites-enabled/default", ""),
+        "of the user with the number 65534 has the front's port": lambda: machine.has_port(65534),
+        "a change was interrupted": lambda: machine.write("etc/fileroom/admin.journal", "{}"),
+        "nginx refuses its configuration": lambda: machine.write("etc/nginx/conf.d/other.conf", "no such word;\n"),
+        "plans: its part of the front": lambda: machine.write("etc/nginx/fileroom/rooms/plans.conf", ""),
+        "club: its part of the front": lambda: machine.write(
+            "etc/nginx/fileroom/queues/club.conf", "#\n" + text_of(machine.at("etc/nginx/fileroom/queues/club.conf"))),
         "No such file or directory": lambda: os.remove(machine.at("etc/nginx/fileroom/users")),
-        "of two versions": lambda: machine.stand_in("room", "echo room 0.0.1"),
+        "different versions": lambda: machine.stand_in("room", "echo room 0.0.1"),
         ("there is no openssl", "there is no openssl"): lambda: machine.lacks("openssl"),
         **{f"there is no {it}": lambda it=it: machine.lacks(it) for it in ("sqlite3", "curl")},
         "has no backup": lambda: shutil.rmtree(machine.at("var/backups/fileroom/club")),
@@ -431,12 +625,18 @@ def looked_at(machine, tally):
         "the front has no backup": lambda: os.rename(  # (as one that was killed leaves it)
             machine.at("var/backups/fileroom-front/2999-01-01.tar.gz"),
             machine.at("var/backups/fileroom-front/.new-x")),
-        **{f"{it} does not run": lambda it=it: machine.breaks(it)
-           for it in ("nginx", "fileroom@plans", "fileroom-backup@plans.timer")},
-        ("club: its place in the front", "reach its port"): lambda: machine.write(
-            "etc/fileroom/club.env", "PORT=8004\n"),
-        "rooms.json names other rooms": lambda: machine.write("etc/nginx/fileroom/rooms.json", "[]\n"),
-        "768": lambda: machine.write("etc/nginx/nginx.conf", NGINX),
+        **{f"{it} is not running": lambda it=it: machine.breaks(it)
+           for it in ("nginx", "fileroom@plans", "fileroom-backup@plans.timer", "fileroom-try@plans.timer")},
+        "plans: the latest backup was not restored as a trial": lambda: machine.breaks(
+            "failed fileroom-try@plans.service"),
+        "club: the latest backup was not restored as a trial": lambda: os.utime(
+            machine.at("var/backups/fileroom/club/2999-01-01T00-00-00Z"), (1e9, 1e9)),
+        "fileroom-proxy@plans.socket is not running": lambda: machine.breaks("fileroom-proxy@plans.socket"),
+        "the rules of fileroom.nft are not active": lambda: machine.breaks("nft"),
+        "rooms.json and /etc/fileroom": lambda: machine.write("etc/nginx/fileroom/rooms.json", "[]\n"),
+        "plans: its file has": lambda: machine.shows(
+            f"fileroom@plans MemoryMax={4 * size_of_room(machine) // 3 - 1}\n"),
+        ("768", "lack the group fileroom-front"): lambda: machine.write("etc/nginx/nginx.conf", NGINX),
     }
     path = machine.env["PATH"]
     for what, task in put_wrong.items():
@@ -453,25 +653,47 @@ def looked_at(machine, tally):
         machine.env.update(PATH=path)
         machine.stand_in("room", STAND_INS["room"])
         machine.mended()
+        machine.shows("")
+
+
+def a_lock_of_roots(machine, tally):
+    """Whoever can read the lock can take it, and all calls wait: so root alone can, also where it was made before."""
+    path = machine.at("etc/fileroom/admin.lock")
+    os.chmod(path, 0o644)
+    machine.does("user", "list")
+    tally.differs("who may have the lock", os.stat(path).st_mode & 0o777, 0o600)
+    os.remove(path)
+    machine.does("user", "list")
+    tally.differs("who may have a new one", os.stat(path).st_mode & 0o777, 0o600)
+
+
+def size_of_room(machine):
+    folder = machine.at("var/lib/fileroom/plans")
+    return sum(os.stat(os.path.join(folder, it)).st_size for it in ("room.db", "room.db-wal"))
 
 
 def open_to_many(machine, tally):
     """Each right that is too many, alone."""
     for path, modes in (
             ("etc/nginx/fileroom/tls/key.pem", (0o640, 0o604)), ("var/lib/fileroom/plans", (0o750, 0o705)),
-            ("etc/nginx/fileroom/users", (0o644, 0o641, 0o660)), ("etc/fileroom/plans.toml", (0o664, 0o646))):
+            ("etc/nginx/fileroom/users", (0o644, 0o641, 0o660)), (LOGINS, (0o644, 0o660)),
+            ("etc/fileroom/plans.toml", (0o664, 0o646))):
         before = os.stat(machine.at(path)).st_mode & 0o777
         for mode in modes:
             os.chmod(machine.at(path), mode)
             found = machine.does("check")[1].splitlines()
             tally.differs(f"{path} of {mode:o}", (found[0], len(found)), (
-                f"{machine.at(path)} is open to too many", 2))
+                f"{machine.at(path)} has permissions that are too open", 2))
         os.chmod(machine.at(path), before)
 
 
 def passed_by(machine, tally):
     """What is near a finding, and is none; and what is just over."""
     now = time.time()
+    for most in -(-4 * size_of_room(machine) // 3), "infinity":
+        machine.shows(f"fileroom@plans MemoryMax={most}\n")
+        tally.differs(f"a file of three quarters of {most}", machine.does("check"), (0, NOTHING, ""))
+    machine.shows("")
     club, front = machine.at("var/backups/fileroom/club"), machine.at("var/backups/fileroom-front/2999-01-01.tar.gz")
     for hours, more, found in (25, [], 0), (27, [], 1), (27, ["--backup-hours", "28"], 0):
         made = time.strftime("%Y-%m-%dT%H-%M-%SZ", time.gmtime(now - hours * 3600))
@@ -533,7 +755,7 @@ def two_versions(machine, tally, top):
         found = machine.does("check", first=[installed])
         shutil.copy2(os.path.join(machine.folder, os.path.basename(name)), path)
         tally.differs(f"another {name}", found[:2], (
-            1, f"not as it was installed with the rest: {name}\n    make install, of one version\n"))
+            1, f"not from the same installation: {name}\n    make install, of one version\n"))
 
 
 def sees(machine, tally, top, what, want):
@@ -561,7 +783,7 @@ def older_process(machine, tally, top):
         machine.shows(*(f"fileroom@plans MainPID={it}\n" for it in (pid, pid if later is None else later)))
         sees(machine, tally, top, what, want)
 
-    told = "plans: its process runs another program than the installed one\n    systemctl restart fileroom@plans"
+    told = "plans: its process does not run the installed program\n    systemctl restart fileroom@plans"
     first = begin()
     looks("a process of what is installed", first.pid)
     install(machine, tally, top, other)
@@ -584,8 +806,8 @@ def older_process(machine, tally, top):
 def other_units(machine, tally, top):
     """What systemd takes in the place of an installed unit is told; a drop-in too, which is no finding."""
     def hides(path):
-        return (f"{machine.at(path)} hides the installed unit\n    move it away, systemctl daemon-reload, and a "
-                f"restart; lines of your own go into a drop-in: systemctl edit {os.path.basename(path)}")
+        return (f"{machine.at(path)} hides the installed unit\n    move it away, then systemctl daemon-reload and "
+                f"restart it; put your own lines into a drop-in: systemctl edit {os.path.basename(path)}")
 
     def looks(what, folder, *want):
         sees(machine, tally, top, what, want)
@@ -617,15 +839,16 @@ def other_units(machine, tally, top):
     for name in "fileroom@.service", "fileroom-backup@plans.timer":
         os.makedirs(machine.at(f"{folder}/{name}.d"))
         machine.write(f"{folder}/{name}.d/none.txt", "")
+        machine.write(f"{folder}/{name}.d/50-pacemaker.conf", "[Service]\nRestart=no\n")
         sees(machine, tally, top, "a folder without a drop-in", [])
         machine.write(f"{folder}/{name}.d/own.conf", "[Service]\nMemoryMax=2G\n")
         note = (f"note: {machine.at(folder)}/{name}.d/own.conf changes the installed unit\n"
-                f"    where that is not meant: systemctl revert {name}")
+                f"    if that is not intended: systemctl revert {name}")
         sees(machine, tally, top, "a drop-in", [note])
         machine.write(unit, "")
         looks("a drop-in, and a unit", folder, hides(unit), note)
     for it in "fileroom-ports.service", "fileroom@plans.service", "fileroom-backup@club.timer":
-        for word, want in ("no", []), ("yes", ["systemd has not read the units since they changed\n"
+        for word, want in ("no", []), ("yes", ["systemd has not reloaded the changed units\n"
                                                "    systemctl daemon-reload; systemctl try-restart "
                                                "fileroom@club fileroom@more fileroom@plans"]):
             machine.shows(f"{it} NeedDaemonReload={word}\n{it} MainPID=0\n")
@@ -642,7 +865,7 @@ def a_standby(machine, tally, top):
     tally.differs("what is to be copied", said[-1], "for the machines of plans: fileroom-standby copy plans | sh")
     tally.differs("the standby's unit", machine.told(), ["systemctl try-restart fileroom-standby@plans"])
     machine.does("front", first=installed)
-    tally.differs("nginx is the manager's", machine.told(), ["systemctl try-reload-or-restart nginx"])
+    tally.differs("nginx is the manager's", "systemctl try-restart nginx" in machine.told(), True)
     os.chmod(machine.at("var/lib/fileroom/plans"), 0o755)
     folder = machine.at("etc/systemd/system")
     os.makedirs(folder)
@@ -650,7 +873,7 @@ def a_standby(machine, tally, top):
         os.symlink("/dev/null", os.path.join(folder, f"fileroom{it}@plans.service"))
     shutil.rmtree(machine.at("var/backups/fileroom/plans"))
     hidden = [f"{folder}/fileroom-{it}@plans.service hides the installed unit" for it in ("rejoin", "standby")]
-    runs = ["fileroom@plans runs, and the room has a standby", "    systemctl disable --now fileroom@plans"]
+    runs = ["fileroom@plans runs though the room has a standby", "    systemctl disable --now fileroom@plans"]
     # (on a machine where the room is not, neither front nor room runs)
     for broken, found in ("", runs), ("nginx\nfileroom@plans", []):
         machine.breaks(broken)
@@ -667,7 +890,11 @@ def tried(folder, tally):
     a_front(machine, tally)
     a_room(machine, tally)
     users(machine, tally)
+    a_lock_of_roots(machine, tally)
+    in_the_way(machine, tally)
+    trashes(machine, tally)
     faults_undo(machine, tally)
+    a_link_is_no_room(machine, tally)
     cert, key = certificate(machine, tally)
     machine.stand_in("nginx", "true")  # (it has taken such files, and would be most of the time)
     steps = [stops(machine, tally, "room", "add", "more", "ann", "eng", broken="fileroom-backup@more.timer")]
@@ -681,7 +908,7 @@ def tried(folder, tally):
     top = os.path.join(machine.folder, "usr")
     for task in two_versions, older_process, other_units, a_standby:
         task(machine, tally, top)
-    print(f"service: fileroom-admin, stopped at each of {sum(steps)} steps")
+    print(f"service: fileroom-admin, stopped at one in {EVERY} of {sum(steps)} steps")
     return lacking
 
 

@@ -21,7 +21,7 @@ from served import LIBC, WAIT, end_with_parent
 NET = 0x40000000  # CLONE_NEWNET of setns
 UNSHARE = ["unshare", "--net", "--mount", "--uts", "--pid", "--fork", "--kill-child", "--mount-proc"]
 NEEDED = ("unshare", "nsenter", "ip", "mkfs.ext4", "glusterd", "gluster", "glusterfs", "mount.glusterfs",
-          "sqlite3", "runuser", "systemd-sysusers", "nft")
+          "sqlite3", "setpriv", "systemd-sysusers", "nft")
 PATH = os.pathsep.join([os.environ.get("PATH", ""), "/usr/sbin", "/sbin"])
 DISK = 6 << 30  # bytes of the file that all machines lie in; it is sparse
 BUSY = "Locking failed", "Another transaction is in progress"  # of gluster: nothing was done

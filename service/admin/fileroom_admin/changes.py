@@ -10,15 +10,20 @@ import grp
 import hashlib
 import json
 import os
-import shutil
+import pwd
 import socket
 import stat
 import time
 
-from .places import Fault, asked, said
+from .places import SEARCHED, Fault, asked, said
 
 JOURNAL, LOCK = "etc/fileroom/admin.journal", "etc/fileroom/admin.lock"
 NEW, OLD = ".fileroom-new", ".fileroom-old"
+FOLDER = os.O_RDONLY | os.O_DIRECTORY | os.O_NOFOLLOW | os.O_CLOEXEC
+# What another process of theirs can take: it gets no terminal of root's, and of root's environment the path.
+AS_ROOMS = ("setsid", "-w", "env", "-i", f"PATH={SEARCHED}", "setpriv", "--reuid=fileroom", "--regid=fileroom",
+            "--clear-groups", "--")
+OWN_FILE = os.O_RDWR | os.O_CREAT | os.O_NOFOLLOW | os.O_CLOEXEC
 
 
 def beside(path, end):
@@ -142,8 +147,8 @@ class Journal:
 
     def finish(self):
         for words in self.says["does"]:
-            if words[0] == "listens":
-                wait_until_listens(self.places, int(words[1]))
+            if words[0] == "answers":
+                wait_until_answers(self.places, words[1])
             else:
                 asked(*words)
         self.clear()
@@ -154,7 +159,7 @@ class Journal:
         with contextlib.suppress(OSError):  # (on a full disk too)
             self.write("undoing" if was_decided else "prepared")
         if self.says["room"]:
-            put_aside(self.places.file(self.says["room"][0]))
+            put_aside(self.places.state(self.says["room"][0]))
         for path, was, its_sum in self.says["files"]:
             forget(beside(path, NEW))
             if its_sum == sum_in(path):
@@ -173,38 +178,62 @@ class Journal:
 
 
 def make_room(places, name, owner, group):
-    state, as_user = places.state(name), ["runuser", "-u", "fileroom", "--"]
+    state = places.state(name)
     for folder in os.path.dirname(state), state, places.backups().rstrip("/"):
-        os.makedirs(folder, mode=0o700, exist_ok=True)
+        own_folder(places, folder)
+    asked(*AS_ROOMS, places.program, "init", places.file(name), "--", owner, group)
+
+
+def own_folder(places, path):
+    """A folder of the rooms' user, whose other folders that user could turn into links: none is followed."""
+    os.makedirs(os.path.dirname(path), exist_ok=True)
+    with contextlib.suppress(FileExistsError):
+        os.mkdir(path, 0o700)
+    folder = os.open(path, FOLDER)
+    try:
         if places.is_machine:
-            shutil.chown(folder, "fileroom", "fileroom")
-    asked(*as_user, places.program, "init", places.file(name), "--", owner, group)
+            its = pwd.getpwnam("fileroom")
+            os.fchown(folder, its.pw_uid, its.pw_gid)
+    finally:
+        os.close(folder)
 
 
-def put_aside(room):
+def put_aside(state):
     """A room that was made is not removed: somebody may have put another one there since."""
-    for path in room, room + "-wal":
-        if os.path.exists(path):
-            os.replace(path, f"{path}.undone-{int(time.time())}")
+    with contextlib.suppress(FileNotFoundError, NotADirectoryError):
+        folder = os.open(state, FOLDER)
+        try:
+            for name in {"room.db", "room.db-wal"} & {*os.listdir(folder)}:
+                os.replace(name, f"{name}.undone-{int(time.time())}", src_dir_fd=folder, dst_dir_fd=folder)
+        finally:
+            os.close(folder)
 
 
-def wait_until_listens(places, port):
+def wait_until_answers(places, room):
     """A room's program is soon there; on another root than / nothing is started."""
-    end = time.monotonic() + 20
-    while places.is_machine:
-        with socket.socket() as line:
-            if line.connect_ex(("127.0.0.1", port)) == 0:
-                return
+    end = time.monotonic() + 120  # (a large one reads its file)
+    while places.is_machine and not answers(places.socket(room)):
         if time.monotonic() > end:
-            raise Fault(f"nothing listens on the port {port}: journalctl -u 'fileroom@*' says why")
+            raise Fault(f"the room {room} does not answer: journalctl -u fileroom@{room} -u fileroom-proxy@{room}")
         time.sleep(0.1)
+
+
+def answers(path):
+    """Whether a room answers at its socket: that there is no such way, say."""
+    with socket.socket(socket.AF_UNIX) as line, contextlib.suppress(OSError):
+        line.settimeout(5)
+        line.connect(path)
+        line.sendall(b"GET / HTTP/1.1\r\nconnection: close\r\n\r\n")
+        return line.recv(4) == b"HTTP"
+    return False
 
 
 @contextlib.contextmanager
 def alone(places, tell):
     """One call at a time; and what a call before left in the middle is undone, or goes on, first."""
     os.makedirs(places.at("etc/fileroom"), exist_ok=True)
-    with open(places.at(LOCK), "w", encoding="utf-8") as lock:
+    with open(places.at(LOCK), "rb+", opener=lambda path, _: os.open(path, OWN_FILE, 0o600)) as lock:
+        os.fchmod(lock.fileno(), 0o600)  # (who can read it can lock it)
         fcntl.flock(lock, fcntl.LOCK_EX)
         recover(places, tell)
         yield
@@ -216,17 +245,18 @@ def recover(places, tell):
         with open(path, encoding="utf-8") as file:
             journal = Journal(places, json.load(file))
         if journal.says["state"] == "decided":
-            tell("a change that was stopped goes on")
+            tell("continuing a change that was stopped")
             try:
                 journal.finish()
             except Fault:
                 journal.undo()
                 raise
         else:
-            tell("a change that was stopped is undone")
+            tell("undoing a change that was stopped")
             journal.undo()
-    for folder in "etc/fileroom", "etc/nginx/fileroom", "etc/nginx/fileroom/rooms", "etc/nginx/fileroom/tls", \
-            "etc/nginx/conf.d", "etc/nginx/modules-enabled", "etc/nginx":
+    for folder in "etc/fileroom", "etc/nginx/fileroom", "etc/nginx/fileroom/rooms", "etc/nginx/fileroom/queues", \
+            "etc/nginx/fileroom/tls", "etc/nginx/conf.d", "etc/nginx/modules-enabled", "etc/nginx", "etc/logrotate.d", \
+            "var/log/fileroom":
         clear_folder(places.at(folder))
 
 

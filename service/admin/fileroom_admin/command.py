@@ -3,68 +3,129 @@ import argparse
 import os
 import sys
 
-from . import changes, looking
+from . import changes, looking, numbers, told
 from .commands import Commands
 from .places import Fault, Places
 
 HERE = os.path.dirname(os.path.realpath(__file__))
 STANDBY = os.path.join(HERE, "..", "..", "standby", "fileroom-standby")
-ABOUT = "Changes rooms, users and the front of this machine, each time whole or not at all; and looks what is wrong."
+ABOUT = "Changes rooms, users and the front of this machine, each time completely or not at all, and reports problems."
 
 
 def parser():
     it = argparse.ArgumentParser(prog="fileroom-admin", description=ABOUT, epilog="man fileroom-admin has more")
-    it.add_argument("--root", default="/", metavar="FOLDER", help="another root than /, for a test")
-    it.add_argument("-q", "--quiet", action="store_true", help="print a password that was drawn, and nothing else")
+    it.add_argument("--root", default="/", metavar="FOLDER", help="use FOLDER in place of /, for a test")
+    it.add_argument("-q", "--quiet", action="store_true", help="print only the new random password")
     words = it.add_subparsers(dest="command", required=True, metavar="COMMAND")
-    room = words.add_parser("room", help="add NAME OWNER GROUP: a new room").add_subparsers(dest="what", required=True)
-    add = room.add_parser("add", help="a new room, served and backed up, whose root folder is of OWNER and GROUP")
-    for name in "NAME", "OWNER", "GROUP":
-        add.add_argument(name)
-    add.add_argument("--port", type=int, help="its port on 127.0.0.1 (the first that is free from 8001)")
-    user = words.add_parser("user", help="add, groups, remove, passwd, list").add_subparsers(dest="what", required=True)
-    for name, help_ in ("add", "a new user of ROOM, in these groups"), ("groups", "the groups of a user, all anew"):
-        one = user.add_parser(name, help=help_)
-        one.add_argument("ROOM")
-        one.add_argument("USER")
-        one.add_argument("GROUP", nargs="*")
-    one = user.add_parser("remove", help="no user of ROOM any more; of no room: no login either")
-    one.add_argument("ROOM")
-    one.add_argument("USER")
-    one = user.add_parser("passwd", help="another password, drawn at random")
-    one.add_argument("USER")
-    one.add_argument("--stdin", action="store_true", help="take the first line of standard input instead")
-    user.add_parser("list", help="rooms, users, groups, and who has a login").add_argument("ROOM", nargs="?")
-    tls = words.add_parser("tls", help="CERT KEY: https with this certificate, and http sent on to it")
-    tls.add_argument("CERT", help="the server's certificate, and behind it those that it rests on, as PEM")
+    add_rooms(words)
+    add_users(words)
+    add_groups(words)
+    trash = words.add_parser("trash", help="ROOM: makes the trash of each user who has none")
+    trash.add_argument("ROOM")
+    log = add_command(words, "log", "who changed what in a room, and when, as the front's log has it", "ROOM")
+    log.add_argument("--user", help="what this user asked for")
+    log.add_argument("--path", help="what was done there, and below it")
+    log.add_argument("--since", metavar="TIME", help="2026-11-28, 2026-11-28T09:00, 3d or 12h")
+    tls = words.add_parser("tls", help="CERT KEY: https with this certificate; http is redirected to it")
+    tls.add_argument("CERT", help="the server's certificate, followed by its chain, as PEM")
     tls.add_argument("KEY")
-    words.add_parser("front", help="after an update: the front's files as this program has them")
-    check = words.add_parser("check", help="what is wrong with this machine, and its remedy; status 1: something is")
-    check.add_argument("--backup-hours", type=int, default=26, help="how old the latest backup may be (26)")
+    words.add_parser("front", help="after an update: installs this version's files of the front")
+    check = words.add_parser("check", help="reports problems of this machine, with remedies; then its status is 1")
+    check.add_argument("--backup-hours", type=int, default=26, help="how many hours old the latest backup may be (26)")
+    check.add_argument("--prometheus", nargs="?", const="-", metavar="FILE",
+                       help="numbers for a monitor, to FILE or standard output")
     standby = words.add_parser("standby", help="check NAME: whether another machine could take over a room")
     standby.add_argument("what", choices=["check"])
     standby.add_argument("NAME")
     return it
 
 
+def add_rooms(words):
+    room = words.add_parser("room", help="add, list, export, import, remove").add_subparsers(dest="what", required=True)
+    add_command(room, "add", "a new room, served and backed up; its root folder belongs to OWNER and GROUP", "NAME",
+                "OWNER", "GROUP")
+    room.add_parser("list", help="rooms, sizes, users, backups, and where they answer")
+    add_command(room, "export", "writes the room as it is now, with roster and logins, to a file", "NAME", "FILE")
+    one = add_command(room, "import", "serves a room from such a file", "FILE")
+    one.add_argument("--as", dest="name", metavar="NAME", help="under another name")
+    add_command(room, "remove", "removes a room, and keeps it as such a file", "NAME")
+
+
+def add_users(words):
+    user = words.add_parser("user", help="add, import, groups, name, rename, remove, owns, passwd, list")
+    user = user.add_subparsers(dest="what", required=True)
+    add_command(user, "add", "a new user of ROOM, in these groups", "ROOM", "USER", many="GROUP")
+    one = add_command(user, "import", "adds users from a CSV table: user, groups (blanks between), name", "ROOM", "CSV")
+    one.add_argument("--update", action="store_true", help="users who are there get what the table has")
+    add_command(user, "groups", "sets the groups of a user", "ROOM", "USER", many="GROUP")
+    add_command(user, "name", "the name that the page shows for a user; without NAME, the login", "USER", many="NAME")
+    add_command(user, "rename", "renames a user in each room, and the login", "USER", "NEW")
+    add_command(user, "remove", "removes a user from ROOM; with the last room, the login too", "ROOM", "USER")
+    add_command(user, "owns", "what a user owns in each room, by the latest backups", "USER")
+    one = add_command(user, "passwd", "a new random password", "USER")
+    one.add_argument("--stdin", action="store_true", help="take the first line of standard input instead")
+    one = user.add_parser("list", help="rooms, users, groups, and who has a login")
+    one.add_argument("ROOM", nargs="?")
+    one.add_argument("--csv", action="store_true", help="of ROOM, as `user import --update` reads it")
+
+
+def add_groups(words):
+    group = words.add_parser("group", help="add, remove, list").add_subparsers(dest="what", required=True)
+    add_command(group, "add", "these users into GROUP, at once", "ROOM", "GROUP", some="USER")
+    add_command(group, "remove", "these users out of GROUP, at once", "ROOM", "GROUP", some="USER")
+    group.add_parser("list", help="rooms, groups, and who is in them").add_argument("ROOM", nargs="?")
+
+
+def add_command(words, name, about, *arguments, many=None, some=None):
+    it = words.add_parser(name, help=about, description=about)
+    for argument in arguments:
+        it.add_argument(argument)
+    if many or some:
+        it.add_argument(many or some, nargs="*" if many else "+")
+    return it
+
+
 def play(given, commands):
+    """(Words that only tell something change no file that a standby copies.)"""
     what = f"{given.command} {getattr(given, 'what', '')}".strip()
-    if what == "room add":
-        commands.room_add(given.NAME, given.OWNER, given.GROUP, given.port)
-    elif what in ("user add", "user groups"):
-        (commands.user_add if given.what == "add" else commands.user_groups)(given.ROOM, given.USER, given.GROUP)
-    elif what == "user remove":
-        commands.user_remove(given.ROOM, given.USER)
-    elif what == "user passwd":
-        commands.user_passwd(given.USER, sys.stdin.readline().rstrip("\n") if given.stdin else None)
-    elif what == "user list":
-        commands.user_list(given.ROOM)
-    elif what == "tls":
-        commands.tls(given.CERT, given.KEY)
-    else:
-        commands.front()
-    if what != "user list":
+    DOES[what](commands, given)
+    if what not in TELLS:
         commands.say_copy()
+
+
+def user_list(commands, given):
+    if given.csv and not given.ROOM:
+        raise Fault("--csv is for one ROOM")
+    commands.user_list(given.ROOM, given.csv)
+
+
+def passwd(commands, given):
+    commands.user_passwd(given.USER, sys.stdin.readline().rstrip("\r\n") if given.stdin else None)
+
+
+TELLS = "user list", "user owns", "group list", "room list", "room export"
+DOES = {
+    "user list": user_list,
+    "user owns": lambda it, given: it.user_owns(given.USER),
+    "group list": lambda it, given: it.group_list(given.ROOM),
+    "room list": lambda it, given: it.room_list(),
+    "room add": lambda it, given: it.room_add(given.NAME, given.OWNER, given.GROUP),
+    "room export": lambda it, given: it.room_export(given.NAME, given.FILE),
+    "room import": lambda it, given: it.room_import(given.FILE, given.name),
+    "room remove": lambda it, given: it.room_remove(given.NAME),
+    "user add": lambda it, given: it.user_add(given.ROOM, given.USER, given.GROUP),
+    "user import": lambda it, given: it.user_import(given.ROOM, given.CSV, given.update),
+    "user groups": lambda it, given: it.user_groups(given.ROOM, given.USER, given.GROUP),
+    "user name": lambda it, given: it.user_name(given.USER, " ".join(given.NAME)),
+    "user rename": lambda it, given: it.user_rename(given.USER, given.NEW),
+    "user remove": lambda it, given: it.user_remove(given.ROOM, given.USER),
+    "user passwd": passwd,
+    "group add": lambda it, given: it.group_change(given.ROOM, given.GROUP, given.USER, True),
+    "group remove": lambda it, given: it.group_change(given.ROOM, given.GROUP, given.USER, False),
+    "trash": lambda it, given: it.trash(given.ROOM),
+    "tls": lambda it, given: it.tls(given.CERT, given.KEY),
+    "front": lambda it, given: it.front(),
+}
 
 
 def main(words):
@@ -74,9 +135,16 @@ def main(words):
     say = (lambda text: None) if given.quiet else print
     try:
         if places.is_machine and os.geteuid() != 0:
-            raise Fault("it wants root")
+            raise Fault("run it as root")
         if given.command == "standby":
             os.execv(STANDBY, [STANDBY, given.what, given.NAME])
+        if given.command == "log":
+            told.log(places, given.ROOM, given, print)
+            return 0
+        if given.command == "check" and given.prometheus:
+            text = numbers.told(places, given.backup_hours)
+            print(text, end="") if given.prometheus == "-" else numbers.write(text, given.prometheus)
+            return 0
         if given.command == "check":
             return looking.check(places, given.backup_hours, print)
         with changes.alone(places, lambda text: print(f"fileroom-admin: {text}", file=sys.stderr)):

@@ -1,76 +1,58 @@
 """The commands that change something. Each makes one change of all that has to agree: roster, the page's copy of it,
-passwords, front, services."""
+passwords, front, services. Those about users are in `people`, those
+about whole rooms in `moving`."""
+import grp
+import ipaddress
 import json
 import os
 import re
-import secrets
 
 from . import rosters
 from .changes import Change
-from .places import FRONT_FILES, LISTEN, REDIRECT, Fault, asked, read, said, sample
+from .moving import Rooms, units_of
+from .people import FOR_WORKERS
+from .places import CHANGES, FRONT_FILES, HERE, LISTEN, LOGINS, REDIRECT, WORKERS, Fault, asked, read, said, sample
 
-PORTS = range(8001, 8080)
-SHORTEST = 10  # letters of a password that is given
+PORT = 8001  # of each room, in a network of its own
 ROOM_LISTS = "rooms.json"
-DRAWN = 12  # bytes
+OF_ROOM = {"rooms": "room.conf", "queues": "queue.conf"}  # of the front: a folder, and the sample of a room's file
 
 
-class Commands:
-    def __init__(self, places, say, tell):
-        self.places, self.say, self.tell = places, say, tell
-
-    def passwords(self):
-        return read(self.places.front("users"), "")
-
+class Commands(Rooms):
     def room_names(self):
         return json.loads(read(self.places.front(ROOM_LISTS), "[]"))
 
-    def need_room(self, room):
-        if room not in self.places.rooms():
-            raise Fault(f"there is no room {room}: {', '.join(self.places.rooms()) or 'none at all'}")
-
-    def room_add(self, room, owner, group, port=None):
+    def room_add(self, room, owner, group):
         places = self.places
         rosters.need_room_name(room)
         rosters.need_name(owner, "the owner")
         rosters.need_name(group, "the group")
         if room in places.rooms() or os.path.exists(places.file(room)):
-            raise Fault(f"the room {room} is there already")
-        port = self.free_port(port)
+            raise Fault(f"the room {room} already exists")
         change = Change(places)
         self.put_front(change)
-        self.put_roster(change, room, read(places.roster(room), "[users]\n"), owner, [group])
-        change.put(places.env(room), f"PORT={port}\n")
-        change.put(places.front(f"rooms/{room}.conf"), room_conf(room, port))
-        change.put(places.front(ROOM_LISTS), json.dumps(sorted({*self.room_names(), room})) + "\n")
+        self.put_roster(change, room, read(places.roster(room), "[users]\n"), {owner: [group]})
         change.room = room, owner, group
-        change.then("systemctl", "daemon-reload")
-        service, timer = f"fileroom@{room}", f"fileroom-backup@{room}.timer"
-        change.then("systemctl", "enable", "fileroom-ports")
-        change.then("systemctl", "restart", "fileroom-ports")
-        for it in service, timer:
-            change.then("systemctl", "enable", "--now", it, undo=("systemctl", "disable", "--now", it))
-        change.then("listens", str(port), undo=("true",))
-        change.then(*places.read_front())
-        password = self.draw(change, owner)
+        self.put_room(change, room)
+        drawn = self.draw(change, owner)
         change.happen()
-        self.say(f"the room {room} is served at port {port}, and backed up each night")
-        self.tell_password(owner, password)
+        self.say(f"the room {room} is served, and backed up each night")
+        self.trash_for(room, owner)
+        self.tell_password(owner, drawn)
 
-    def free_port(self, port):
-        taken = {self.places.port(it): it for it in self.places.rooms()}
-        if port is None:
-            port = next((it for it in PORTS if it not in taken and not self.is_taken(it)), None)
-            if port is None:
-                raise Fault(f"no port of {PORTS[0]} to {PORTS[-1]} is free: give one by --port")
-        if port in taken or self.is_taken(port):
-            raise Fault(f"the port {port} is taken{' by the room ' + taken[port] if port in taken else ''}")
-        return port
-
-    def is_taken(self, port):
-        """(Of another root nothing runs.)"""
-        listens = rf":{port:04X} \S+ 0A "
-        return self.places.is_machine and bool(re.search(listens, read("/proc/net/tcp") + read("/proc/net/tcp6", "")))
+    def put_room(self, change, room):
+        """Its place in the front, and its units, which are started."""
+        places = self.places
+        change.put(places.env(room), f"PORT={PORT}\n")
+        self.put_place(change, room)
+        change.put(places.front(ROOM_LISTS), json.dumps(sorted({*self.room_names(), room})) + "\n")
+        change.then("systemctl", "daemon-reload")
+        change.then("systemctl", "enable", "fileroom-ports")
+        change.then("systemctl", "reload-or-restart", "fileroom-ports")
+        for it in units_of(room):
+            change.then("systemctl", "enable", "--now", it, undo=("systemctl", "disable", "--now", it))
+        change.then("answers", room, undo=("true",))
+        change.then(*places.read_front())
 
     def put_front(self, change, anew=False):
         """The front's files as they are installed, where they are not there, or all anew but where it listens."""
@@ -80,119 +62,61 @@ class Commands:
         if not os.path.exists(self.places.at(LISTEN)):
             change.put(self.places.at(LISTEN), sample("listen.conf"))
         main = self.places.at("etc/nginx/nginx.conf")
-        wider = re.sub(r"(?m)^(\s*worker_connections) 768;", r"\1 4096;", read(main))
-        if wider != read(main):
-            change.put(main, wider)
-        for name, text in ("users", self.passwords()), (ROOM_LISTS, json.dumps(self.room_names()) + "\n"):
+        made = with_group(re.sub(r"(?m)^(\s*worker_connections) 768;", r"\1 4096;", read(main)))
+        if made != read(main):
+            change.put(main, made)
+        if anew or not os.path.exists(self.places.front("users")):
+            change.put(self.places.front("users"), self.passwords(), *FOR_WORKERS)
+        for name, now in (ROOM_LISTS, self.room_names()), ("names.json", self.names()):
             if not os.path.exists(self.places.front(name)):
-                change.put(self.places.front(name), text, *((0o640, "www-data") if name == "users" else ()))
+                change.put(self.places.front(name), json.dumps(now) + "\n")
+        self.need_log_folder()
+        for path, group in (LOGINS, "adm"), (CHANGES, WORKERS):
+            if not os.path.exists(self.places.at(path)):
+                change.put(self.places.at(path), "", 0o640, group)
         change.look("nginx", "-tq")
 
+    def need_log_folder(self):
+        """(The log of changes has paths of documents: a folder that root and nginx's workers alone can enter.)"""
+        folder = os.path.dirname(self.places.at(CHANGES))
+        os.makedirs(folder, exist_ok=True)
+        if self.places.is_machine:
+            os.chown(folder, 0, grp.getgrnam(WORKERS).gr_gid)
+        os.chmod(folder, 0o710)
+
     def front(self):
-        """After an update: the front's files, and each room's, as the installed program has them."""
-        change = Change(self.places)
+        """After an update: the front's files, and each room's, as the installed program has them; and the rooms.
+
+        (nginx first: a room whose port was the machine's is then asked by its socket alone. It is started again: as it
+        reads files anew, it takes no zone by another key, without a word to who asked for that.)
+        """
+        need_group(self.places)
+        change, rooms = Change(self.places), self.places.rooms()
         self.put_front(change, anew=True)
-        for room in self.places.rooms():
-            change.put(self.places.front(f"rooms/{room}.conf"), room_conf(room, self.places.port(room)))
+        for room in rooms:
+            self.put_place(change, room)
             change.put(self.places.front(f"rooms/{room}.users.json"), rosters.page_copy(read(self.places.roster(room))))
-        change.put(self.places.front(ROOM_LISTS), json.dumps(self.places.rooms()) + "\n")
-        change.then(*self.places.read_front())
+        change.put(self.places.front(ROOM_LISTS), json.dumps(rooms) + "\n")
+        names = re.search(r'server_name ([^";]+);', read(self.places.at(REDIRECT), ""))
+        if names:
+            change.put(self.places.at(REDIRECT), sample("redirect.conf").replace("@NAMES@", names[1]))
+        change.then("systemctl", "daemon-reload")
+        change.then(*self.places.read_front("restart"))
+        if rooms:
+            change.then("systemctl", "reload-or-restart", "fileroom-ports")
+            change.then("systemctl", "enable", "--now", *(f"fileroom-try@{it}.timer" for it in rooms))
+            change.then("systemctl", "try-restart", *map(self.places.unit, rooms))
         change.happen()
         self.say(f"the front has the files of this program, and the rooms {', '.join(self.places.rooms()) or 'none'}")
 
-    def put_roster(self, change, room, text, user, groups):
-        made = rosters.with_user(text, user, groups)
-        rosters.users_of(made)
-        roster = self.places.roster(room)
-        change.put(roster, made)
-        change.put(self.places.front(f"rooms/{room}.users.json"), rosters.page_copy(made))
-        change.look(self.places.program, "replay", roster, "--", user, (groups or [user])[0])
-
-    def change_roster(self, room, user, groups):
-        """The roster's change; the room reads it as it starts again."""
-        change = Change(self.places)
-        self.put_roster(change, room, read(self.places.roster(room)), user, groups)
-        change.then("systemctl", "try-restart", self.places.unit(room))
-        return change
+    def put_place(self, change, room):
+        for folder, name in OF_ROOM.items():
+            change.put(self.places.front(f"{folder}/{room}.conf"), of_room(name, room))
 
     def say_copy(self):
         """A change of the files that all machines of a standby have is made on one, and copied by hand."""
         for room in filter(self.places.has_standby, self.places.rooms()):
             self.say(f"for the machines of {room}: fileroom-standby copy {room} | sh")
-
-    def users(self, room):
-        self.need_room(room)
-        return rosters.users_of(read(self.places.roster(room)), self.places.roster(room))
-
-    def user_add(self, room, user, groups):
-        rosters.need_name(user, "the user")
-        if user in self.users(room):
-            raise Fault(f"{user} is in the room {room} already (other groups: fileroom-admin user groups)")
-        change = self.change_roster(room, user, groups)
-        password = self.draw(change, user)
-        change.happen()
-        self.say(f"{user} is a user of the room {room}, in {', '.join(groups) or 'no group'}")
-        self.tell_password(user, password)
-
-    def user_groups(self, room, user, groups):
-        self.need_user(room, user)
-        self.change_roster(room, user, groups).happen()
-        self.say(f"{user} is in {', '.join(groups) or 'no group'} in the room {room}")
-
-    def need_user(self, room, user):
-        if user not in self.users(room):
-            raise Fault(f"{user} is no user of the room {room}")
-
-    def user_remove(self, room, user):
-        self.need_user(room, user)
-        change = self.change_roster(room, user, None)
-        elsewhere = [it for it in self.places.rooms() if it != room and user in self.users(it)]
-        if not elsewhere:
-            change.put(self.places.front("users"), rosters.with_password(self.passwords(), user, None))
-        change.happen()
-        self.say(f"{user} is no user of the room {room} any more" + (
-            f"; the login stays, for {', '.join(elsewhere)}" if elsewhere else ", and has no login"))
-        self.say(f"what {user} owned stays {user}'s: give no other person that name")
-
-    def user_passwd(self, user, given=None):
-        if not any(user in self.users(it) for it in self.places.rooms()):
-            raise Fault(f"{user} is no user of a room")
-        if given is not None and len(given) < SHORTEST:
-            raise Fault(f"a password has at least {SHORTEST} letters")
-        change = Change(self.places)
-        password = given or secrets.token_urlsafe(DRAWN)
-        self.put_password(change, user, password)
-        change.happen()
-        if given is None:
-            self.tell_password(user, password)
-        else:
-            self.say(f"{user} has the password that was given")
-
-    def draw(self, change, user):
-        """A password for who has none yet."""
-        if user in rosters.logins_of(self.passwords()):
-            return None
-        password = secrets.token_urlsafe(DRAWN)
-        self.put_password(change, user, password)
-        return password
-
-    def put_password(self, change, user, password):
-        text = rosters.with_password(self.passwords(), user, rosters.hashed(password))
-        users = self.places.front("users")
-        change.put(users, text, *(() if os.path.exists(users) else (0o640, "www-data")))
-
-    def tell_password(self, user, password):
-        """(The one thing that -q prints too.)"""
-        if password:
-            self.tell(f"the password of {user}: ", password)
-        else:
-            self.say(f"{user} has the password of before")
-
-    def user_list(self, room=None):
-        logins = rosters.logins_of(self.passwords())
-        for it in [room] if room else self.places.rooms():
-            for user, groups in self.users(it).items():
-                self.say(f"{it}  {user}  {','.join(groups) or '-'}  {'login' if user in logins else 'no login'}")
 
     def tls(self, cert, key):
         change = Change(self.places)
@@ -204,20 +128,36 @@ class Commands:
         change.put(self.places.at(REDIRECT), sample("redirect.conf").replace("@NAMES@", " ".join(names)))
         change.look("nginx", "-tq")
         change.then(*self.places.read_front())
+        change.then("systemctl", "reload-or-restart", "fileroom-ports")
         change.happen()
-        self.say(f"the front listens by https, as {' '.join(names)}, until {end_of(cert)}; http is sent on to it")
+        self.say(f"the front listens by https, as {' '.join(names)}, until {end_of(cert)}; http is redirected to it")
 
 
-def room_conf(room, port):
-    return sample("room.conf").replace("@NAME@", room).replace("@PORT@", str(port))
+def of_room(sample_name, room):
+    """(nginx takes two queues for one whose names differ by large and small letters alone.)"""
+    queue = re.sub("[A-Z]", lambda letter: f"{letter[0].lower()}.", room)
+    return sample(sample_name).replace("@NAME@", room).replace("@QUEUE@", queue)
+
+
+def need_group(places):
+    """Makes what sysusers.conf names, as an update may bring it. (No owners are set on another root than /.)"""
+    if places.is_machine:
+        asked("systemd-sysusers", os.path.join(HERE, "../../../../lib/sysusers.d/fileroom.conf"))
+
+
+def with_group(text):
+    """nginx.conf, whose workers have the group that rooms' sockets and passwords are for."""
+    return re.sub(r"(?m)^(\s*user\s+[\w-]+)\s*;", rf"\1 {WORKERS};", text)
 
 
 def names_of(cert):
-    """The names by which a browser takes the certificate."""
+    """The names and addresses by which a browser takes the certificate."""
     told = asked("openssl", "x509", "-noout", "-ext", "subjectAltName", "-in", os.path.abspath(cert))
     names = re.findall(r"DNS:([A-Za-z0-9.*-]+)", told)
+    addresses = map(ipaddress.ip_address, re.findall(r"IP Address:([0-9A-Fa-f.:]+)", told))
+    names += [f"[{it}]" if it.version == 6 else str(it) for it in addresses]
     if not names:
-        raise Fault(f"{cert} has no name of a machine in its subjectAltName: a browser takes no such certificate")
+        raise Fault(f"{cert} has no host name or address in its subjectAltName: browsers refuse such a certificate")
     return names
 
 
@@ -228,9 +168,9 @@ def end_of(cert):
 def need_pair(cert, key):
     cert, key = os.path.abspath(cert), os.path.abspath(key)
     if said("openssl", "x509", "-noout", "-checkend", "0", "-in", cert)[0]:
-        raise Fault(f"the certificate ended: {end_of(cert)}")
+        raise Fault(f"the certificate has expired: {end_of(cert)}")
     status, public = said("openssl", "pkey", "-pubout", "-passin", "pass:", "-in", key)
     if status:
-        raise Fault(f"{key} is no private key, or has a passphrase: nginx starts without anybody who types it")
+        raise Fault(f"{key} is no private key, or has a passphrase: nginx starts with nobody there to type it")
     if public != asked("openssl", "x509", "-noout", "-pubkey", "-in", cert):
-        raise Fault("the key is not that of the certificate that stands first in the file")
+        raise Fault("the key does not match the first certificate in the file")

@@ -12,19 +12,26 @@ import time
 
 from . import rosters
 from .changes import JOURNAL, sum_in
-from .commands import end_of, room_conf
-from .places import FRONT_FILES, HERE, LISTEN, SEARCHED, Fault, read, said, sample
+from .commands import OF_ROOM, end_of, of_room
+from .places import CHANGES, FRONT_FILES, HERE, LISTEN, LOGINS, SEARCHED, WORKERS, Fault, read, said, sample
 
-PROGRAMS = {"nginx": "nginx-light", "openssl": "openssl", "sqlite3": "sqlite3", "nft": "nftables", "curl": "curl"}
+PROGRAMS = {"nginx": "nginx-light", "openssl": "openssl", "sqlite3": "sqlite3", "nft": "nftables", "curl": "curl",
+            "logrotate": "logrotate"}
 ROOM_LEFT = 1 << 30  # bytes that a disk should have free, or a tenth of it
 DAYS_LEFT = 21  # of a certificate
+TRIED_DAYS = 9  # since a backup was tried
+FULL = 3 / 4  # of a unit's memory: a room's file that is larger is told
 OTHERS = stat.S_IRWXG | stat.S_IRWXO
+CLEAR = 8080  # the front's port without TLS
+LISTENS = "0A"  # a state, in /proc/net/tcp
+DEFAULT_SITE = "etc/nginx/sites-enabled/default"
 PREFIX = os.path.join(HERE, "../../../..")  # of what `make install` put; in a checkout there is nothing
 # where systemd looks for units before it does below the prefix
 BEFORE = "etc/systemd/system.control", "etc/systemd/system", "run/systemd/system", "usr/local/lib/systemd/system"
-FRONT_REMEDY = "fileroom-admin front puts it right"
+FRONT_REMEDY = "run fileroom-admin front"
 ONE_VERSION = "make install, of one version"
 SUMS = "share/fileroom/sums"
+OF_MANAGER = "50-pacemaker.conf"  # a drop-in of Pacemaker's own, for what it starts
 
 
 class Findings:
@@ -44,7 +51,7 @@ class Findings:
         try:
             task(*words)
         except (Fault, OSError, ValueError) as fault:
-            self.add(str(fault), "mend what it names")
+            self.add(str(fault), "correct what it names")
 
     def programs(self):
         for name, package in PROGRAMS.items():
@@ -52,16 +59,16 @@ class Findings:
                 self.add(f"there is no {name}", f"apt-get install {package}")
         versions = [said(it, "--version")[1].split()[-1:] for it in (self.places.program, "room")]
         if versions[0] != versions[1]:
-            self.add(f"program and client are of two versions, {versions}", ONE_VERSION)
+            self.add(f"program and client have different versions, {versions}", ONE_VERSION)
         if os.path.exists(self.places.at(JOURNAL)):
-            self.add("a change was stopped in its middle", "fileroom-admin user list: the next call ends it")
+            self.add("a change was interrupted", "fileroom-admin user list: the next command finishes it")
 
     def installed(self):
         """(In a checkout there are no sums.)"""
         sums = [it.split("  ") for it in read(os.path.join(PREFIX, SUMS), "").splitlines()]
         others = [name for its_sum, name in sums if sum_in(os.path.join(PREFIX, name)) != its_sum]
         if others:
-            self.add(f"not as it was installed with the rest: {', '.join(others[:9])}", ONE_VERSION)
+            self.add(f"not from the same installation: {', '.join(others[:9])}", ONE_VERSION)
         if sums:
             self.units()
 
@@ -72,56 +79,78 @@ class Findings:
             for folder in BEFORE:
                 self.unit_before(self.places.at(f"{folder}/{name}"), name)
         if "NeedDaemonReload=yes" in said("systemctl", "show", "--property=NeedDaemonReload", *names)[1].splitlines():
-            self.add("systemd has not read the units since they changed", "systemctl daemon-reload; systemctl "
+            self.add("systemd has not reloaded the changed units", "systemctl daemon-reload; systemctl "
                      f"try-restart {' '.join(map(self.places.unit, self.places.rooms()))}")
 
     def unit_before(self, path, name):
         """A unit there hides the installed one, with what an update changes in it; a drop-in changes some lines."""
         installed = os.path.join(PREFIX, "lib/systemd/system", template_of(name))
         if os.path.lexists(path) and os.path.realpath(path) != os.path.realpath(installed):
-            self.add(f"{path} hides the installed unit", "move it away, systemctl daemon-reload, and a restart; "
-                     f"lines of your own go into a drop-in: systemctl edit {name}")
+            self.add(f"{path} hides the installed unit", "move it away, then systemctl daemon-reload and restart it; "
+                     f"put your own lines into a drop-in: systemctl edit {name}")
         for it in sorted(glob.glob(f"{glob.escape(path)}.d/*.conf")):
-            self.note(f"{it} changes the installed unit", f"where that is not meant: systemctl revert {name}")
+            if os.path.basename(it) == OF_MANAGER:
+                continue
+            self.note(f"{it} changes the installed unit", f"if that is not intended: systemctl revert {name}")
 
     def front(self):
         for name, path in FRONT_FILES.items():
             if read(self.places.at(path), "") != sample(name):
-                self.add(f"/{path} is not that of the installed program", FRONT_REMEDY)
-        if re.search(r"(?m)^\s*worker_connections 768;", read(self.places.at("etc/nginx/nginx.conf"))):
-            self.add("nginx holds 768 connections a process", FRONT_REMEDY)
+                self.add(f"/{path} is not from the installed version", FRONT_REMEDY)
+        main = read(self.places.at("etc/nginx/nginx.conf"))
+        if re.search(r"(?m)^\s*worker_connections 768;", main):
+            self.add("nginx allows only 768 connections a process", FRONT_REMEDY)
+        if not re.search(rf"(?m)^\s*user\s+\S+\s+{WORKERS}\s*;", main):
+            self.add(f"nginx's workers lack the group {WORKERS}, so they reach no room",
+                     f"{FRONT_REMEDY}, or the line in nginx.conf: user www-data {WORKERS};")
         status, told = said("nginx", "-tq")
         if status:
-            self.add(f"nginx does not take its files: {told[:200]}", "mend what it names")
+            self.add(f"nginx refuses its configuration: {told[:200]}", "correct what it names")
         if not any(map(self.places.has_standby, self.places.rooms())):  # (else it runs where the room is)
             self.unit("nginx")
         if sorted(json.loads(read(self.places.front("rooms.json")))) != self.places.rooms():
-            self.add("rooms.json names other rooms than /etc/fileroom has", FRONT_REMEDY)
+            self.add("rooms.json and /etc/fileroom name different rooms", FRONT_REMEDY)
         self.listening(read(self.places.at(LISTEN)))
 
     def listening(self, text):
         clear = [it for it in re.findall(r"(?m)^\s*listen (.*);", text) if " ssl" not in it]
         outside = [it for it in clear if not it.startswith(("127.", "[::1]", "unix:"))]
         for it in outside:
-            self.add(f"the front listens in the clear for other machines ({it})", "fileroom-admin tls CERT KEY")
+            self.add(f"the front takes unencrypted connections from elsewhere ({it})", "fileroom-admin tls CERT KEY")
+        if any(it.startswith(f"127.0.0.1:{CLEAR}") for it in clear):
+            self.others_there()
         if " ssl" in text:
+            if os.path.lexists(self.places.at(DEFAULT_SITE)):
+                self.add("Debian's default site answers everybody at port 80, and logs whatever is sent to it",
+                         f"rm /{DEFAULT_SITE}; systemctl reload nginx")
             cert = self.places.front("tls/cert.pem")
             if said("openssl", "x509", "-noout", "-checkend", str(DAYS_LEFT * 86400), "-in", cert)[0]:
-                self.add(f"the certificate ends: {end_of(cert)}", "fileroom-admin tls, with a new one")
+                self.add(f"the certificate expires: {end_of(cert)}", "fileroom-admin tls, with a new one")
             self.mode(self.places.front("tls/key.pem"), OTHERS, "chmod 600")
+
+    def others_there(self):
+        """Whoever has the port while nginx is down keeps it from starting. (fileroom.nft lets nobody answer there.)"""
+        for table in "tcp", "tcp6":
+            rows = [it.split() for it in read(self.places.at(f"proc/net/{table}"), "").splitlines()[1:]]
+            for uid in sorted({it[7] for it in rows if it[3] == LISTENS and it[1].endswith(f":{CLEAR:04X}")} - {"0"}):
+                self.add(f"a program of the user with the number {uid} has the front's port, {CLEAR}",
+                         f"ss -ltnp 'sport = :{CLEAR}' names it: end it; systemctl restart nginx")
 
     def passwords(self):
         users = self.places.front("users")
         self.mode(users, stat.S_IRWXO | stat.S_IWGRP, "chmod 640")
-        if self.places.is_machine and grp.getgrgid(os.stat(users).st_gid).gr_name != "www-data":
-            self.add(f"{users} is not the group's that nginx is in", f"chgrp www-data {users}")
+        if self.places.is_machine and grp.getgrgid(os.stat(users).st_gid).gr_name != WORKERS:
+            self.add(f"{users} does not belong to the group of nginx's workers", f"chgrp {WORKERS} {users}")
+        if os.path.exists(self.places.at(LOGINS)):
+            self.mode(self.places.at(LOGINS), OTHERS & ~stat.S_IRGRP, "chmod 640")
+        self.mode(os.path.dirname(self.places.at(CHANGES)), OTHERS & ~stat.S_IXGRP, "chmod 710")
         known = {user for room in self.places.rooms() for user in self.users(room)}
         for it in sorted({*rosters.logins_of(read(users))} - known):
-            self.add(f"{it} has a login, and is in no roster", f"fileroom-admin user add ROOM {it}")
+            self.add(f"{it} has a login but is in no roster", f"fileroom-admin user add ROOM {it}")
 
     def mode(self, path, not_these, remedy):
         if stat.S_IMODE(os.stat(path).st_mode) & not_these:
-            self.add(f"{path} is open to too many", f"{remedy} {path}")
+            self.add(f"{path} has permissions that are too open", f"{remedy} {path}")
 
     def users(self, room):
         return rosters.users_of(read(self.places.roster(room)), self.places.roster(room))
@@ -130,32 +159,29 @@ class Findings:
         places = self.places
         self.mode(places.roster(room), stat.S_IWGRP | stat.S_IWOTH, "chmod go-w")
         if read(places.front(f"rooms/{room}.users.json"), "") != rosters.page_copy(read(places.roster(room))):
-            self.add(f"{room}: the page has another roster than the room", FRONT_REMEDY)
-        if read(places.front(f"rooms/{room}.conf"), "") != room_conf(room, places.port(room)):
-            self.add(f"{room}: its place in the front is not as it should be", FRONT_REMEDY)
-        same = [it for it in places.rooms() if it != room and places.port(it) == places.port(room)]
-        if same:
-            self.add(f"{room} has the port of {same[0]}", f"another PORT in {places.env(room)}")
-        self.wall(room)
+            self.add(f"{room}: the page's roster differs from the room's", FRONT_REMEDY)
+        if any(read(places.front(f"{it}/{room}.conf"), "") != of_room(name, room) for it, name in OF_ROOM.items()):
+            self.add(f"{room}: its part of the front is not as it should be", FRONT_REMEDY)
         if places.has_standby(room):
             self.standby(room)
         if self.is_here(room):
             self.mode(places.state(room), OTHERS, "chmod 700")
             self.owner(places.file(room))
+            self.memory(room)
         self.running(room)
-        units = [] if places.has_standby(room) else [f"fileroom@{room}"]
-        for unit in *units, f"fileroom-backup@{room}.timer":
+        units = [] if places.has_standby(room) else [f"fileroom@{room}", f"fileroom-proxy@{room}.socket"]
+        for unit in *units, f"fileroom-backup@{room}.timer", f"fileroom-try@{room}.timer":
             self.unit(unit)
 
     def unit(self, name):
         if said("systemctl", "is-active", "-q", name)[0]:
-            self.add(f"{name} does not run", f"systemctl enable --now {name}; journalctl -u {name} says why not")
+            self.add(f"{name} is not running", f"systemctl enable --now {name}; journalctl -u {name} shows why")
 
     def running(self, room):
         """(It is looked at twice: what has just begun is systemd's own program yet.)"""
         unit = self.places.unit(room)
         if all(runs_other(unit, pause) for pause in (0, 1)):
-            self.add(f"{room}: its process runs another program than the installed one", f"systemctl restart {unit}")
+            self.add(f"{room}: its process does not run the installed program", f"systemctl restart {unit}")
 
     def is_here(self, room):
         """(A room with a standby is where its volume is mounted.)"""
@@ -163,21 +189,29 @@ class Findings:
 
     def standby(self, room):
         if said("systemctl", "is-active", "-q", f"fileroom@{room}")[0] == 0:
-            self.add(f"fileroom@{room} runs, and the room has a standby", f"systemctl disable --now fileroom@{room}")
+            self.add(f"fileroom@{room} runs though the room has a standby", f"systemctl disable --now fileroom@{room}")
         if said("fileroom-standby", "check", room)[0]:
             self.add(f"{room}: its standby is not as it must be", f"fileroom-standby check {room}")
+
+    def memory(self, room):
+        """(As it opens its file the program holds the largest table, and the file may be that one table.)"""
+        unit, file = self.places.unit(room), self.places.file(room)
+        told = re.search(r"(?m)^MemoryMax=(\d+)$", said("systemctl", "show", "--property=MemoryMax", unit)[1])
+        size = sum(os.stat(it).st_size for it in (file, file + "-wal") if os.path.exists(it))
+        if told and size > int(told[1]) * FULL:
+            self.add(f"{room}: its file has {size >> 20} MiB, its unit {int(told[1]) >> 20} MiB of memory to hold it",
+                     "give the machine more memory; docs/RUNNING.md, Memory, has other ways")
 
     def owner(self, path):
         if not self.places.is_machine:
             return
         owner = pwd.getpwuid(os.stat(path).st_uid).pw_name
         if owner != "fileroom":
-            self.add(f"{path} is {owner}'s", f"chown fileroom:fileroom {path}")
+            self.add(f"{path} belongs to {owner}", f"chown fileroom:fileroom {path}")
 
-    def wall(self, room):
-        told = said("nft", "list", "set", "inet", "fileroom", "rooms")[1]
-        if str(self.places.port(room)) not in re.findall(r"\d+", told):
-            self.add(f"{room}: users of this machine reach its port past the front",
+    def wall(self):
+        if said("nft", "list", "table", "inet", "fileroom")[0]:
+            self.add("the rules of fileroom.nft are not active",
                      "systemctl enable fileroom-ports; systemctl restart fileroom-ports")
 
     def backup(self, room, hours):
@@ -192,6 +226,17 @@ class Findings:
             self.add(f"{room}: the latest backup is {age.total_seconds() / 3600:.0f} hours old",
                      f"journalctl -u fileroom-backup@{room} says why")
 
+    def trial(self, room):
+        """(The first backups have had no week yet.)"""
+        folder, week = self.places.backups(room), TRIED_DAYS * 86400
+        names = [it for it in (os.listdir(folder) if os.path.isdir(folder) else []) if it.endswith("Z")]
+        tried = os.path.join(folder, ".tried")
+        age = time.time() - os.lstat(tried if os.path.exists(tried) else os.path.join(folder, min(names))).st_mtime \
+            if names else 0
+        if not said("systemctl", "is-failed", "-q", f"fileroom-try@{room}.service")[0] or age > week:
+            self.add(f"{room}: the latest backup was not restored as a trial", f"systemctl start fileroom-try@{room}; "
+                     f"journalctl -u fileroom-try@{room} shows why")
+
     def backup_of_front(self, hours):
         folder = self.places.at("var/backups/fileroom-front")
         names = [it for it in (os.listdir(folder) if os.path.isdir(folder) else []) if it.endswith(".tar.gz")]
@@ -203,7 +248,7 @@ class Findings:
         if os.path.isdir(folder):
             it = shutil.disk_usage(folder)
             if it.free < min(ROOM_LEFT, it.total / 10):
-                self.add(f"the disk of {folder} has {it.free >> 20} MiB free", "take away what is not needed")
+                self.add(f"the disk of {folder} has {it.free >> 20} MiB free", "delete what is not needed")
 
 
 def runs_other(unit, pause):
@@ -218,10 +263,10 @@ def template_of(unit):
     return re.sub(r"@.*\.", "@.", unit)
 
 
-def check(places, hours, say):
-    """Says each finding, or that there is none, and notes. The exit status."""
-    it = Findings(places)
-    for task in it.programs, it.installed, it.front, it.passwords:
+def look(it, hours):
+    """Fills the findings."""
+    places = it.places
+    for task in it.programs, it.installed, it.front, it.passwords, it.wall:
         it.part(task)
     if not places.rooms():
         it.add("there is no room", "fileroom-admin room add NAME OWNER GROUP")
@@ -229,12 +274,19 @@ def check(places, hours, say):
         it.part(it.room, room)
         if it.is_here(room):
             it.part(it.backup, room, hours)
+            it.part(it.trial, room)
     if not places.rooms() or any(map(it.is_here, places.rooms())):
         it.part(it.backup_of_front, hours)
     for folder in places.at("var/lib/fileroom"), places.backups().rstrip("/"):
         it.part(it.disk, folder)
+
+
+def check(places, hours, say):
+    """Says each finding, or that there is none, and notes. The exit status."""
+    it = Findings(places)
+    look(it, hours)
     for text, remedy in it.found + it.notes:
         say(f"{text}\n    {remedy}")
     if not it.found:
-        say(f"nothing is wrong that was looked at; rooms: {', '.join(places.rooms())}")
+        say(f"no problems found; rooms checked: {', '.join(places.rooms())}")
     return 1 if it.found else 0

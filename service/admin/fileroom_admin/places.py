@@ -8,8 +8,12 @@ FRONT_FILES = {  # of the front's samples: where each goes
     "fileroom.conf": "etc/nginx/conf.d/fileroom.conf",
     "proxy.conf": "etc/nginx/fileroom/proxy.conf",
     "worker.conf": "etc/nginx/modules-enabled/60-fileroom.conf",
+    "logrotate.conf": "etc/logrotate.d/fileroom",
 }
+WORKERS = "fileroom-front"  # the group of nginx's workers
 LISTEN = "etc/nginx/fileroom/listen.conf"
+LOGINS = "var/log/nginx/fileroom-logins.log"
+CHANGES = "var/log/fileroom/changes.log"
 REDIRECT = "etc/nginx/conf.d/fileroom-redirect.conf"
 
 
@@ -64,12 +68,14 @@ class Places:
     def units(self, room):
         rejoin = [f"fileroom-rejoin@{room}.service"] if self.has_standby(room) else []
         backup = f"fileroom-backup@{room}"
-        return [f"{self.unit(room)}.service", *rejoin, f"{backup}.service", f"{backup}.timer"]
+        proxy = f"fileroom-proxy@{room}"
+        return [f"{self.unit(room)}.service", *rejoin, f"{proxy}.socket", f"{proxy}.service", f"{backup}.service",
+                f"{backup}.timer", f"fileroom-try@{room}.service", f"fileroom-try@{room}.timer"]
 
-    def read_front(self):
+    def read_front(self, how="reload-or-restart"):
         """The words that have nginx read its files. (Where a room has a standby, the cluster's manager starts it.)"""
         is_managed = any(map(self.has_standby, self.rooms()))
-        return "systemctl", "try-reload-or-restart" if is_managed else "reload-or-restart", "nginx"
+        return "systemctl", f"try-{how}" if is_managed else how, "nginx"
 
     def state(self, room):
         return self.at(f"var/lib/fileroom/{room}")
@@ -89,17 +95,13 @@ class Places:
         names = os.listdir(folder) if os.path.isdir(folder) else []
         return sorted(it.removesuffix(".env") for it in names if it.endswith(".env"))
 
-    def port(self, room):
-        for line in read(self.env(room)).splitlines():
-            name, _, value = line.partition("=")
-            if name == "PORT" and value.isdecimal():
-                return int(value)
-        raise Fault(f"{self.env(room)} has no line PORT=NUMBER")
+    def socket(self, room):
+        return self.at(f"run/fileroom/{room}.sock")
 
 
 def sample(name):
     """A file of the front as it was installed, or as the checkout has it."""
-    for folder in "../../../doc/fileroom/front", "../../../front":
+    for folder in "../../front", "../../../front":
         path = os.path.join(HERE, folder, name)
         if os.path.exists(path):
             return read(path)

@@ -1,12 +1,18 @@
 """Rosters, passwords, and names: their texts before and after a change."""
+import base64
+import ctypes
+import hashlib
 import json
 import re
+import secrets
 import tomllib
 
-from .places import Fault, asked
+from .places import Fault
 
 NAME = r"[A-Za-z0-9._-]{1,32}"
 ROOM_NAME = r"[A-Za-z0-9][A-Za-z0-9_-]{0,31}"
+SHORTEST, LONGEST = 10, 256  # letters of a password that is given
+LONGEST_NAME = 64  # letters of a display name
 USERS, GROUPS = 1000, 16  # a roster has at most so many, and a user so many groups
 
 
@@ -48,22 +54,21 @@ def line_of(user, groups):
     return f"{key} = {json.dumps(groups)}"
 
 
-def with_user(text, user, groups):
-    """The roster with a user who has these groups, or with none of that name where they are None.
+def with_users(text, changed):
+    """The roster in which each of these users has these groups, or is not where they are None.
 
     Its other lines stay as they are. Where it is written in another way than a line a user, it is written anew.
     """
-    want = {it: groups for it, groups in users_of(text).items() if it != user}
-    if groups is not None:
-        want[user] = groups
-    own = re.compile(rf"\s*([\"']?){re.escape(user)}\1\s*=")
-    lines, added = [], [line_of(user, groups)] if groups is not None else []
+    want = {user: groups for user, groups in {**users_of(text), **changed}.items() if groups is not None}
+    left = {user: line_of(user, groups) for user, groups in changed.items() if groups is not None}
+    lines = []
     for line in text.splitlines():
-        if own.match(line):
-            lines, added = lines + added, []
-        else:
+        found = re.match(rf"\s*([\"']?)({NAME})\1\s*=", line)
+        if not found or found[2] not in changed:
             lines.append(line)
-    made = "\n".join(lines + added) + "\n"
+        elif found[2] in left:
+            lines.append(left.pop(found[2]))
+    made = "\n".join([*lines, *left.values()]) + "\n"
     try:
         if users_of(made) == want:
             return made
@@ -77,14 +82,48 @@ def page_copy(text):
     return json.dumps(users_of(text)) + "\n"
 
 
-def hashed(password):
-    return asked("openssl", "passwd", "-apr1", "-stdin", stdin=password + "\n")
+def hashed_drawn(password):
+    """As nginx compares it in no time: by 96 bits that were drawn nobody comes, however quick the hash."""
+    salt = secrets.token_bytes(16)
+    return "{SSHA}" + base64.b64encode(hashlib.sha1(password.encode() + salt).digest() + salt).decode()
 
 
-def with_password(text, user, line):
-    """The front's passwords with this user's line, or without one."""
-    lines = [it for it in text.splitlines() if it.partition(":")[0] != user]
-    return "".join(f"{it}\n" for it in lines + ([f"{user}:{line}"] if line else []))
+def hashed_chosen(password):
+    """By the C library, as nginx asks it: yescrypt over 1 MiB, the least it takes, since nginx does it for each request
+    and does nothing else meanwhile, a millisecond."""
+    library = ctypes.CDLL("libcrypt.so.1")
+    for it in library.crypt, library.crypt_gensalt:
+        it.restype = ctypes.c_char_p
+    setting = library.crypt_gensalt(b"$y$", ctypes.c_ulong(1), None, 0)
+    line = library.crypt(password.encode(), setting) if setting else None
+    if not line or not line.startswith(b"$y$"):
+        raise Fault("the C library has no yescrypt: let fileroom-admin draw a password")
+    return line.decode()
+
+
+def need_display_name(name):
+    if len(name) > LONGEST_NAME or not name.isprintable():
+        raise Fault(f"a name as people write it has at most {LONGEST_NAME} letters, all of which can be seen")
+
+
+def need_password(password):
+    """(The front takes no longer login.)"""
+    if not SHORTEST <= len(password) or len(password.encode(errors="replace")) > LONGEST:
+        raise Fault(f"a password has {SHORTEST} to {LONGEST} letters")
+    if not password.isprintable():
+        raise Fault("a password has no invisible letters")
+
+
+def with_passwords(text, lines):
+    """The front's passwords with these users' lines, or without one where it is None."""
+    kept = [it for it in text.splitlines() if it.partition(":")[0] not in lines]
+    return "".join(f"{it}\n" for it in kept + [f"{user}:{line}" for user, line in lines.items() if line])
+
+
+def with_renamed(text, old, new):
+    """The front's passwords with that of one user as another's."""
+    return "".join(f"{new if user == old else user}{colon}{rest}\n" for user, colon, rest in (
+        it.partition(":") for it in text.splitlines()))
 
 
 def logins_of(text):

@@ -1,0 +1,158 @@
+"""Numbers for a monitor: `fileroom-admin check --prometheus`, as Prometheus' node exporter reads them from a file."""
+import datetime
+import json
+import os
+import re
+import shutil
+import tempfile
+import time
+
+from . import rosters
+from .changes import answers
+from .looking import Findings, end_of, look
+from .owned import latest
+from .places import LISTEN, Fault, read, said
+
+WINDOW = 600  # seconds of the front's log that are counted
+TAIL = 8 << 20  # bytes of it that are read at most
+DAYS = 8  # over which growth is taken
+LINE = re.compile(rb'\S+ - \S* \[([^\]]+)\] "[A-Z]+ /rooms/([A-Za-z0-9_-]+)/v1/[^"]*" (\d)\d\d .* ([\d.]+)$')
+ABOUT = {
+    "up": "whether the room answers at its socket",
+    "room_bytes": "size of the room's file and log",
+    "room_growth_bytes_per_day": "by its backups of the last days",
+    "memory_limit_bytes": "of the room's unit: its file has to fit it",
+    "users": "users of the roster",
+    "backups": "backups that are kept",
+    "backup_age_seconds": "since the latest backup",
+    "restore_age_seconds": "since a backup was restored and served, as a trial",
+    "standby_whole": "whether another machine could take the room over",
+    "answers": "answers of the room in the last ten minutes, by the hundred of their status",
+    "answer_seconds": "how long these took",
+    "disk_free_bytes": "free on the disk of this folder",
+    "certificate_seconds": "until the certificate ends",
+    "findings": "what fileroom-admin check finds",
+}
+
+
+class Numbers:
+    def __init__(self, places):
+        self.places, self.found = places, {it: [] for it in ABOUT}
+
+    def add(self, name, value, **labels):
+        if value is not None:
+            words = ",".join(f"{key}={json.dumps(its, ensure_ascii=False)}" for key, its in labels.items())
+            self.found[name].append(f"fileroom_{name}{{{words}}} {value:.10g}" if words else
+                                    f"fileroom_{name} {value:.10g}")
+
+    def text(self):
+        lines = []
+        for name, samples in self.found.items():
+            if samples:
+                lines += [f"# HELP fileroom_{name} {ABOUT[name]}", f"# TYPE fileroom_{name} gauge", *samples]
+        return "\n".join(lines) + "\n"
+
+    def room(self, room):
+        places = self.places
+        is_here = not places.has_standby(room) or os.path.ismount(places.state(room))
+        if places.has_standby(room):
+            self.add("standby_whole", not said("fileroom-standby", "check", room)[0], room=room)
+        self.add("users", len(rosters.users_of(read(places.roster(room)))), room=room)
+        if is_here:
+            self.add("up", answers(places.socket(room)), room=room)
+            self.add("room_bytes", size_of(places.state(room)), room=room)
+            self.add("memory_limit_bytes", memory_of(places.unit(room)), room=room)
+        self.backups(room)
+
+    def backups(self, room):
+        folder = self.places.backups(room)
+        names = sorted(it for it in (os.listdir(folder) if os.path.isdir(folder) else []) if it.endswith("Z"))
+        self.add("backups", len(names), room=room)
+        if not names:
+            return
+        self.add("backup_age_seconds", time.time() - made_at(latest(self.places, room)), room=room)
+        tried = os.path.join(folder, ".tried")
+        if os.path.exists(tried):
+            self.add("restore_age_seconds", time.time() - os.lstat(tried).st_mtime, room=room)
+        first = next(it for it in names if made_at(it) > made_at(names[-1]) - DAYS * 86400)
+        days = (made_at(names[-1]) - made_at(first)) / 86400
+        if days > 0.5:
+            grown = size_of(os.path.join(folder, names[-1])) - size_of(os.path.join(folder, first))
+            self.add("room_growth_bytes_per_day", grown / days, room=room)
+
+    def front(self):
+        found, rooms = {}, {*self.places.rooms()}
+        for line in lines_of_front(self.places.at("var/log/nginx/access.log")):
+            its = LINE.match(line)
+            if its and its[2].decode() in rooms and time.time() - logged_at(its[1]) < WINDOW:
+                found.setdefault((its[2].decode(), its[3].decode()), []).append(float(its[4]))
+        for (room, hundred), seconds in sorted(found.items()):
+            self.add("answers", len(seconds), room=room, kind=f"{hundred}xx")
+        for room in sorted({it for it, _ in found}):
+            seconds = sorted(one for (its, _), some in found.items() if its == room for one in some)
+            for share in 0.5, 0.9, 0.99:
+                self.add("answer_seconds", seconds[int(share * (len(seconds) - 1))], room=room, quantile=str(share))
+
+    def machine(self, findings):
+        for folder in self.places.at("var/lib/fileroom"), self.places.backups().rstrip("/"), self.places.at("var/log"):
+            if os.path.isdir(folder):
+                self.add("disk_free_bytes", shutil.disk_usage(folder).free, folder=folder)
+        if " ssl" in read(self.places.at(LISTEN), ""):
+            end = datetime.datetime.strptime(end_of(self.places.front("tls/cert.pem")), "%b %d %H:%M:%S %Y %Z")
+            self.add("certificate_seconds", end.replace(tzinfo=datetime.timezone.utc).timestamp() - time.time())
+        self.add("findings", len(findings.found))
+
+
+def made_at(name):
+    return datetime.datetime.strptime(name, "%Y-%m-%dT%H-%M-%SZ").replace(tzinfo=datetime.timezone.utc).timestamp()
+
+
+def size_of(folder):
+    paths = [os.path.join(folder, it) for it in ("room.db", "room.db-wal")]
+    return sum(os.lstat(it).st_size for it in paths if os.path.exists(it))
+
+
+def memory_of(unit):
+    told = re.search(r"(?m)^MemoryMax=(\d+)$", said("systemctl", "show", "--property=MemoryMax", unit)[1])
+    return int(told[1]) if told else None
+
+
+def lines_of_front(path):
+    """The last ones of the front's log, and of the one before."""
+    for it in f"{path}.1", path:
+        if os.path.exists(it):
+            with open(it, "rb") as file:
+                file.seek(max(0, os.fstat(file.fileno()).st_size - TAIL))
+                yield from file.read(TAIL).splitlines()
+
+
+def logged_at(text):
+    try:
+        return datetime.datetime.strptime(text.decode(), "%d/%b/%Y:%H:%M:%S %z").timestamp()
+    except ValueError:
+        return 0
+
+
+def told(places, hours):
+    """All of them; what cannot be had is left out, and is one of the findings."""
+    findings, it = Findings(places), Numbers(places)
+    look(findings, hours)
+    for task in (*((it.room, room) for room in places.rooms()), (it.front,), (it.machine, findings)):
+        try:
+            task[0](*task[1:])
+        except (Fault, OSError, ValueError):
+            continue
+    return it.text()
+
+
+def write(text, path):
+    """A reader of the file has the numbers of before, or these."""
+    handle, made = tempfile.mkstemp(prefix=".fileroom-", dir=os.path.dirname(os.path.abspath(path)))
+    try:
+        with open(handle, "w", encoding="utf-8") as file:
+            file.write(text)
+            os.fchmod(file.fileno(), 0o644)  # (its name may be another file's by now, in a folder of somebody's)
+        os.replace(made, path)
+    except BaseException:
+        os.unlink(made)
+        raise

@@ -1,0 +1,83 @@
+"""What a user owns in a room, and which lists name the user: as the latest backup has it, since a room that is served
+lets nobody else read its file."""
+import contextlib
+import importlib.machinery
+import importlib.util
+import os
+import sqlite3
+import sys
+import tempfile
+
+from .places import HERE, Fault
+
+TOLD = 20  # paths at most
+GROUP, INHERITED = 0x40, 0x80  # marks of an entry
+PIECES = "/.room-pieces-"  # what is in such a folder is a part of a large file
+
+
+def of_backups():
+    """The script that reads backups, without following a link."""
+    loader = importlib.machinery.SourceFileLoader("one", os.path.join(HERE, "../../fileroom-one"))
+    sys.dont_write_bytecode = True
+    module = importlib.util.module_from_spec(importlib.util.spec_from_loader("one", loader))
+    loader.exec_module(module)
+    return module
+
+
+def latest(places, room):
+    """The name of the latest backup."""
+    folder = places.backups(room)
+    names = [it for it in (os.listdir(folder) if os.path.isdir(folder) else []) if it.endswith("Z")]
+    if not names:
+        raise Fault(f"{room} has no backup")
+    return max(names)
+
+
+@contextlib.contextmanager
+def opened(places, room, name):
+    """A copy of a backup's tables."""
+    one = of_backups()
+    with tempfile.TemporaryDirectory(prefix="fileroom-") as to:
+        try:
+            one.copy_room(os.path.join(places.backups(room), name), to)
+            with contextlib.closing(sqlite3.connect(f"file:{to}/room.db?mode=rw", uri=True)) as table:
+                table.execute("PRAGMA trusted_schema = OFF")
+                yield table
+        except (one.Fault, sqlite3.Error, TypeError) as fault:  # (the last of rows that no room has)
+            raise Fault(f"the backup {name} of {room} cannot be read: {fault}") from None
+
+
+def path_of(table, node):
+    names = []
+    while node is not None and len(names) <= 17:
+        node, name = table.execute("SELECT parent, name FROM node WHERE id = ?", (node,)).fetchone()
+        names.append(name)
+    return "/".join(reversed(names)) or "/"
+
+
+def found(places, room, user):
+    """The backup, and the sorted paths that a user owns, and those whose own entries name the user."""
+    name = latest(places, room)
+    with opened(places, room, name) as table:
+        owns = table.execute("SELECT id FROM node WHERE owner = ?", (user,)).fetchall()
+        named = table.execute("SELECT DISTINCT node FROM entry WHERE who = ? AND flag & ? = 0",
+                              (user, GROUP | INHERITED)).fetchall()
+        paths = [sorted(path for it, in nodes for path in [path_of(table, it)] if PIECES not in path)
+                 for nodes in (owns, named)]
+    return name, *paths
+
+
+def told(places, room, user, to=None):
+    """Lines about it, with the one that hands it over; none where there is nothing."""
+    name, owns, named = found(places, room, user)
+    shown = of_backups().shown
+    lines = []
+    for what, paths in (f"owns {len(owns)} things", owns), (f"is named in {len(named)} lists", named):
+        if paths:
+            more = f", and {len(paths) - TOLD} more" if len(paths) > TOLD else ""
+            lines.append(f"{user} {what} in {room}, by the backup {name}: "
+                         f"{', '.join(map(shown, paths[:TOLD]))}{more}")
+    if owns:
+        lines.append(f"to hand it over, as somebody who may set owners there: room chown -r --from {user} "
+                     f"{to or 'USER'}:GROUP /")
+    return lines

@@ -1,0 +1,290 @@
+"""Users and groups, one or many at once: a command is one change, and each room of it starts again once."""
+import json
+import os
+import secrets
+import sys
+import time
+
+from . import owned, rosters, sheets
+from .changes import Change, answers
+from .places import WORKERS, Fault, read, said
+from .trash import Trashes
+
+FOR_WORKERS = 0o640, WORKERS  # who may read the passwords
+DRAWN = 12  # bytes
+PATIENCE = 120  # seconds in which a large room has read its file again
+
+
+class People:
+    """What a command of `Commands` does to users. `say` tells somebody who looks on, `tell` what -q prints too."""
+
+    def __init__(self, places, say, tell):
+        self.places, self.say, self.tell = places, say, tell
+
+    # What is there.
+
+    def passwords(self):
+        return read(self.places.front("users"), "")
+
+    def names(self):
+        """The users' names as people write them."""
+        return json.loads(read(self.places.front("names.json"), "{}"))
+
+    def need_room(self, room):
+        if room not in self.places.rooms():
+            raise Fault(f"there is no room {room}: {', '.join(self.places.rooms()) or 'none at all'}")
+
+    def users(self, room):
+        self.need_room(room)
+        return rosters.users_of(read(self.places.roster(room)), self.places.roster(room))
+
+    def need_user(self, room, user):
+        if user not in self.users(room):
+            raise Fault(f"{user} is no user of the room {room}")
+
+    def rooms_of(self, user):
+        return [it for it in self.places.rooms() if user in self.users(it)]
+
+    # Changes of rosters.
+
+    def put_roster(self, change, room, text, changed):
+        """The roster `text` with what changes of users, as `rosters.with_users` has it."""
+        made = rosters.with_users(text, changed)
+        roster = self.places.roster(room)
+        change.put(roster, made)
+        change.put(self.places.front(f"rooms/{room}.users.json"), rosters.page_copy(made))
+        one = next(iter(changed))
+        change.look(self.places.program, "replay", roster, "--", one, one)
+
+    def change_rosters(self, changed):
+        """The change of some rooms' rosters, {ROOM: {USER: groups}}; each room reads its own as it starts again."""
+        change = Change(self.places)
+        for room, its in changed.items():
+            self.put_roster(change, room, read(self.places.roster(room)), its)
+        change.then("systemctl", "try-restart", *map(self.places.unit, changed))
+        return change
+
+    def happen(self, change, *rooms):
+        """The change; then each of these rooms that is served answers again."""
+        change.happen()
+        for room in rooms:
+            self.until_answers(room)
+
+    def until_answers(self, room):
+        end, path = time.monotonic() + PATIENCE, self.places.socket(room)
+        while os.path.exists(path) and not said("systemctl", "is-active", "-q", self.places.unit(room))[0]:
+            if answers(path):
+                return
+            if time.monotonic() > end:
+                raise Fault(f"all is changed, and the room {room} does not answer yet: journalctl -u "
+                            f"{self.places.unit(room)}")
+            time.sleep(0.1)
+
+    # Passwords and names.
+
+    def draw(self, change, *users):
+        """Passwords for those of the users who have none yet."""
+        has = {*rosters.logins_of(self.passwords())}
+        return self.draw_anew(change, *(it for it in users if it not in has))
+
+    def draw_anew(self, change, *users):
+        drawn = {it: secrets.token_urlsafe(DRAWN) for it in users}
+        if drawn:
+            self.put_passwords(change, {it: rosters.hashed_drawn(word) for it, word in drawn.items()})
+        return drawn
+
+    def put_passwords(self, change, lines):
+        users = self.places.front("users")
+        change.put(users, rosters.with_passwords(self.passwords(), lines),
+                   *(() if os.path.exists(users) else FOR_WORKERS))
+
+    def tell_password(self, user, drawn):
+        """(The one thing that -q prints too.)"""
+        if user in drawn:
+            self.tell(f"the password of {user}: ", drawn[user])
+        else:
+            self.say(f"{user} keeps the old password")
+
+    def put_names(self, change, names):
+        """(A user without one is shown as the roster has it.)"""
+        kept = {user: name for user, name in sorted({**self.names(), **names}.items()) if name}
+        if kept != self.names():
+            change.put(self.places.front("names.json"), json.dumps(kept) + "\n")
+
+    # The commands for one user.
+
+    def user_add(self, room, user, groups):
+        rosters.need_name(user, "the user")
+        if user in self.users(room):
+            raise Fault(f"{user} is already in the room {room} (to change groups: fileroom-admin user groups)")
+        change = self.change_rosters({room: {user: groups}})
+        drawn = self.draw(change, user)
+        self.happen(change, room)
+        self.say(f"{user} is a user of the room {room}, in {', '.join(groups) or 'no group'}")
+        self.trash_for(room, user)
+        self.tell_password(user, drawn)
+
+    def user_groups(self, room, user, groups):
+        self.need_user(room, user)
+        self.happen(self.change_rosters({room: {user: groups}}), room)
+        self.say(f"{user} is in {', '.join(groups) or 'no group'} in the room {room}")
+
+    def user_remove(self, room, user):
+        self.need_user(room, user)
+        change = self.change_rosters({room: {user: None}})
+        elsewhere = [it for it in self.rooms_of(user) if it != room]
+        if not elsewhere:
+            self.put_passwords(change, {user: None})
+            self.put_names(change, {user: None})
+        self.happen(change, room)
+        self.say(f"{user} is no user of the room {room} any more" + (
+            f"; the login stays, for {', '.join(elsewhere)}" if elsewhere else ", and has no login"))
+        self.say(f"what {user} owned still belongs to {user}: give that name to nobody else")
+        self.user_owns(user, *([room] if elsewhere else self.places.rooms()))
+
+    def user_rename(self, old, new):
+        """In each room, with the login and the display name. What a room itself has by that name stays (`owned`)."""
+        rosters.need_name(new, "the new name")
+        rooms = self.rooms_of(old)
+        if not rooms:
+            raise Fault(f"{old} is no user of a room")
+        if self.rooms_of(new) or new in rosters.logins_of(self.passwords()):
+            raise Fault(f"{new} is there already")
+        change = self.change_rosters({it: {old: None, new: self.users(it)[old]} for it in rooms})
+        change.put(self.places.front("users"), rosters.with_renamed(self.passwords(), old, new))
+        self.put_names(change, {old: None, new: self.names().get(old)})
+        self.happen(change, *rooms)
+        self.say(f"{old} is {new} in {', '.join(rooms)}, with the same password")
+        self.say(f"a room keeps by whose name it is who owns a thing, who is named in a list, and whose a session is: "
+                 f"that stays {old}'s, also what page or client of {old} had not sent yet")
+        for room in rooms:
+            self.trash_for(room, new)
+        self.user_owns(old, *rooms, to=new)
+
+    def user_name(self, user, name):
+        if not self.rooms_of(user):
+            raise Fault(f"{user} is no user of a room")
+        rosters.need_display_name(name)
+        change = Change(self.places)
+        self.put_names(change, {user: name})
+        change.happen()
+        self.say(f"{user} is shown as {name or user}")
+
+    def user_passwd(self, user, given=None):
+        if not self.rooms_of(user):
+            raise Fault(f"{user} is no user of a room")
+        change = Change(self.places)
+        if given is None:
+            drawn = self.draw_anew(change, user)
+            change.happen()
+            self.tell_password(user, drawn)
+        else:
+            rosters.need_password(given)
+            self.put_passwords(change, {user: rosters.hashed_chosen(given)})
+            change.happen()
+            self.say(f"{user} has the given password")
+
+    def user_owns(self, user, *rooms, to=None):
+        """What the latest backups say that a user owns, and which lists name the user, with the line that hands it
+        over."""
+        for room in rooms or self.places.rooms():
+            try:
+                lines = owned.told(self.places, room, user, to)
+            except (Fault, OSError) as fault:
+                lines = [f"what {user} owns in {room} is not known: {fault}"]
+            for it in lines:
+                self.say(it)
+
+    # The commands for many.
+
+    def user_import(self, room, path, is_update):
+        """Users as a table has them. All of it is looked at before anything happens."""
+        there, names = self.users(room), self.names()
+        rows, faults = sheets.read_users(path, there, is_update)
+        if not faults and len({*there, *rows}) > rosters.USERS:
+            faults = [f"the room {room} would have {len({*there, *rows})} users, and {rosters.USERS} are the most"]
+        for it in faults:
+            print(f"fileroom-admin: {it}", file=sys.stderr)
+        if faults:
+            raise Fault(f"nothing was changed: {len(faults)} faults in {path}")
+        its_groups = {user: groups for user, (groups, _) in rows.items() if there.get(user) != groups}
+        change = self.change_rosters({room: its_groups}) if its_groups else Change(self.places)
+        drawn = self.draw(change, *rows)
+        self.put_names(change, {user: names.get(user) if name is None else name for user, (_, name) in rows.items()})
+        self.happen(change, *[room] * bool(its_groups))
+        new = [it for it in rows if it not in there]
+        self.say(f"{room}: {len(new)} new users, {len(its_groups) - len(new)} with other groups, "
+                 f"{len(rows)} in the table")
+        self.trash_for(room, *new)
+        for user, word in drawn.items():
+            self.tell("", f"{user},{word}")
+
+    def group_change(self, room, group, users, is_in):
+        """Some users at once into a group, or out of it."""
+        rosters.need_name(group, "the group")
+        there = self.users(room)
+        strangers = [it for it in users if it not in there]
+        if strangers:
+            raise Fault(f"no users of the room {room}: {', '.join(strangers)}")
+        changed = {it: [*there[it], group] if is_in else [one for one in there[it] if one != group]
+                   for it in users if (group in there[it]) != is_in}
+        full = [it for it, groups in changed.items() if len(groups) > rosters.GROUPS]
+        if full:
+            raise Fault(f"in {rosters.GROUPS} groups already: {', '.join(full)}")
+        if changed:
+            self.happen(self.change_rosters({room: changed}), room)
+        self.say(f"{room}: {len(changed)} users {'came to' if is_in else 'left'} {group}")
+
+    def group_list(self, room=None):
+        for it in [room] if room else self.places.rooms():
+            groups = {}
+            for user, its in self.users(it).items():
+                for group in its:
+                    groups.setdefault(group, []).append(user)
+            for group, users in sorted(groups.items()):
+                self.say(f"{it}  {group}  {','.join(users)}")
+
+    def user_list(self, room=None, is_table=False):
+        logins, names = rosters.logins_of(self.passwords()), self.names()
+        if is_table:
+            self.say(sheets.written(self.users(room), names).rstrip("\n"))
+            return
+        for it in [room] if room else self.places.rooms():
+            for user, groups in self.users(it).items():
+                name = f"  {names[user]}" if user in names else ""
+                self.say(f"{it}  {user}  {','.join(groups) or '-'}  "
+                         f"{'login' if user in logins else 'no login'}{name}")
+
+    # Trashes.
+
+    def trash_for(self, room, *users):
+        """(What the room refuses here can be done later.)"""
+        faults = {}
+        try:
+            with Trashes(self.places.socket(room), self.users(room)) as trashes:
+                for user in users:
+                    try:
+                        trashes.settle(user)
+                    except Fault as fault:
+                        faults[user] = fault
+        except Fault as fault:
+            faults = dict.fromkeys(users, fault)
+        for user, fault in list(faults.items())[:3]:
+            self.say(f"{user} has no trash: {fault}; then: fileroom-admin trash {room}")
+        if len(faults) > 3:
+            self.say(f"and {len(faults) - 3} others have none")
+
+    def trash(self, room):
+        """For each user of a room one that is theirs alone."""
+        users, done, faults = self.users(room), 0, []
+        with Trashes(self.places.socket(room), users) as trashes:
+            for user in users:
+                try:
+                    done += trashes.settle(user)
+                except Fault as fault:
+                    faults.append(f"{user} has no trash: {fault}")
+        for it in faults:
+            self.say(it)
+        self.say(f"{room}: {len(users) - len(faults)} of {len(users)} users have a trash ({done} new)")
+        if faults:
+            raise Fault(f"{len(faults)} users have no trash")

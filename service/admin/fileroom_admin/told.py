@@ -1,0 +1,171 @@
+"""Who changed what in a room, and when: the front's log of changes, with a line for each change."""
+import datetime
+import gzip
+import json
+import os
+import re
+
+from .owned import of_backups
+from .places import CHANGES, Fault
+
+DONE_MOST = 24  # bytes of a reply: {"code":0,"size":65536} is the longest of what was done, and refusals are longer
+APART = datetime.timedelta(minutes=10)  # pieces of a large file that come later than this are another upload
+# of a large file (docs/FILES.md)
+PART = re.compile(r"(.+?)/\.room-(?:file|(?:writing|pieces|gone|new)-[0-9a-f]{16})(?:/.*)?")
+
+
+def files_of(places):
+    """The log's files, the oldest first."""
+    folder, name = os.path.split(places.at(CHANGES))
+    found = {}
+    for it in os.listdir(folder) if os.path.isdir(folder) else []:
+        number = re.fullmatch(rf"{re.escape(name)}(?:\.(\d+)(?:\.gz)?)?", it)
+        if number:
+            found[int(number[1] or 0)] = os.path.join(folder, it)
+    return [found[it] for it in sorted(found, reverse=True)]
+
+
+def lines_of(places, since):
+    for path in files_of(places):
+        if since and os.stat(path).st_mtime < since.timestamp():
+            continue
+        with (gzip.open if path.endswith(".gz") else open)(path, "rb") as file:
+            yield from file
+
+
+def since_when(text):
+    """A day, a day and a time (of this machine), or how long ago: 3d, 12h."""
+    ago = re.fullmatch(r"(\d{1,5})([dh])", text)
+    now = datetime.datetime.now().astimezone()
+    try:
+        if ago:
+            return now - datetime.timedelta(**{"days" if ago[2] == "d" else "hours": int(ago[1])})
+        return datetime.datetime.fromisoformat(text).astimezone()
+    except (ValueError, OverflowError):
+        raise Fault(f"{text!r} is no time: a day (2026-11-28), with a time (2026-11-28T09:00), or 3d, 12h") from None
+
+
+class Change:
+    """A request that asked for a change, as the first line of it has it; `count` is how often it was sent."""
+
+    def __init__(self, line):
+        its = json.loads(line.decode("utf-8", "replace"))  # (a text can be cut within a letter)
+        self.room, _, rest = its["slot"].partition("/")
+        self.slot, self.number = rest.rsplit("/", 1)
+        self.time, self.user, self.source = datetime.datetime.fromisoformat(its["time"]), its["user"], its["from"]
+        self.text, self.count, self.parts, self.last = its["asked"], 1, 0, self.time
+        self.status, self.outcome = its["status"], outcome_of(its["status"], its["length"])
+        try:
+            self.asked = json.loads(self.text)
+            self.asked = self.asked if isinstance(self.asked, dict) else {}
+        except (ValueError, RecursionError):
+            self.asked = {}
+        self.cmd, self.cmds, self.paths = str(self.asked.get("cmd", "?")), set(), self.all_paths()
+        self.file = self.file_of_all()
+
+    @property
+    def path(self):
+        return str(self.asked.get("path", ""))
+
+    def all_paths(self):
+        return {str(self.asked[it]) for it in ("path", "to") if it in self.asked}
+
+    def file_of_all(self):
+        """The large file that each of its paths is a part of. (What leaves a file is something by itself.)"""
+        files = {part and part[1] for part in map(PART.fullmatch, self.all_paths())}
+        return files.pop() if len(files) == 1 else None
+
+    def is_below(self, top):
+        """Whether it is, or may be: a path that is not known can be any."""
+        return not self.path or any(it == top or it.startswith(f"{top.rstrip('/')}/") for it in self.paths)
+
+    def again(self, other):
+        """It was sent again. What the room did stands, whatever else was answered before or after."""
+        self.count += 1
+        if self.outcome == "no answer" or other.status == "200" != self.status:
+            self.status, self.outcome = other.status, other.outcome
+
+    def also(self, other):
+        """Another request of the same large file."""
+        self.parts += 1
+        self.cmds.add(other.cmd)
+        self.paths |= other.paths
+        self.outcome = self.outcome if self.outcome == other.outcome else "done in part"
+        self.last = other.time
+
+    def words(self):
+        if self.file:
+            return f"{'+'.join(sorted(self.cmds))} of the large file {self.file} ({self.parts} requests)"
+        if not self.text:
+            return "in pieces, whose text the front did not keep"
+        if not self.path:
+            return f"in an odd form: {self.text[:200]}"
+        more = {"RENAME": lambda: f" -> {self.asked.get('to')}",
+                "CHOWN": lambda: f" to {self.asked.get('owner')}:{self.asked.get('group')}",
+                "SETLIST": lambda: f": {entries(self.asked.get('entries'))}"}.get(self.cmd, str)()
+        return f"{self.cmd} {self.path}{more}"
+
+    def told(self):
+        again = f"  ({self.count} times)" if self.count > 1 else ""
+        return "  ".join([self.time.isoformat(), self.user, self.source, self.outcome, self.words()]) + again
+
+
+def outcome_of(status, length):
+    """By the length of the room's reply: its text is not in the log."""
+    if status == "409":
+        return "refused"
+    if status != "200" or not length.isdecimal():
+        return "no answer"
+    return "done" if int(length) <= DONE_MOST else "refused"
+
+
+def entries(its):
+    """A list in words, its rights as numbers."""
+    found = []
+    for it in its if isinstance(its, list) else []:
+        if isinstance(it, dict):
+            kind = "deny" if it.get("type") == 1 else "allow"
+            who = ("group " if int(it.get("flag") or 0) & 0x40 else "") + str(it.get("who"))
+            found.append(f"{kind} {who} {int(it.get('mask') or 0):x}")
+    return ", ".join(found) or "an empty list"
+
+
+class Told:
+    """What came of the lines so far: each change once, with the requests of a large file as one."""
+
+    def __init__(self):
+        self.changes, self.last, self.files = [], {}, {}
+
+    def take(self, change):
+        before = self.last.get((change.room, change.slot))
+        if before and (before.number, before.text, before.user) == (change.number, change.text, change.user):
+            before.again(change)
+            return
+        self.last[change.room, change.slot] = change
+        whole = change.file and self.files.get((change.room, change.user, change.file))
+        if whole and change.time - whole.last < APART:
+            whole.also(change)
+            return
+        if change.file:
+            change.also(change)
+            self.files[change.room, change.user, change.file] = change
+        self.changes.append(change)
+
+
+def log(places, room, given, say):
+    """Those of a room, of one user, at or below a path, since a time, as wanted."""
+    since = since_when(given.since) if given.since else None
+    told, odd, shown = Told(), 0, of_backups().shown
+    for line in lines_of(places, since):
+        try:
+            change = Change(line)
+        except (ValueError, KeyError, TypeError, AttributeError):
+            odd += 1
+            continue
+        if change.room == room and (since is None or change.time >= since):
+            told.take(change)
+    for it in told.changes:
+        if given.user in (None, it.user) and (given.path is None or it.is_below(given.path)):
+            say(shown(it.told()))
+    if odd:
+        raise Fault(f"{odd} lines of the log cannot be read")

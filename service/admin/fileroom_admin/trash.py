@@ -1,0 +1,217 @@
+"""The trash of each user: a folder of the room that is theirs alone (docs/FILES.md). The room is asked for it by its
+socket, which takes the name of any user from root."""
+import http.client
+import json
+import os
+import secrets
+import socket
+import time
+
+from .places import Fault
+
+TOP = "/trash"
+WAIT = 20  # seconds that a room may take to start
+NOENT, ACCESS = 1, 5
+FOLDER = "folder"
+ALL, VIEW = 0x1F07FF, 0x1200A9  # rights
+FOLLOWS, PROTECTED = 1, 2  # whether a list takes over what the folder above hands down; the second counts
+HANDED_DOWN = 3  # to documents and folders
+GROUP = 0x40  # the name is a group's
+OWNER, EVERYONE = "OWNER@", "EVERYONE@"
+
+
+def entry(who, mask, flag=0):
+    return {"type": 0, "flag": flag, "mask": mask, "who": who}
+
+
+FOR_ALL = [entry(OWNER, ALL), entry(EVERYONE, VIEW)]  # of folders in which the trashes are
+
+
+def entries_of(user):
+    """Of the user's own, who alone has a right on it."""
+    return [entry(OWNER, ALL), entry(user, ALL, HANDED_DOWN)]
+
+
+def is_private(its, user):
+    """Whether a list is of the user alone, as page and client take it for a trash."""
+    follows = its["aclflag"] & (FOLLOWS | PROTECTED) == FOLLOWS
+    return not follows and all(it["who"] == OWNER or it["who"] == user and not it["flag"] & GROUP
+                               for it in its["entries"])
+
+
+def part_of(user):
+    """(A folder holds 256 things, and a room has up to 1,000 users.)"""
+    return f"{TOP}/@{sum(user.encode()) % 16:x}"
+
+
+class Line(http.client.HTTPConnection):
+    """One connection to a room's socket."""
+
+    def __init__(self, path):
+        super().__init__("localhost", timeout=WAIT)
+        self.path = path
+
+    def connect(self):
+        self.sock = socket.socket(socket.AF_UNIX)
+        self.sock.settimeout(self.timeout)
+        self.sock.connect(self.path)
+
+
+class Session:
+    """A user's, of one slot: a request is sent until it is answered, and acts once."""
+
+    def __init__(self, path, user):
+        self.path, self.user, self.number = path, user, 0
+        self.target = f"/v1/sessions/{secrets.token_hex(16)}"
+        self.opened = self.send("POST", self.target, {"slots": 1})
+
+    def send(self, method, target, body=None):
+        end = time.monotonic() + WAIT
+        while True:
+            status, reply = self.once(method, target, body)
+            if reply is not None and status != 503:
+                return reply
+            if time.monotonic() > end:
+                raise Fault(f"the room does not answer at {self.path}")
+            time.sleep(0.1)
+
+    def once(self, method, target, body):
+        line = Line(self.path)
+        try:
+            text = b"" if body is None else json.dumps(body).encode()
+            line.request(method, target, text, {"room-user": self.user, "connection": "close"})
+            answer = line.getresponse()
+            return answer.status, json.loads(answer.read())
+        except (OSError, http.client.HTTPException, ValueError):
+            return 0, None
+        finally:
+            line.close()
+
+    def ask(self, cmd, path, **more):
+        if self.opened["code"]:
+            return self.opened
+        self.number += 1
+        return self.send("POST", f"{self.target}/slots/0/{self.number}", {"cmd": cmd, "path": path, **more})
+
+    def need(self, cmd, path, *but, **more):
+        """The reply, where it is none of a refusal, or one of these."""
+        reply = self.ask(cmd, path, **more)
+        if reply["code"] and reply["code"] not in but:
+            raise Fault(f"{self.user} is refused {cmd} {path}: {reply.get('error')} ({reply['code']})"
+                        + (f" at {reply['path']}" if "path" in reply else ""))
+        return reply
+
+    def end(self):
+        if not self.opened["code"]:
+            self.send("DELETE", self.target)
+
+
+class Trashes:
+    """Those of one room. `users` are its roster's, with their groups."""
+
+    def __init__(self, path, users):
+        if not os.path.exists(path):
+            raise Fault("the room is not served")
+        self.path, self.users, self.sessions, self.names = path, users, {}, {}
+
+    def __enter__(self):
+        its = self.root()
+        self.owner, self.group = its["owner"], its["group"]
+        self.need_user(self.owner, "/")
+        self.need_folder(TOP)
+        return self
+
+    def __exit__(self, *_):
+        for it in self.sessions.values():
+            it.end()
+
+    def by(self, user):
+        if user not in self.sessions:
+            self.sessions[user] = Session(self.path, user)
+        return self.sessions[user]
+
+    def need_user(self, user, path):
+        if user not in self.users:
+            raise Fault(f"{path} is {user}'s, who is no user of the room: add {user} to it for this")
+
+    def root(self):
+        """Whose the room is, as the first user tells who may ask for that."""
+        for user in self.users:
+            its = self.by(user).ask("STAT", "/")
+            if its["code"] == 0:
+                return its
+        raise Fault("no user of the room has the right to ask who owns it")
+
+    def need_folder(self, path):
+        """One in which the room's owner alone makes anything, whoever made it, and whatever list it had."""
+        mine = self.by(self.owner)
+        if mine.ask("STAT", path)["code"] == ACCESS:
+            self.open_up(path)
+        its = mine.need("STAT", path, NOENT)
+        if its.get("kind") not in (None, FOLDER):
+            self.put_aside(path)
+            its = {"code": NOENT}
+        if its["code"] == NOENT:
+            mine.need("MKDIR", path)
+        elif its["owner"] != self.owner:
+            self.hand_over(its["owner"], path, self.owner, self.group, FOR_ALL)
+        if mine.need("GETLIST", path)["entries"] != FOR_ALL:
+            mine.need("SETLIST", path, aclflag=PROTECTED, entries=FOR_ALL)
+
+    def open_up(self, path):
+        """One whose list keeps the room's owner out: its own owner, who is one of the users, may always set it."""
+        for user in self.users:
+            if self.by(user).ask("SETLIST", path, aclflag=PROTECTED, entries=FOR_ALL)["code"] == 0:
+                return
+        raise Fault(f"no user of the roster may set the list of {path}: add its owner to the roster for this")
+
+    def put_aside(self, path):
+        """What is no folder, in the place of one."""
+        self.by(self.owner).need("RENAME", path, to=f"{path}.was-{secrets.token_hex(4)}")
+
+    def hand_over(self, giver, path, owner, group, entries):
+        """The new owner sets the list too: a giver who is not the room's owner may have set another meanwhile."""
+        self.need_user(giver, path)
+        self.by(giver).need("SETLIST", path, aclflag=PROTECTED, entries=entries)
+        self.by(giver).need("CHOWN", path, owner=owner, group=group)
+        if giver != self.owner:
+            self.by(owner).need("SETLIST", path, aclflag=PROTECTED, entries=entries)
+
+    def children(self, path):
+        if path not in self.names:
+            self.names[path] = dict(self.by(self.owner).need("LIST", path)["names"])
+        return self.names[path]
+
+    def need_part(self, path):
+        if path not in self.names:
+            self.need_folder(path)
+
+    def settle(self, user):
+        """Whether there was something to do, so that the user has one."""
+        part, old = part_of(user), f"{TOP}/{user}"
+        path = f"{part}/{user}"
+        self.need_part(part)
+        kind = self.children(part).get(user)
+        if kind == FOLDER:
+            return self.adopt(path, user)
+        if kind:
+            self.put_aside(path)
+        if self.children(TOP).get(user) == FOLDER:
+            return self.adopt(old, user)
+        self.by(self.owner).need("MKDIR", path)
+        self.give(self.owner, path, user)
+        return True
+
+    def give(self, giver, path, user):
+        self.hand_over(giver, path, user, (self.users.get(user) or [user])[0], entries_of(user))
+
+    def adopt(self, path, user):
+        """One of before: whoever made it may own it, or have given it a list; or a call left it in its middle."""
+        mine = self.by(user)
+        its, its_list = mine.ask("STAT", path), mine.ask("GETLIST", path)
+        is_own = its_list["code"] == 0  # (where the user may not ask whose it is: its list lets nobody in)
+        giver = its.get("owner", user if is_own else self.owner)
+        if giver == user and its["code"] == 0 and is_private(its_list, user):
+            return False
+        self.give(giver, path, user)
+        return True

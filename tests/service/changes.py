@@ -1,0 +1,209 @@
+"""The front's log of changes, and `fileroom-admin log`: each change once, however its request is written."""
+import base64
+import json
+import os
+import subprocess
+import sys
+import time
+
+from nginx import Front
+from served import HERE, Line, Room, bytes_of, message
+
+ADMIN = os.path.join(HERE, "..", "service", "admin", "fileroom-admin")
+CLIENT = os.path.join(HERE, "..", "client", "room")
+SID = "0123456789abcdef0123456789abcdef"
+USERS = {"ann": "ann-word", "bob": "bob-word"}
+KEPT = 3500  # bytes of a command that the log has
+LONGEST = 7500  # bytes of a line of the log, whatever is asked
+
+
+class Asked:
+    """A room behind a front, and what its log then tells."""
+
+    def __init__(self, folder):
+        os.makedirs(os.path.join(folder, "front"))
+        self.folder, self.room = folder, Room(folder).start()
+        self.front = Front(os.path.join(folder, "front"), USERS, {"plans": self.room.port},
+                           os.path.join(HERE, "..", "page"))
+        self.numbers = {}
+        for user in USERS:
+            self.once(user, "", b'{"slots":4}')
+        os.makedirs(os.path.join(folder, "root", "var", "log"))
+        os.symlink(os.path.join(folder, "front", "work"), os.path.join(folder, "root", "var", "log", "fileroom"))
+
+    def once(self, user, target, body):
+        sid = SID if user == "ann" else SID[::-1]
+        return self.front.once(user, "POST", f"/rooms/plans/v1/sessions/{sid}{target}", body)
+
+    def sends(self, body, user="ann", number=None, of=None):
+        """Sends a command, as text or as it stands; its reply's code."""
+        self.numbers[user] = self.numbers.get(user, 0) + (number is None)
+        body = body if isinstance(body, bytes) else json.dumps(body).encode()
+        answer = self.once(user, f"/slots/0/{number or self.numbers[user]}", body)
+        return answer and json.loads(answer.body)["code"] if answer and answer.body[:1] == b"{" else None
+
+    def tells(self, *words):
+        line = [sys.executable, "-B", ADMIN, "--root", os.path.join(self.folder, "root"), "log", "plans", *words]
+        done = subprocess.run(line, capture_output=True, text=True, timeout=120)
+        return done.returncode, [it.split("  ", 3)[1::2] for it in done.stdout.splitlines()], done.stderr
+
+    def new(self):
+        """What the log has since the last time, without times and addresses."""
+        time.sleep(0.2)
+        status, lines, faults = self.tells()
+        seen, self.seen = getattr(self, "seen", 0), len(lines)
+        return (status, faults, ["  ".join(it) for it in lines[seen:]])
+
+
+def told(asked, tally, what, *want):
+    tally.differs(what, asked.new(), (0, "", [*want]))
+
+
+def each_command(asked, tally):
+    """What changes something has a line, with whether it was refused; what looks has none."""
+    data = base64.b64encode(bytes(65536)).decode()
+    entry = [{"type": 0, "flag": 0x43, "mask": 0x1200A9, "who": "staff"},
+             {"type": 1, "flag": 0, "mask": 2, "who": "eve"},
+             {"type": 0, "flag": 3, "mask": 0x1F07FF, "who": "OWNER@"}]
+    for body in ({"cmd": "MKDIR", "path": "/a"}, {"cmd": "CREATE", "path": "/a/b", "data": "aGk="},
+                 {"data": data, "cmd": "WRITE", "path": "/a/b"}, {"cmd": "APPEND", "path": "/a/b", "data": "aGk="},
+                 {"cmd": "RENAME", "path": "/a/b", "to": "/a/c", "keep": False},
+                 {"aclflag": 0, "cmd": "SETLIST", "path": "/a/c", "entries": entry[:2]},
+                 {"cmd": "CHOWN", "path": "/a/c", "owner": "bob", "group": "staff"},
+                 {"cmd": "REMOVE", "path": "/a/none"}, {"cmd": "REMOVE", "path": "/a"}):
+        asked.sends(body)
+    asked.sends({"cmd": "MKDIR", "path": "/a/x"}, "bob")
+    told(asked, tally, "each command",
+         *(f"ann  {it}" for it in ("done  MKDIR /a", "done  CREATE /a/b", "done  WRITE /a/b", "refused  APPEND /a/b",
+                                   "done  RENAME /a/b -> /a/c",
+                                   "refused  SETLIST /a/c: allow group staff 1200a9, deny eve 2",
+                                   "done  CHOWN /a/c to bob:staff", "refused  REMOVE /a/none", "refused  REMOVE /a")),
+         "bob  refused  MKDIR /a/x")
+    looks = [{"cmd": it, "path": "/a"} for it in ("STAT", "LIST", "READ", "GETLIST")]
+    looks += [{"cmd": "ACCESS", "mask": 1, "path": "/a"}, {"path": "/a", "keep": True, "cmd": "LIST"}]
+    for body in [*looks, b' {"path" : "/a\\"b" ,\n"cmd":"STAT"}\r\n', b'{"cmd":"GETLIST","path":"/\\u00e4"}']:
+        asked.sends(body)
+    asked.sends(b"no command")
+    asked.numbers["ann"] -= 1
+    asked.once("ann", "/slots/x/1", b'{"cmd":"MKDIR","path":"/y"}')
+    told(asked, tally, "looks, and what is no command")
+
+
+def pieces(asked, body):
+    """A command whose length no field tells, in pieces of a byte: six on the way, so that a large one fills nginx's
+    buffer."""
+    line = Line(asked.front.port)
+    fields = asked.front.fields("ann", ["transfer-encoding: chunked"])
+    head = message(None, "POST", f"/rooms/plans/v1/sessions/{SID}/slots/0/{asked.numbers['ann']}", fields=fields)
+    cut = b"".join(b"1\r\n%c\r\n" % it for it in body)
+    line.ask(head.replace(b"content-length: 0\r\n", b"") + cut + b"0\r\n\r\n")
+    line.close()
+
+
+def odd_forms(asked, tally):
+    """Nobody is left out by how a request is written."""
+    forms = {b'{"cmd":"READ","path":"/a","cmd":"MKDIR","path":"/o1"}': "MKDIR /o1",
+             b'{"\\u0063md":"MKDIR","path":"/o2"}': "MKDIR /o2",
+             b'{"cmd":"MKD\\u0049R","p\\u0061th":"/o3"}': "MKDIR /o3",
+             b'\n{\n\t"cmd" : "MKDIR",\r\n\t"path" : "/o4"\n}\n': "MKDIR /o4",
+             b'{"cmd":"CREATE","data":"aGk\\u003d","path":"/o5"}': "CREATE /o5",
+             b'{"cmd":"MKDIR","path":"/\\"cmd\\":\\"READ\\""}': 'MKDIR /"cmd":"READ"',
+             b'{"cmd":"MKDIR","path":"/\\"data\\":\\"x"}': 'MKDIR /"data":"x',
+             "{\"cmd\":\"MKDIR\",\"path\":\"/\u202eo6\u2028\"}".encode(): "MKDIR /\\u202eo6\\u2028"}
+    for body, want in forms.items():
+        code = asked.sends(body)
+        told(asked, tally, f"{body}: {code}", f"ann  done  {want}")
+    for size, want in (8, "CREATE /o8"), (40000, "in pieces, whose text the front did not keep"):
+        asked.numbers["ann"] += 1
+        pieces(asked, b'{"cmd":"CREATE","data":"%s","path":"/o%d"}' % (b"A" * size, size))
+        told(asked, tally, f"{size} bytes in pieces", f"ann  done  {want}")
+    head, end = b'{"cmd":"MKDIR",', '"path":"/h\u00e9"}'.encode()
+    cut = head + b" " * (KEPT - 1 - len(head) - end.index(b"\xc3")) + end  # (within the letter)
+    tally.differs("a letter that is cut", asked.sends(cut), 0)
+    told(asked, tally, "what is cut there", "ann  done  in an odd form: " + cut[:200].decode())
+    padded = b'{' + b" " * 4000 + b'"cmd":"MKDIR","path":"/o7"}'
+    tally.differs("a long one", asked.sends(padded), 0)
+    told(asked, tally, "what is cut", "ann  done  in an odd form: {" + " " * 199)
+
+
+def once_each(asked, tally):
+    """A request that is sent again is told once, also where the first had no answer; another one of its number too."""
+    for _ in range(3):
+        asked.sends({"cmd": "MKDIR", "path": "/r"}, number=asked.numbers["ann"] + 1)
+    asked.numbers["ann"] += 1
+    asked.sends({"cmd": "MKDIR", "path": "/s"}, number=asked.numbers["ann"])
+    asked.sends({"cmd": "MKDIR", "path": "/t"}, number=asked.numbers["ann"] + 5)
+    told(asked, tally, "a repeat", "ann  done  MKDIR /r  (3 times)", "ann  refused  MKDIR /s", "ann  refused  MKDIR /t")
+    late = asked.numbers["ann"] + 2
+    asked.sends({"cmd": "MKDIR", "path": "/v"}, number=late)
+    asked.sends({"cmd": "STAT", "path": "/"})
+    asked.sends({"cmd": "MKDIR", "path": "/v"})
+    told(asked, tally, "misordered, and then done", "ann  done  MKDIR /v  (2 times)")
+    asked.room.kill()
+    asked.sends({"cmd": "MKDIR", "path": "/u"})
+    told(asked, tally, "no answer", "ann  no answer  MKDIR /u")
+    asked.room.start()
+    asked.seen -= 1
+    asked.sends({"cmd": "MKDIR", "path": "/u"}, number=asked.numbers["ann"])
+    told(asked, tally, "and then one", "ann  done  MKDIR /u  (2 times)")
+
+
+def large_files(asked, tally):
+    """The requests of an upload are one line, and so are those of its next version."""
+    path = os.path.join(asked.folder, "lake.jpg")
+    with open(path, "wb") as file:
+        file.write(os.urandom(400_000))
+    words = ["--url", f"http://127.0.0.1:{asked.front.port}/rooms/plans", "--login", "ann", "--password-file",
+             os.path.join(asked.folder, "word"), "--state", os.path.join(asked.folder, "state")]
+    with open(words[5], "w", opener=lambda *it: os.open(*it, 0o600), encoding="utf-8") as file:
+        file.write("ann-word\n")
+    line = [sys.executable, "-B", CLIENT, *words, "put", path, "/lake.jpg"]
+    done = subprocess.run(line, capture_output=True, text=True)
+    tally.differs(f"put: {done.stderr}", done.returncode, 0)
+    status, faults, lines = asked.new()
+    lines = [it for it in lines if "/lake.jpg" in it]
+    tally.differs(f"a large file: {lines}", (status, faults, [it.partition(" (")[0] for it in lines]), (
+        0, "", ["ann  done  MKDIR /lake.jpg", "ann  done  CREATE+MKDIR+RENAME of the large file /lake.jpg"]))
+
+
+def out_of_a_file(asked, tally):
+    """What leaves a large file, and what only has such a name, has a line by itself."""
+    inside = ".room-pieces-0123456789abcdef"
+    for body in ({"cmd": "MKDIR", "path": "/b"}, {"cmd": "MKDIR", "path": f"/b/{inside}"},
+                 {"cmd": "CREATE", "path": f"/b/{inside}/000", "data": "aGk="},
+                 {"cmd": "RENAME", "path": f"/b/{inside}/000", "to": "/b/bill"},
+                 {"cmd": "MKDIR", "path": "/b/.room-x"}):
+        tally.differs(f"{body}", asked.sends(body), 0)
+    told(asked, tally, "what leaves a file", "ann  done  MKDIR /b",
+         "ann  done  CREATE+MKDIR of the large file /b (2 requests)", f"ann  done  RENAME /b/{inside}/000 -> /b/bill",
+         "ann  done  MKDIR /b/.room-x")
+
+
+def filters(asked, tally):
+    """By user, path, and time; and a line that cannot be read is told."""
+    asked.sends({"cmd": "MKDIR", "path": "/a/f"})
+    time.sleep(0.2)
+    tally.differs("--user", [it for it in asked.tells("--user", "bob")[1]], [["bob", "refused  MKDIR /a/x"]])
+    at = [it.split()[2:4] for it in map("  ".join, asked.tells("--path", "/a/c")[1])]
+    tally.differs("--path", [it[0] for it in at if it[0] != "in"], ["RENAME", "SETLIST", "CHOWN"])
+    tally.differs("what it may be too", [it for it in at if it[0] == "in"], [["in", "pieces,"], *2 * [["in", "an"]]])
+    tally.differs("--since", [len(asked.tells("--since", it)[1]) > 0 for it in ("1h", "2020-01-01", "2999-01-01")],
+                  [True, True, False])
+    tally.differs("no time", asked.tells("--since", "soon")[0], 1)
+    log = os.path.join(asked.folder, "front", "work", "changes.log")
+    longest = max(map(len, bytes_of(log).splitlines()))
+    tally.differs(f"no line is longer: {longest}", longest <= LONGEST, True)
+    os.rename(log, f"{log}.2")
+    subprocess.run(["gzip", f"{log}.2"], check=True)
+    with open(f"{log}.1", "w", encoding="utf-8") as file:
+        file.write("no line\n")
+    status, lines, faults = asked.tells()
+    tally.differs("what was turned over", (status, len(lines) > 20, faults),
+                  (1, True, "fileroom-admin: 1 lines of the log cannot be read\n"))
+
+
+def tried(folder, tally):
+    asked = Asked(folder)
+    for task in each_command, odd_forms, once_each, large_files, out_of_a_file, filters:
+        task(asked, tally)
+    asked.room.kill()
