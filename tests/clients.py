@@ -42,6 +42,7 @@ class SharedTally(Tally):
 
 class Caller:
     """A user with a session of one slot. `once(method, target, body)` sends one message: its answer, or None."""
+    pause = 0.05  # seconds at most before it sends again
 
     def __init__(self, once, sid):
         self.once, self.sid, self.seq = once, sid, 0
@@ -52,7 +53,7 @@ class Caller:
         while not got or got.status in AGAIN:
             got = self.once(method, target, body)
             if not got or got.status in AGAIN:
-                time.sleep(random.random() / 20)
+                time.sleep(random.random() * self.pause)
         return got
 
     def open(self):
@@ -70,6 +71,7 @@ class Caller:
 
 class Client(Caller):
     """A caller that sends each request again at random: its answer is then the same."""
+    shared = SHARED
 
     def __init__(self, once, number, seed, pieces, tally):
         super().__init__(once, f"{number:032x}")
@@ -102,7 +104,7 @@ class Client(Caller):
             piece = f"{name};".encode()
             got = self.append(self.own(), piece)
             self.tally.differs("APPEND", got, b'{"code":0,"size":%d}' % ((n + 1) * len(piece)))
-            self.append(SHARED, piece)
+            self.append(self.shared, piece)
 
 
 def play_with_kills(room, clients, kills, seed, tally):
@@ -124,7 +126,7 @@ def play_with_kills(room, clients, kills, seed, tally):
 
 def look(reader, clients, tally):
     """Nothing is lost, and nothing there twice."""
-    shared = reader.read(SHARED)
+    shared = reader.read(clients[0].shared)
     tally.differs("what all share has each piece once", sorted(shared), [name for it in clients for name in it.names()])
     for it in clients:
         own = [name for name in shared if name.startswith(f"{it.number:04d}")]

@@ -3,6 +3,7 @@ import sys
 from collections.abc import Callable
 
 from . import words
+from .documents import need_path
 from .faults import BadWords, Refused
 from .files import carried, large_at
 from .local import read_local
@@ -13,22 +14,23 @@ from .words import shown
 ACL = """\
 without an action: shows the list as lines that `give` takes back. Actions:
 
-  set ENTRY..     these are its own entries, and no others
-  add ENTRY..     puts them in front of its own entries (where one is there already, it goes to the front;
-                  where all of them are in front already, nothing is sent)
+  set ENTRY..     makes these its own entries, and no others
+  add ENTRY..     puts them in front of its own entries (if one is there already, it moves to the front;
+                  if all of them are in front already, nothing is sent)
   drop ENTRY..    takes them away
-  flags WORDS     sets the flags; where it no longer follows its folder, what it inherited becomes its own
+  flags WORDS     sets the flags; if it no longer follows its folder, what it inherited becomes its own
   give [FILE]     sets the list as FILE or standard input says, in the form that is shown
 
   room acl /plans add 'allow bob read,list inherit' 'deny group:staff write'
   room acl /plans > list; edit list; room acl /plans give list
 
-Between seeing and setting somebody else may set it too: the last one counts.
+If somebody else sets it between your look and your change, the last change counts.
 
 """ + words.GRAMMAR
 
 
 def acl(room: Room, asked) -> None:
+    need_path(asked.path)
     if asked.action is None:
         return show_list(room, asked)
     new = new_list(room, asked, widened if large_at(room, asked.path) else list)

@@ -11,6 +11,7 @@ from .showing import Faults, show, write_bytes
 from .words import FILE, FOLDER, neat, shown
 
 OF_ONE = *trees.OF_ONE, BadWords
+WITH_ALL = "the folder has something in it: room rm -r removes it with that"
 
 
 def into(path: str, name: str) -> str:
@@ -20,11 +21,29 @@ def into(path: str, name: str) -> str:
 
 def targets(to: str, names: list[str]) -> list[str]:
     """Where each goes: several go into a folder."""
+    need_path(to)
     return [neat(into(to if len(names) == 1 else to.rstrip("/") + "/", it)) for it in names]
+
+
+def moved_to(room: Room, path: str, to: str) -> str:
+    """Where it goes, which is into a folder that is there."""
+    try:
+        is_folder = room.stat(to)["kind"] == FOLDER and not files.large_at(room, to)
+    except Refused:
+        is_folder = False
+    return trees.join(to, os.path.basename(path)) if is_folder else to
+
+
+def need_path(path: str) -> str:
+    """(Before anything is sent.)"""
+    if not path.startswith("/"):
+        raise BadWords(f"'{shown(path)}' is no path of the room: a path begins with /")
+    return path
 
 
 def there(room: Room, path: str) -> str:
     """The path of something that is there: as it was given, or as it would have been made."""
+    need_path(path)
     if neat(path) != path:
         try:
             room.stat(path)
@@ -47,22 +66,61 @@ def each(items: list, does) -> None:
 
 def ls(room: Room, asked) -> None:
     path = there(room, asked.path)
+    if asked.recursive:
+        return ls_below(room, asked, path)
     reply = room.ask({"cmd": "LIST", "path": path})
     if asked.json and not asked.long:
         return show(asked, reply, "")
     names = dict(reply["names"])
-    if form.NAME in names and files.manifest_at(room, path):
+    if form.is_large(names) and files.manifest_at(room, path):
         raise Refused({"code": 2, "error": "NOTDIR"}, {"path": path})
-    left = [it for it in names if it.startswith(words.PART)]
+    left = [it for it in names if form.is_hidden(it)]
     folders = [it for it, kind in names.items() if kind == FOLDER and it not in left]
-    large = dict(zip(folders, files.manifests(room, [trees.join(path, it) for it in folders])))
+    found = files.large_among(room, [trees.join(path, it) for it in folders])
+    large = {it: found[trees.join(path, it)] for it in folders if trees.join(path, it) in found}
     seen = {it: FILE if large.get(it) else kind for it, kind in names.items() if it not in left}
     if asked.long:
         long_lines(room, asked, path, seen, large)
     else:
         show(asked, reply, "\n".join(shown(it) + "/" * (kind == FOLDER) for it, kind in seen.items()))
     for it in left:
-        room.say(f"{shown(trees.join(path, it))} was left by an upload that was stopped, or is under way")
+        why = "is a manifest beside other things, which make no large file" if it == form.NAME else \
+            "was left by an upload that was stopped, or is under way"
+        room.say(f"{shown(trees.join(path, it))} {why}")
+
+
+def ls_below(room: Room, asked, top: str) -> None:
+    """Folder by folder."""
+    tree = trees.tree_of(room, top)
+    inside = trees.by_folder(tree)
+    blocks = []
+    for folder in ["", *sorted(it for it, kind in tree.kinds.items() if kind == FOLDER)]:
+        lines = [shown(trees.join(top, folder) if folder else top) + ":", *map(shown, inside.get(folder, []))]
+        blocks.append("\n".join(lines))
+    show(asked, [{"path": it, "kind": kind} for it, kind in sorted(tree.kinds.items())], "\n\n".join(blocks))
+
+
+def tree(room: Room, asked) -> None:
+    path = there(room, asked.path)
+    found = trees.tree_of(room, path)
+    lines = [shown(path)]
+    for it, kind in sorted(found.kinds.items(), key=lambda it: it[0].split("/")):
+        names = it.split("/")
+        lines.append("  " * len(names) + shown(names[-1]) + "/" * (kind == FOLDER))
+    print("\n".join(lines), flush=True)
+
+
+def du(room: Room, asked) -> None:
+    """How many bytes each thing in a folder has, with all that is in it, and the folder."""
+    path = there(room, asked.path)
+    found = trees.tree_of(room, path)
+    sizes = trees.sizes_of(room, path, found, [it for it, kind in found.kinds.items() if kind == FILE])
+    sums = {it: 0 for it in sorted(found.kinds) if "/" not in it}
+    for it, size in sizes.items():
+        sums[it.split("/")[0]] += max(size, 0)  # (one whose size may not be seen counts nothing)
+    rows = [*((size, it + "/" * (found.kinds[it] == FOLDER)) for it, size in sums.items()), (sum(sums.values()), path)]
+    wide = max(len(str(size)) for size, _ in rows)
+    print("\n".join(f"{size:>{wide}}  {shown(name)}" for size, name in rows), flush=True)
 
 
 def long_lines(room: Room, asked, path: str, seen: dict[str, str], large: dict) -> None:
@@ -113,6 +171,10 @@ def get(room: Room, asked) -> None:
     each(paths, lambda it: get_one(room, it, to))
 
 
+def cat(room: Room, asked) -> None:
+    each(asked.paths, lambda it: write_bytes(read_all(room, there(room, it))))
+
+
 def get_one(room: Room, path: str, to: str | None) -> None:
     data = read_all(room, path)
     if to is None or to == "-":
@@ -121,8 +183,10 @@ def get_one(room: Room, path: str, to: str | None) -> None:
     if os.path.isdir(to):
         if not fits_here(name):
             raise LocalFault(f"{shown(name)} is no name of a file here: name another one")
+        local.write_below(to, [name], data)
         to = os.path.join(to, name)
-    local.write_local(to, data)
+    else:
+        local.write_local(to, data)
     print(f"{len(data)} bytes to {shown(to)}", flush=True)
 
 
@@ -141,12 +205,10 @@ def get_folder(room: Room, asked, path: str, to: str, is_one_of_some: bool) -> N
     if is_one_of_some or to == "." or to.endswith("/"):
         to = os.path.join(to, os.path.basename(path.rstrip("/")))
     tree = trees.tree_of(room, path)
-    paths = [it for it, kind in sorted(tree.kinds.items()) if can_be_here(room, path, it)]
-    local.make_below(to, [])
+    paths = [it for it in sorted(tree.kinds) if can_be_here(room, path, it, tree)]
     faults = Faults(0)
-    for it in paths:
-        if tree.kinds[it] == FOLDER:
-            local.make_below(to, it.split("/"))
+    failed = local.make_all_below(to, [it for it in paths if tree.kinds[it] == FOLDER], faults.take)
+    paths = [it for it in paths if not local.is_in(it, failed)]
 
     def take(it: str, data: bytes | Fault) -> None:
         try:
@@ -158,20 +220,23 @@ def get_folder(room: Room, asked, path: str, to: str, is_one_of_some: bool) -> N
             faults.take(fault)
 
     trees.fetch_all(room, path, [it for it in paths if tree.kinds[it] == FILE], tree.large, take)
+    for fault in tree.mixed:
+        faults.take(fault)
     faults.end()
 
 
-def can_be_here(room: Room, top: str, path: str) -> bool:
-    if all(map(fits_here, path.split("/"))):
-        return True
-    room.say(f"{shown(trees.join(top, path))} is left out: no file here can have that name")
-    return False
+def can_be_here(room: Room, top: str, path: str, tree: trees.RoomTree) -> bool:
+    why = tree.why_not_here(path)
+    if why:
+        room.say(f"{shown(trees.join(top, path))} is left out: {why}")
+    return not why
 
 
 # Putting
 
 def put(room: Room, asked) -> None:
     *names, to = asked.names
+    need_path(to)
     if not asked.recursive and len(names) == 1:
         return put_one(room, asked, names[0], neat(into(to, names[0])))
     pairs, faults = [], Faults(0)
@@ -179,14 +244,14 @@ def put(room: Room, asked) -> None:
         if asked.recursive and os.path.isdir(name):
             tree = local.tree_here(name, room.say)
             trees.make_folders(room, path, [it for it in tree.kinds if tree.kinds[it] == FOLDER], faults.take)
-            pairs += [(tree.places[it], trees.join(path, it)) for it in tree.kinds if tree.kinds[it] == FILE]
+            pairs += [(tree.places[it], trees.join(path, it), name) for it in tree.kinds if tree.kinds[it] == FILE]
         else:
             pairs.append((name, path))
 
     def told(it: trees.Sent) -> None:
         if it.fault:
             return faults.take(it.fault)
-        show(asked, {"code": 0, "size": it.size}, f"{shown(it.path)}: {it.size} bytes")
+        show(asked, {"code": 0, "size": it.size}, f"{shown(it.path)}: {it.size} bytes{it.words()}")
 
     trees.send_all(room, pairs, told)
     faults.end()
@@ -196,10 +261,11 @@ def put_one(room: Room, asked, name: str, path: str) -> None:
     bar = Progress(path, len(asked.data), form.PIECE)
     fills = os.path.basename(name) == os.path.basename(path)
     try:
-        files.write(room, path, asked.data, is_new=asked.new, fills=fills, heard=bar.heard)
+        owner = files.write(room, path, asked.data, is_new=asked.new, fills=fills, heard=bar.heard)
     finally:
         bar.end()
-    show(asked, {"code": 0, "size": len(asked.data)}, f"{shown(path)}: {len(asked.data)} bytes")
+    words_of_owner = trees.version_of(owner)
+    show(asked, {"code": 0, "size": len(asked.data)}, f"{shown(path)}: {len(asked.data)} bytes{words_of_owner}")
 
 
 def lined(room: Room, path: str, data: bytes) -> bytes:
@@ -236,7 +302,7 @@ def append(room: Room, asked) -> None:
 
 
 def mkdir(room: Room, asked) -> None:
-    path = neat(asked.path)
+    path = need_path(neat(asked.path))
     show(asked, room.mkdir(path), f"{shown(path)}: made")
 
 
@@ -246,8 +312,12 @@ def mv(room: Room, asked) -> None:
     *paths, to = asked.paths
 
     def move(pair: tuple[str, str]) -> None:
-        path = there(room, pair[0])
-        show(asked, room.rename(path, pair[1]), f"{shown(path)} is now {shown(pair[1])}")
+        path, above = there(room, pair[0]), pair[1].rstrip("/") + "/"
+        done = room.was_done(lambda it: it["cmd"] == "RENAME" and it["path"] == path and (
+            it["to"] == pair[1] or it["to"] == above + os.path.basename(path)))
+        at = done["to"] if done else moved_to(room, path, pair[1])
+        reply = {"code": 0} if done else room.rename(path, at)
+        show(asked, reply, f"{shown(path)} is now {shown(at)}")
 
     each(list(zip(paths, targets(to, paths))), move)
 
@@ -257,19 +327,23 @@ def cp(room: Room, asked) -> None:
 
     def copy(pair: tuple[str, str]) -> None:
         path = there(room, pair[0])
-        if f"{pair[1]}/".startswith(f"{path.rstrip('/')}/"):
-            raise Refused({"code": 7, "error": "INVAL"}, {"path": path}, "nothing is copied into itself: mend the path")
+        to = moved_to(room, path, pair[1])
+        if f"{to}/".startswith(f"{path.rstrip('/')}/"):
+            raise Refused({"code": 7, "error": "INVAL"}, {"path": path},
+                          "nothing is copied into itself: correct the path")
         if asked.recursive and room.stat(path)["kind"] == FOLDER and not files.manifest_at(room, path):
-            return copy_folder(room, asked, path, pair[1])
+            return copy_folder(room, asked, path, to)
         data = read_all(room, path)
-        files.write(room, pair[1], data)
-        show(asked, {"code": 0, "size": len(data)}, f"{shown(path)} is also {shown(pair[1])}")
+        files.write(room, to, data)
+        show(asked, {"code": 0, "size": len(data)}, f"{shown(path)} is also {shown(to)}")
 
     each(list(zip(paths, targets(to, paths))), copy)
 
 
 def copy_folder(room: Room, asked, path: str, to: str) -> None:
     tree, faults = trees.tree_of(room, path), Faults(0)
+    for fault in tree.mixed:
+        faults.take(fault)
     trees.make_folders(room, to, [it for it, kind in tree.kinds.items() if kind == FOLDER], faults.take)
 
     def take(it: str, data: bytes | Fault) -> None:
@@ -291,7 +365,12 @@ def rm(room: Room, asked) -> None:
 
     def remove(path: str) -> None:
         path = there(room, path)
-        name = trash.discard(room, path, place, asked.recursive)
+        try:
+            name = trash.discard(room, path, place, asked.recursive)
+        except Refused as fault:
+            if files.refused_as(fault, "NOTEMPTY") and not asked.recursive:
+                raise Refused(fault.reply, {"path": path}, WITH_ALL) from None
+            raise
         show(asked, {"code": 0}, f"{shown(path)}: removed" if name is None else f"{shown(path)}: in {shown(place)}")
 
     each(asked.paths, remove)
@@ -299,8 +378,10 @@ def rm(room: Room, asked) -> None:
 
 def trash_can(room: Room, asked) -> None:
     if asked.action == "empty":
-        count = trash.empty(room)
-        print(f"{count} removed for good")
+        faults = Faults(0)
+        count = trash.empty(room, faults.take)
+        print(f"{count} removed for good", flush=True)
+        faults.end()
     elif asked.action == "restore":
         if not 1 <= len(asked.names) <= 2:
             raise BadWords("room trash restore NAME [TO]")

@@ -10,18 +10,18 @@ SESSION_CODES = range(20, 26)
 
 REFUSALS = {
     1: ("nothing is there, or a folder above it is missing", "look with: room ls"),
-    2: ("a folder is wanted, and a document is there", "mend the path"),
-    3: ("a document is wanted, and a folder is there", "mend the path"),
+    2: ("a folder is needed, and a document is there", "correct the path"),
+    3: ("a document is needed, and a folder is there", "correct the path"),
     4: ("something is there already", "choose another name, or remove it first"),
     6: ("the folder has something in it", "remove that first"),
-    7: ("the root neither moves nor goes, nothing moves into itself, and a list has at most 32 entries of its own",
-        "mend the words"),
+    7: ("the root cannot be moved or removed, nothing moves into itself, and a list has at most 32 own entries",
+        "correct the command"),
     8: ("inheritance that this object cannot have: on a document none, and on a folder 'not-here' only beside it",
-        "mend the entry"),
+        "correct the entry"),
     9: ("a document has at most 65,536 bytes", "split it"),
     10: ("a path has at most 16 names, and a large file takes two of them", "move it higher"),
     11: ("the folder is full: it has 256 things in it", "make another folder"),
-    12: ("the room is full: a million things were made in it", "ask who runs the room for a new one"),
+    12: ("the room is full: a million things were made in it", "ask whoever runs the room for a new one"),
     20: ("the session is not open: the room was made anew or set back to a copy, or the session was closed",
          "begin another: room session new"),
     21: ("the session has no such slot", "begin another: room session new"),
@@ -32,11 +32,11 @@ REFUSALS = {
     24: ("the session's name is another user's", "begin another: room session new"),
     25: ("it was run before, and its reply was not kept: something else uses this session",
          "look at what is there, and begin another: room session new"),
-    40: ("the room read no message", "is something else in between? ask who runs the room"),
-    41: ("the room has no such route", "mend the URL"),
-    42: ("you are no user of the room", "ask who keeps its roster"),
-    43: ("a word is not as the room takes it: a path is / or up to 16 names, each of at most 64 bytes behind a /; "
-         "a user or group is 1 to 32 letters, digits, '.', '_' or '-'", "mend the words"),
+    40: ("the room received no valid message", "is something else in between? ask whoever runs the room"),
+    41: ("the room has no such route", "correct the URL"),
+    42: ("you are no user of the room", "ask whoever keeps its roster"),
+    43: ("the room refuses this form: a path is / or up to 16 names, each of at most 64 bytes after a /; "
+         "a user or group is 1 to 32 letters, digits, '.', '_' or '-'", "correct the command"),
 }
 
 
@@ -101,13 +101,14 @@ def reading(path: str) -> Iterator[None]:
 
 def refusal_line(reply: dict, command: dict, why: str | None = None) -> str:
     code, name = reply["code"], reply.get("error", "?")
-    place = f" at {shown(command['path'])}" if "path" in command else ""
+    path = command.get("to" if name == "EXIST" else "path", command.get("path"))
+    place = f" at {shown(path)}" if path else ""
     if why:
         return f"{name} ({code}){place}: {why}"
     if code == ACCESS:
         kind = FILE if command.get("cmd") in ("READ", "WRITE", "APPEND") else FOLDER
         path, right = shown(reply["path"]), "/".join(right_words(reply["bit"], kind))
-        return f"ACCESS (5) at {path}: you lack the right {right}: ask its owner, or who may set its list"
+        return f"ACCESS (5) at {path}: you lack the right {right}: ask its owner, or anyone who may set its list"
     cause, remedy = REFUSALS.get(code, ("the client does not know this refusal", "docs/CODES.md"))
     return f"{name} ({code}){place}: {cause}: {remedy}"
 

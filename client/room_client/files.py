@@ -10,10 +10,13 @@ from .room import MOST_BYTES, Room, unheard
 from .words import FILE, FOLDER, INHERITED, TO_FILES, TO_FOLDERS, shown
 
 TRIES = 5  # of a reader that meets one new version after another
-# On a document's list, and what the folder that takes its place has to allow beside it.
-BESIDE = {0x1: 0x20, 0x2: 0x66, 0x4: 0x66}
+# On a document's list, and what the folder that takes its place has to allow beside it, or to deny.
+ALLOWED_BESIDE = {0x1: 0x20, 0x2: 0x66}
+DENIED_BESIDE = {0x2: 0x46, 0x4: 0x46}
+WRITE, APPEND = 0x2, 0x4
 TOO_LARGE = "a file has at most 16 MiB (16,777,216 bytes): split it; nothing was sent"
 DEEPEST = 14  # names of the path of a large file
+MOST_KEPT = 50  # bytes of a name that a mark follows
 
 
 def folder_of(path: str) -> tuple[str, str]:
@@ -46,9 +49,15 @@ def text_at(room: Room, path: str) -> bytes | None:
         raise
 
 
-def manifest_at(room: Room, path: str) -> Manifest | None:
+def manifest_in(room: Room, path: str) -> Manifest | None:
+    """What makes a file of a folder for whoever reads or writes it by its own path, whatever else lies there."""
     text = text_at(room, path)
     return None if text is None else read_manifest(text)
+
+
+def manifest_at(room: Room, path: str) -> Manifest | None:
+    """That of a folder that is a large file and nothing besides."""
+    return manifest_in(room, path) if form.is_large(room.children(path)) else None
 
 
 def large_at(room: Room, path: str) -> Manifest | None:
@@ -60,9 +69,16 @@ def large_at(room: Room, path: str) -> Manifest | None:
 
 
 def manifests(room: Room, paths: list[str]) -> list[Manifest | None]:
-    """Of folders, which of them are large files: where one may not look, it is a folder."""
+    """What is in folders as a manifest, as far as one may look."""
     replies = room.ask_all({"cmd": "READ", "path": f"{path}/{form.NAME}"} for path in paths)
     return [read_manifest(base64.b64decode(it["data"])) if it["code"] == 0 else None for it in replies]
+
+
+def large_among(room: Room, paths: list[str]) -> dict[str, Manifest]:
+    """Of folders, those that are large files: where one may not look, it is a folder."""
+    found = {path: its for path, its in zip(paths, manifests(room, paths)) if its}
+    replies = zip(found, room.ask_all({"cmd": "LIST", "path": it} for it in found))
+    return {path: found[path] for path, it in replies if it["code"] == 0 and form.is_large(dict(it["names"]))}
 
 
 # Reading
@@ -105,26 +121,40 @@ def pieces_of(room: Room, path: str, its: Manifest, heard: Callable[[dict], None
 # Writing
 
 def write(room: Room, path: str, data: bytes, *, is_new: bool = False, fills: bool = False,
-          heard: Callable[[dict], None] = unheard) -> None:
+          heard: Callable[[dict], None] = unheard) -> str | None:
     """Makes the file, or a new version of it: with `is_new` only where nothing is there. With `fills` an empty folder
-    is taken for what is left of an upload that was stopped."""
+    is taken for what is left of an upload that was stopped. The owner of the file, where that is somebody else."""
     need_size(data, path)
     if len(data) > MOST_BYTES:
-        return Upload(room, path, data, heard).run(is_new, fills)
+        return other_owner(room, path) if Upload(room, path, data, heard).run(is_new, fills) else None
     try:
-        if is_new:
-            room.create(path, data)
-        else:
-            room.put(path, data)
+        room.create(path, data)
+        return None
     except Refused as fault:
-        if is_new or not refused_as(fault, "ISDIR") or not is_file_folder(room, path):
+        if is_new or not refused_as(fault, "EXIST"):
+            raise
+    try:
+        room.write(path, data)
+    except Refused as fault:
+        if not refused_as(fault, "ISDIR") or not takes_versions(room, path):
             raise
         Upload(room, path, data, heard).run(is_new, fills)
+    return other_owner(room, path)
 
 
-def is_file_folder(room: Room, path: str) -> bool:
-    names = room.children(path)
-    return form.is_unfinished(names) or form.NAME in names and manifest_at(room, path) is not None
+def has_own_list(its: dict) -> bool:
+    """Whether a list is another than what was handed down."""
+    return its["aclflag"] != 1 or not all(it["flag"] & INHERITED for it in its["entries"])
+
+
+def other_owner(room: Room, path: str) -> str | None:
+    """Who else owns it, as far as one may see."""
+    reply, = room.ask_all([{"cmd": "STAT", "path": path}])
+    return None if reply.get("owner") in (None, room.settings.user) else reply["owner"]
+
+
+def takes_versions(room: Room, path: str) -> bool:
+    return form.is_unfinished(room.children(path)) or manifest_in(room, path) is not None
 
 
 @dataclass
@@ -141,12 +171,14 @@ class Upload:
         self.names: dict[str, str] = {}  # what was in the folder as it began
         self.before: bytes | None = None  # the manifest's text then
 
-    def run(self, is_new: bool, fills: bool) -> None:
+    def run(self, is_new: bool, fills: bool) -> bool:
+        """Whether something was there before."""
         if self.path.count("/") > DEEPEST:
             raise Refused({"code": 10, "error": "TOO_DEEP"}, {"path": self.path})
         made, its_document = self.begin(is_new, fills)
         if its_document is not None:
-            return Replacement(self, its_document).run()
+            Replacement(self, its_document).run()
+            return True
         try:
             self.put_pieces(self.path)
         except Refused:
@@ -165,6 +197,7 @@ class Upload:
             clear_beside(self.room, self.path)
         except Refused as fault:
             self.room.say(f"{shown(self.path)}: it is there, and what was before it is not cleared: {fault}")
+        return not made
 
     def begin(self, is_new: bool, fills: bool) -> tuple[bool, dict | None]:
         """Whether the file's folder was made, and the document (as STAT has it) that is there instead."""
@@ -180,11 +213,25 @@ class Upload:
         self.names = self.room.children(self.path)
         self.before = text_at(self.room, self.path) if form.NAME in self.names else None
         is_left = form.is_unfinished(self.names)
-        if not (is_left or self.before and read_manifest(self.before) or fills and not self.names):
+        if is_left or fills and not self.names:
+            self.need_own(its)
+        elif not (self.before and read_manifest(self.before)):
             raise Refused({"code": 3, "error": "ISDIR"}, {"path": self.path})
         if is_left or any(it.startswith((form.WRITING, form.GONE)) for it in self.names):
             self.room.say(f"{shown(self.path)}: an upload was stopped here, or is under way: what it left is cleared")
         return False, None
+
+    def need_own(self, its: dict) -> None:
+        """That this folder is as the user would have made it. (Anyone who may add could make one under a name that
+        somebody is about to put, open it to others, and give it away.)"""
+        if its["owner"] != self.room.settings.user:
+            why = f"it is a folder of {its['owner']}, who could read what you put there, and no file yet"
+        elif has_own_list(self.room.get_list(self.path)):
+            why = ("it is a folder with a list of its own, by which others could read what you put there, and no file "
+                   "yet")
+        else:
+            return
+        raise Refused({"code": 3, "error": "ISDIR"}, {"path": self.path}, f"{why}: take another name")
 
     def put_pieces(self, at: str) -> None:
         """All pieces in a folder of that name, which is there once they are."""
@@ -266,7 +313,7 @@ class Replacement:
             self.need_same(before)
             self.room.rename(self.path, self.gone)
         except Fault:
-            clear(self.room, self.above.rstrip("/"), self.new.rpartition("/")[2])
+            clear(self.room, self.above.rstrip("/"), self.new.rpartition("/")[2], file_at)
             raise
         self.take_name()
         clear_beside(self.room, self.path)
@@ -305,12 +352,15 @@ class Replacement:
 
 
 def carried(entry: dict) -> dict:
-    """An entry of a document, for the folder in its place."""
-    more = 0
-    for bit, extra in BESIDE.items():
-        if entry["mask"] & bit and entry["type"] == 0:
-            more |= extra
-    return entry | {"flag": entry["flag"] & ~INHERITED | TO_FILES | TO_FOLDERS, "mask": entry["mask"] | more}
+    """An entry of a document, for the folder in its place. Nothing is added at a large file's end: who may append alone
+    may do nothing to it."""
+    mask, extra = entry["mask"], DENIED_BESIDE if entry["type"] else ALLOWED_BESIDE
+    if not entry["type"] and not mask & WRITE:
+        mask &= ~APPEND
+    for bit in extra:
+        if entry["mask"] & bit:
+            mask |= extra[bit]
+    return entry | {"flag": entry["flag"] & ~INHERITED | TO_FILES | TO_FOLDERS, "mask": mask}
 
 
 # Owners
@@ -339,26 +389,83 @@ def give(room: Room, path: str, its: Manifest, owner: str, group: str) -> Refuse
 
 # Removing and clearing
 
-def clear(room: Room, at: str, name: str) -> None:
-    """Takes a folder out of a file, in one request, and then removes it. What is in the way is told, and left."""
-    gone = f"{at}/{form.other_name(form.GONE)}"
+def clear(room: Room, at: str, name: str, looks=None) -> None:
+    """Takes what an upload made out of a file or from beside it, in one request, and then removes it. Somebody who may
+    move things may have given one such a name: what `looks` otherwise, or is in the way, is told and left."""
+    path, gone = f"{at}/{name}", f"{at}/{form.other_name(form.GONE)}"
     try:
-        if not name.startswith(form.GONE):
-            room.rename(f"{at}/{name}", gone)
+        found = (looks or pieces_in)(room, path)
+        if found is None:
+            return room.say(f"{shown(path)} is no part of a file, whatever its name: look at it")
+        if name.startswith(form.GONE):
+            gone = path
         else:
-            gone = f"{at}/{name}"
-        remove_all(room, gone)
+            room.rename(path, gone)
+        remove_levels(room, [[gone + it for it in level] for level in found])
     except Refused as fault:
-        if not refused_as(fault, "NOENT", "NOTDIR"):
+        if not refused_as(fault, "NOENT"):
             room.say(f"{shown(gone)} is left of it: {fault}")
 
 
 def clear_beside(room: Room, path: str) -> None:
-    """What a document's replacement left beside it, where it was stopped."""
+    """What a document's replacement left beside it, where it was stopped. A whole file under that name, which may be
+    somebody's, is given one that is seen."""
     above, name = folder_of(path)
-    left = set(form.beside(name)) & room.children(above.rstrip("/") or "/").keys()
-    for it in sorted(left):
-        clear(room, above.rstrip("/"), it)
+    at, names = above.rstrip("/"), room.children(above.rstrip("/") or "/")
+    gone, new = form.beside(name)
+    if gone in names:
+        clear(room, at, gone, document_at)
+    if new in names and manifest_in(room, f"{at}/{new}"):
+        left = f"{at}/{name.encode()[:MOST_KEPT].decode(errors='ignore')} ({form.other_name('')[:4]})"
+        room.rename(f"{at}/{new}", left)
+        room.say(f"{shown(left)} is a whole version that was to take the place of {shown(path)}: look at it")
+    elif new in names:
+        clear(room, at, new, file_at)
+
+
+# What is at a path and below it, in the order in which it can be removed, where it is of that form; else None.
+
+def document_at(room: Room, path: str) -> list[list[str]] | None:
+    return [[""]] if room.stat(path)["kind"] == FILE else None
+
+
+def pieces_in(room: Room, path: str) -> list[list[str]] | None:
+    """Of a folder with pieces, as they are named by us."""
+    if room.stat(path)["kind"] == FILE:
+        return None
+    names = room.children(path)
+    fits = all(kind == FILE and form.OUR_PIECE.fullmatch(it) for it, kind in names.items())
+    return [[f"/{it}" for it in names], [""]] if fits else None
+
+
+def file_at(room: Room, path: str) -> list[list[str]] | None:
+    """Of a large file that has its manifest, or has not yet."""
+    if room.stat(path)["kind"] == FILE:
+        return None
+    names = room.children(path)
+    if names and not form.is_large(names) and not form.is_unfinished(names):
+        return None
+    parts = {f"/{it}": pieces_in(room, f"{path}/{it}") for it in names if it != form.NAME}
+    if None in parts.values():
+        return None
+    manifest = [f"/{form.NAME}"] if form.NAME in names else []
+    return [manifest, [at + it for at, (pieces, _) in parts.items() for it in pieces], [*parts], [""]]
+
+
+def remove_levels(room: Room, levels: list[list[str]]) -> None:
+    for paths in levels:
+        commands = [{"cmd": "REMOVE", "path": it} for it in paths]
+        for reply, command in zip(room.ask_all(commands), commands):
+            if reply["code"] and reply.get("error") != "NOENT":
+                raise refused(reply, command)
+
+
+def remove_file(room: Room, path: str) -> bool:
+    """Removes a folder that is a large file, or an unfinished one, and has nothing else in it. Whether it was one."""
+    found = file_at(room, path)
+    if found:
+        remove_levels(room, [[path + it for it in level] for level in found])
+    return found is not None
 
 
 def remove_all(room: Room, path: str) -> None:
@@ -371,11 +478,7 @@ def remove_all(room: Room, path: str) -> None:
         names = {}
     if form.NAME in names:
         remove_one(room, f"{path}/{form.NAME}")
-    commands = [{"cmd": "REMOVE", "path": f"{path}/{name}"} for name, kind in names.items()
-                if kind == FILE and name != form.NAME]
-    for reply, command in zip(room.ask_all(commands), commands):
-        if reply["code"] and reply.get("error") != "NOENT":
-            raise refused(reply, command)
+    remove_levels(room, [[f"{path}/{name}" for name, kind in names.items() if kind == FILE and name != form.NAME]])
     for name, kind in names.items():
         if kind == FOLDER:
             remove_all(room, f"{path}/{name}")

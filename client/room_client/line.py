@@ -66,7 +66,7 @@ def trusting(ca_file: str | None) -> ssl.SSLContext:
         try:
             return ssl.create_default_context(cafile=os.path.expanduser(ca_file))
         except ssl.SSLError:
-            raise LocalFault(f"{shown(ca_file)} has no certificate in it (PEM): mend ca-file") from None
+            raise LocalFault(f"{shown(ca_file)} has no certificate in it (PEM): correct ca-file") from None
 
 
 def untrusted(fault: ssl.SSLError, host: str) -> str | None:
@@ -123,19 +123,31 @@ class Line:
 
     def ask(self, method: str, target: str, body: bytes) -> Answer:
         """What is answered to one request over the open connection."""
+        status, text = self._answered(method, target, body)
+        return Answer(status, reply_of(text))
+
+    def fetch(self, target: str, seconds: float) -> bytes | None:
+        """A file there, or None."""
+        try:
+            self.open(seconds)
+            status, text = self._answered("GET", target, b"")
+        except (Lost, NotSent):
+            return None
+        return text if status == 200 else None
+
+    def _answered(self, method: str, target: str, body: bytes) -> tuple[int, bytes]:
         try:
             self.connection.request(method, self.base + target, body, self.fields)
             response = self.connection.getresponse()
             if (response.length or 0) > MOST:
                 raise http.client.HTTPException("an answer that is too long")
-            text = response.read()
+            return response.status, response.read()
         except (OSError, http.client.HTTPException) as fault:
             self.close()
             raise Lost(str(fault) or type(fault).__name__) from None
         except BaseException:
             self.close()
             raise
-        return Answer(response.status, reply_of(text))
 
     def end(self) -> None:
         """Ends what is under way, from another thread: no answer comes."""

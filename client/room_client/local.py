@@ -3,14 +3,17 @@ import os
 import secrets
 import stat
 import sys
+from collections import Counter
 from collections.abc import Callable, Iterator
 from contextlib import closing, contextmanager, suppress
 from dataclasses import dataclass, field
+from typing import BinaryIO
 
 from .faults import LocalFault, reading
 from .words import FILE, FOLDER, PART, neat, shown
 
 FOLDER_HERE = os.O_RDONLY | os.O_DIRECTORY | os.O_CLOEXEC
+FOUND_HERE = os.O_RDONLY | os.O_NOFOLLOW | os.O_NONBLOCK | os.O_CLOEXEC
 NEW_HERE = os.O_WRONLY | os.O_CREAT | os.O_EXCL | os.O_CLOEXEC
 MOST_NAME = 64  # bytes of a name in the room
 BAR = 1 << 18  # bytes from which on progress is shown
@@ -19,6 +22,29 @@ BAR = 1 << 18  # bytes from which on progress is shown
 def read_local(name: str, most: int = -1) -> bytes:
     """A file's bytes, or those of standard input for `-`."""
     with reading(name), sys.stdin.buffer if name == "-" else open(name, "rb") as file:
+        return file.read(most)
+
+
+def open_found(top: str, place: str) -> BinaryIO:
+    """A file that was found below a folder, and may be something else by now: no name below is followed as a link."""
+    *folders, name = os.path.relpath(place, top).split(os.sep)
+    folder = os.open(top, FOLDER_HERE)
+    try:
+        for it in folders:
+            below = os.open(it, FOLDER_HERE | os.O_NOFOLLOW, dir_fd=folder)
+            os.close(folder)
+            folder = below
+        file = os.open(name, FOUND_HERE, dir_fd=folder)
+    finally:
+        os.close(folder)
+    if stat.S_ISREG(os.fstat(file).st_mode):
+        return open(file, "rb")
+    os.close(file)
+    raise LocalFault(f"{shown(place)} is no file any more")
+
+
+def read_found(top: str, place: str, most: int = -1) -> bytes:
+    with reading(place), open_found(top, place) as file:
         return file.read(most)
 
 
@@ -43,6 +69,26 @@ def write_below(top: str, names: list[str], data: bytes) -> None:
 def make_below(top: str, names: list[str]) -> None:
     with reading(os.path.join(top, *names)), open_folder(top, names):
         pass
+
+
+def make_all_below(top: str, paths: list[str], take: Callable[[LocalFault], None]) -> list[str]:
+    """Makes folders below a folder, the upper ones first. Those of which `take` hears cannot be made."""
+    failed = []
+    make_below(top, [])
+    for path in paths:
+        if is_in(path, failed):
+            continue
+        try:
+            make_below(top, path.split("/"))
+        except LocalFault as fault:
+            failed.append(path)
+            take(fault)
+    return failed
+
+
+def is_in(path: str, folders: list[str]) -> bool:
+    """Whether it is one of them, or below one."""
+    return any(f"{path}/".startswith(f"{it}/") for it in folders)
 
 
 def remove_below(top: str, names: list[str], kind: str) -> None:
@@ -115,9 +161,10 @@ def tree_here(top: str, say: Callable[[str], None]) -> Tree:
 def walk_here(at: str, above: str, tree: Tree, say: Callable[[str], None]) -> None:
     with closing(os.scandir(at)) as found:
         entries = sorted(found, key=lambda it: it.name)
+    alike = Counter(neat(it.name) for it in entries)
     for it in entries:
         path, why = above + neat(it.name), why_not(it)
-        if path in tree.kinds:
+        if alike[neat(it.name)] > 1 and neat(it.name) != it.name:
             why = "another one gets the same name in the room"
         if why:
             tree.left_out.add(path)

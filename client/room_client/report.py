@@ -51,10 +51,13 @@ OF_FILE = re.compile(r"(/.+)/\.room-(?:file|(?:pieces|writing|gone)-[0-9a-f]{16}
 
 
 def whole_files(rights: list[Right]) -> list[Right]:
-    """A large file as one object: of what it is made of, only what has other rights than the file is left."""
+    """A large file as one object: of what it is made of, only what has other rights than the file is left. With other
+    things in it, it is a folder."""
     masks = masks_of(rights)
-    found = ((it, OF_FILE.fullmatch(it)) for it in masks)
-    parts = {path for path, its in found if its and f"{its[1]}/{NAME}" in masks and masks.get(its[1]) == masks[path]}
+    found = {it: OF_FILE.fullmatch(it) for it in masks}
+    folders = {it.rpartition("/")[0] for it, its in found.items() if not its}
+    parts = {path for path, its in found.items() if its and its[1] not in folders and f"{its[1]}/{NAME}" in masks
+             and masks.get(its[1]) == masks[path]}
     return [it for it in rights if it.path not in parts]
 
 
@@ -66,11 +69,11 @@ def both_words(mask: int) -> str:
 def as_csv(rights: list[Right]) -> str:
     """A row for each object and user, with a column for each right."""
     file = io.StringIO()
-    table = csv.writer(file)
+    table = csv.writer(file, quoting=csv.QUOTE_ALL)  # (a program that parts cells at ; is to find none in a path)
     table.writerow(["path", "user", "rights", "mask", *("/".join(right_words(it[0], FILE, FOLDER)) for it in RIGHTS)])
     for it in rights:
         each = ["yes" if it.mask & bit else "" for bit, *_ in RIGHTS]
-        table.writerow([it.path, it.user, both_words(it.mask), f"{it.mask:08x}", *each])
+        table.writerow([shown(it.path), it.user, both_words(it.mask), f"{it.mask:08x}", *each])
     return file.getvalue()
 
 

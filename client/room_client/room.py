@@ -100,8 +100,9 @@ class Room:
     def _finish(self, slot: Slot, command: dict) -> None:
         reply = slot.finish(command)
         self.finished.append((command, reply))
-        came = "done" if reply["code"] == 0 else str(refused(reply, command))
-        self.say(f"finished what was pending: {told(command)}: {came}")
+        if command["cmd"] in CHANGES:
+            came = "done" if reply["code"] == 0 else str(refused(reply, command))
+            self.say(f"finished what was pending: {told(command)}: {came}")
 
     def _tell_parts(self, whole: str, found: list[tuple[dict, dict | None]]) -> None:
         """Of what many requests do together, only those are done that were done when it was stopped."""
@@ -152,6 +153,10 @@ class Room:
         """The answer to a question about a list, which needs no session."""
         slot = self.slot()
         return slot.need_done(slot.until_answered("POST", "/v1/check", compact(question)))
+
+    def file_of_front(self, end: str) -> bytes | None:
+        """A file beside the room's address, by a front; None where there is none."""
+        return None if self.settings.login is None else self.line.fetch(end, self.settings.patience)
 
     # The commands, as docs/WIRE.md has them.
 

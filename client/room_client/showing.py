@@ -16,7 +16,8 @@ class Told(Fault):
 
 def show(asked, reply: dict | list, text: str) -> None:
     if asked.json or text:
-        print(json.dumps(reply, ensure_ascii=False) if asked.json else text, flush=True)
+        # (a name may have letters that a terminal takes for commands)
+        print(json.dumps(reply, ensure_ascii=sys.stdout.isatty()) if asked.json else text, flush=True)
 
 
 def write_bytes(data: bytes) -> None:

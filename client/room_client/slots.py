@@ -18,9 +18,9 @@ RATE, BURST = 95.0, 60.0  # requests a second: a front takes 100 of a login, and
 FALSE_RETRY, UNCACHED, BAD_REQUEST = 23, 25, 43
 HARMLESS = {"cmd": "STAT", "path": "/"}
 FRONT = {
-    401: "the login or its password is wrong: mend --login or the password file",
+    401: "the login or its password is wrong: correct --login or the password file",
     403: "the front does not let you in, or you began too many sessions: wait a minute, or ask who runs it",
-    404: "the front knows no room there: mend the URL",
+    404: "the front knows no room there: correct the URL",
     413: "that is larger than the front takes: split it",
 }
 
@@ -140,7 +140,7 @@ class Slot:
             return answer.reply
         if answer.reply is not None:
             raise refused(answer.reply, command)
-        what = FRONT.get(answer.status, "what answers there is no room: mend the URL")
+        what = FRONT.get(answer.status, "what answers there is no room: correct the URL")
         raise NoAnswer(f"{self.settings.url} answered {answer.status}: {what}")
 
     def until_answered(self, method: str, target: str, body: str) -> Answer:

@@ -1,11 +1,11 @@
-"""`room sync`: makes a folder as another one is, one way, up or down."""
+"""`room sync`: makes one folder the same as another, one way, up or down."""
 import hashlib
 import os
 from dataclasses import dataclass
 
 from . import local, trash, trees
-from .faults import BadWords, Fault, Refused
-from .local import Tree, fits_here
+from .faults import BadWords, Fault, LocalFault, Refused
+from .local import Tree
 from .room import Room
 from .showing import Faults
 from .words import FILE, FOLDER, shown
@@ -35,8 +35,8 @@ class Sync:
         odd = {it for it in source.kinds.keys() & aim.kinds.keys() if source.kinds[it] != aim.kinds[it]}
         for it in sorted(odd):
             self.take(Refused({"code": 4, "error": "EXIST"}, {"path": it}, "a file on one side, a folder on the other"))
-        self.make(sorted(folders))
-        is_odd = lambda it: any(it == one or it.startswith(one + "/") for one in odd)  # noqa: E731
+        odd |= {*self.make(sorted(folders))}
+        is_odd = lambda it: local.is_in(it, odd)  # noqa: E731
         wanted = [it for it, kind in sorted(source.kinds.items()) if kind == FILE and not is_odd(it)]
         self.move(self.changed(wanted, mine, its), mine, its)
         if self.deletes:
@@ -54,8 +54,10 @@ class Sync:
                 trees.make_folders(self.room, self.top, [], self.take)
             return mine, self.room_tree()
         its = self.room_tree()
-        for it in [it for it in its.kinds if not all(map(fits_here, it.split("/")))]:
-            self.room.say(f"{shown(trees.join(self.top, it))} is left out: no file here can have that name")
+        for fault in its.mixed:
+            self.take(fault)
+        for it, why in [(it, why) for it in its.kinds if (why := its.why_not_here(it))]:
+            self.room.say(f"{shown(trees.join(self.top, it))} is left out: {why}")
             del its.kinds[it]
             its.left_out.add(it)
         is_there = os.path.isdir(self.here)
@@ -75,32 +77,44 @@ class Sync:
         sizes = trees.sizes_of(self.room, self.top, its, both)
         alike = [it for it in both if size_here(mine.places[it]) == sizes[it]]
         sums = trees.sums_of(self.room, self.top, its, alike)
-        same = {it for it in alike if sums[it] == sum_here(mine.places[it])}
+        same = {it for it in alike if sums[it] == self.sum_here(mine.places[it])}
         self.counts["same"] = len(same)
         return [it for it in paths if it not in same]
 
-    def make(self, folders: list[str]) -> None:
+    def sum_here(self, path: str) -> str | None:
+        """(As `size_here`.)"""
+        try:
+            with local.open_found(self.here, path) as file:
+                return hashlib.file_digest(file, "sha256").hexdigest()
+        except (OSError, LocalFault):
+            return None
+
+    def make(self, folders: list[str]) -> list[str]:
+        """Those of which no folder here can be made."""
+        failed = []
         if self.is_up and not self.only_tells:
             trees.make_folders(self.room, self.top, folders, self.take)
         elif not self.only_tells:
-            for it in ["", *folders]:
-                local.make_below(self.here, it.split("/") if it else [])
+            failed = local.make_all_below(self.here, folders, self.take)
         for it in folders:
-            self.tell("made", f"{it}/")
+            if not local.is_in(it, failed):
+                self.tell("made", f"{it}/")
+        return failed
 
     def move(self, paths: list[str], mine: Tree, its: trees.RoomTree) -> None:
         if self.only_tells:
             for it in paths:
                 self.tell("sent" if self.is_up else "got", it)
         elif self.is_up:
-            trees.send_all(self.room, [(mine.places[it], trees.join(self.top, it)) for it in paths], self.sent)
+            trees.send_all(self.room, [(mine.places[it], trees.join(self.top, it), self.here) for it in paths],
+                           self.sent)
         else:
             trees.fetch_all(self.room, self.top, paths, its.large, self.got)
 
     def sent(self, it: trees.Sent) -> None:
         if it.fault:
             return self.take(it.fault)
-        self.tell("sent", it.path.removeprefix(self.top.rstrip("/") + "/"))
+        self.tell("sent", it.path.removeprefix(self.top.rstrip("/") + "/"), it.words())
 
     def got(self, path: str, data: bytes | Fault) -> None:
         try:
@@ -117,7 +131,10 @@ class Sync:
             whole = [it for it in paths if it.rpartition("/")[0] not in paths and aim.is_known(it)]
         else:
             whole = paths[::-1]
-        place = trash.trash_of(self.room) if self.is_up and whole else None
+        try:
+            place = trash.trash_of(self.room) if self.is_up and whole else None
+        except trash.NotYours as fault:
+            return self.take(fault)
         for it in whole:
             try:
                 if self.only_tells:
@@ -133,23 +150,15 @@ class Sync:
     def take(self, fault: Fault) -> None:
         self.faults.take(fault)
 
-    def tell(self, word: str, path: str) -> None:
+    def tell(self, word: str, path: str, more: str = "") -> None:
         self.counts[word] += 1
-        print(f"{word} {shown(path)}", flush=True)
+        print(f"{word} {shown(path)}{more}", flush=True)
 
 
 def size_here(path: str) -> int | None:
     """None where it is gone meanwhile, which is told as it is read."""
     try:
-        return os.path.getsize(path)
-    except OSError:
-        return None
-
-
-def sum_here(path: str) -> str | None:
-    try:
-        with open(path, "rb") as file:
-            return hashlib.file_digest(file, "sha256").hexdigest()
+        return os.lstat(path).st_size
     except OSError:
         return None
 

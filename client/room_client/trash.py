@@ -1,28 +1,71 @@
-"""The trash: what was removed lies in /trash/USER, where that is there, until it is emptied. docs/FILES.md has the
-names."""
+"""The trash: what was removed lies in a folder of the caller's own in /trash, where there is one, until it is emptied.
+docs/FILES.md has its place, and the names in it."""
 import calendar
 import re
 import time
+from collections.abc import Callable
 from dataclasses import dataclass
 
 from . import files
-from .faults import ACCESS, BadWords, Refused
+from .faults import ACCESS, BadWords, Fault, Refused
 from .room import Room
-from .words import FOLDER, neat, shown
+from .words import FOLDER, GROUP, LIST_FLAGS, neat, shown
 
 TOP = "/trash"
 SEPARATOR, CUT = "~", "…"
 MOST_BYTES = 64  # of a name
 STAMP = "%Y%m%d%H%M%S"
 TRIES = 30
+ASK = "ask who runs the room for one (fileroom-admin trash)"
+
+
+class NotYours(Fault):
+    """A trash of the caller's name that others could read."""
+
+
+def places_of(user: str) -> list[str]:
+    """Where a user's trash is, and where it was in rooms of before. (A folder holds 256 things, and a room has up to
+    1,000 users.)"""
+    return [f"{TOP}/@{sum(user.encode()) % 16:x}/{user}", f"{TOP}/{user}"]
 
 
 def trash_of(room: Room) -> str | None:
-    """The caller's trash, where there is one that they reach."""
-    path = f"{TOP}/{room.settings.user}"
+    """The caller's trash for what is removed, where there is one, and nobody else could read it there."""
+    path = own_trash(room)
+    if path and not is_private(room.get_list(path), room.settings.user):
+        raise NotYours(f"the list of your trash {shown(path)} does not keep others out, who could read what you "
+                       f"remove: {ASK}; or room rm --for-good")
+    return path
+
+
+def own_trash(room: Room) -> str | None:
+    """The caller's trash, where there is one. Its owner may always set its list."""
+    for path in places_of(room.settings.user):
+        its = standing(room, path)
+        if its and its["owner"] != room.settings.user:
+            raise NotYours(f"your trash {shown(path)} is {its['owner']}'s, who could read what you remove: {ASK}; or "
+                           "room rm --for-good")
+        if its:
+            return path
+    return None
+
+
+def is_private(its: dict, user: str) -> bool:
+    """Whether a list names its owner and this user alone, and takes over nothing that the folder above may hand down
+    later: so `fileroom-admin` makes it."""
+    follows = its["aclflag"] & LIST_FLAGS["auto-inherit"] and not its["aclflag"] & LIST_FLAGS["protected"]
+    return not follows and all(it["who"] == "OWNER@" or it["who"] == user and not it["flag"] & GROUP
+                               for it in its["entries"])
+
+
+def standing(room: Room, path: str) -> dict | None:
+    """What STAT tells of a folder that is there and reached; of one that keeps the caller out, that it is another's."""
     try:
-        return path if room.stat(path)["kind"] == FOLDER else None
+        its = room.stat(path)
+        return its if its["kind"] == FOLDER else None
     except Refused as fault:
+        if fault.reply["code"] == ACCESS and fault.reply["path"] == path:
+            return {"owner": "somebody else"}
         if fault.reply["code"] == ACCESS or files.refused_as(fault, "NOENT", "NOTDIR"):
             return None
         raise
@@ -106,7 +149,7 @@ def discard(room: Room, path: str, trash: str | None, is_whole: bool) -> str | N
     if done:
         return done["to"].rpartition("/")[2]
     its = room.stat(path)
-    if its["kind"] == FOLDER and its["size"] and not is_whole and not files.is_file_folder(room, path):
+    if its["kind"] == FOLDER and its["size"] and not is_whole and files.file_at(room, path) is None:
         raise Refused({"code": 6, "error": "NOTEMPTY"}, {"path": path})
     return put_in_trash(room, path, trash)
 
@@ -116,15 +159,18 @@ def remove(room: Room, path: str, is_whole: bool) -> None:
     try:
         room.remove(path)
     except Refused as fault:
-        if not files.refused_as(fault, "NOTEMPTY") or not is_whole and not files.is_file_folder(room, path):
+        if not files.refused_as(fault, "NOTEMPTY"):
             raise
-        files.remove_all(room, path)
+        if is_whole:
+            files.remove_all(room, path)
+        elif not files.remove_file(room, path):
+            raise
 
 
 def need_trash(room: Room) -> str:
-    trash = trash_of(room)
+    trash = own_trash(room)
     if trash is None:
-        raise BadWords(f"there is no trash of yours: ask for a folder {TOP}/{room.settings.user}, that is yours")
+        raise BadWords(f"there is no trash of yours: {ASK}")
     return trash
 
 
@@ -159,15 +205,19 @@ def restore(room: Room, called: str, to: str | None) -> str:
     its = told_by(name)
     place = to or its and its.place
     if place is None:
-        raise BadWords(f"its name does not tell where it was: room trash restore '{shown(called)}' TO")
+        raise BadWords(f"its name does not say where it was: room trash restore '{shown(called)}' TO")
     room.rename(f"{trash}/{name}", place)
     return place
 
 
-def empty(room: Room) -> int:
-    """Removes what is in the trash for good, and tells how many things that were."""
-    trash = need_trash(room)
-    names = room.children(trash)
-    for name in names:
-        files.remove_all(room, f"{trash}/{name}")
-    return len(names)
+def empty(room: Room, take: Callable[[Fault], None]) -> int:
+    """Removes what is in the trash for good, and tells how many things that were. `take` hears of each that stays: one
+    that somebody else locked is not to keep the rest."""
+    trash, count = need_trash(room), 0
+    for name in room.children(trash):
+        try:
+            files.remove_all(room, f"{trash}/{name}")
+            count += 1
+        except Refused as fault:
+            take(fault)
+    return count

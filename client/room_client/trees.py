@@ -2,6 +2,7 @@
 import base64
 import fnmatch
 import hashlib
+import os
 import unicodedata
 from collections.abc import Callable, Iterator, Sequence
 from dataclasses import dataclass
@@ -12,7 +13,7 @@ from .faults import Fault, LocalFault, NotWhole, OtherVersion, Refused, SessionL
 from .local import Tree
 from .manifest import Manifest
 from .room import MOST_BYTES, Room
-from .words import FILE, FOLDER, PART, shown
+from .words import FILE, FOLDER, neat, shown
 
 OF_ONE = Refused, LocalFault, NotWhole, OtherVersion  # faults of one file, behind which others can go on
 BATCH = 64  # files that are in memory at once
@@ -24,6 +25,18 @@ class RoomTree(Tree):
 
     def __post_init__(self):
         self.large: dict[str, Manifest] = {}
+        self.mixed: list[Fault] = []  # of folders that are not large files alone: what of a file is in them is left out
+
+    def why_not_here(self, path: str) -> str | None:
+        """Why it gets no file here. One whose name put back into the room would be another's there is left out: it
+        would take that one's place."""
+        names = path.split("/")
+        if not all(map(local.fits_here, names)):
+            return "no file here can have that name"
+        above = ("/".join(names[:it]) for it in range(1, len(names) + 1))
+        if any(neat(it) != it and neat(it) in self.kinds for it in above):
+            return "put back, it would take the place of another one in the room"
+        return None
 
 
 def join(top: str, path: str) -> str:
@@ -38,7 +51,7 @@ def tree_of(room: Room, top: str) -> RoomTree:
         replies, level_below = room.ask_all(commands), []
         for path, reply, command in zip(level, replies, commands):
             if reply["code"] == 0:
-                level_below += add_level(room, tree, path, dict(reply["names"]))
+                level_below += add_level(room, tree, top, path, dict(reply["names"]))
             elif not path:
                 raise refused(reply, command)
             else:
@@ -49,12 +62,17 @@ def tree_of(room: Room, top: str) -> RoomTree:
     return tree
 
 
-def add_level(room: Room, tree: RoomTree, path: str, names: dict[str, str]) -> list[str]:
+def add_level(room: Room, tree: RoomTree, top: str, path: str, names: dict[str, str]) -> list[str]:
     """Takes what is in one folder, and answers the folders in it. One that looks like a large file waits."""
-    if path and (form.NAME in names or form.is_unfinished(names)):
+    if path and (form.is_large(names) or form.is_unfinished(names)):
         tree.kinds[path] = form.NAME
         return []
-    below = [f"{path}/{name}" if path else name for name, kind in names.items() if not name.startswith(PART)]
+    left, at = sum(map(form.is_hidden, names)), join(top, path) if path else top
+    if form.NAME in names:
+        tree.mixed.append(NotWhole(f"{shown(at)} is a large file beside other things: room get gets the file alone"))
+    elif left:
+        room.say(f"{shown(at)}: what uploads left there is left out ({left}): room ls names it")
+    below = [f"{path}/{name}" if path else name for name in names if not form.is_hidden(name)]
     for it in below:
         tree.kinds[it] = names[it.rpartition("/")[2]]
     return [it for it in below if tree.kinds[it] == FOLDER]
@@ -71,6 +89,15 @@ def add_large(room: Room, tree: RoomTree, top: str, level: list[str]) -> None:
             room.say(f"{shown(join(top, path))} is left out: an unfinished upload, or of another form")
 
 
+def by_folder(tree: RoomTree) -> dict[str, list[str]]:
+    """The names in each folder, those of folders with a / at their ends."""
+    inside: dict[str, list[str]] = {}
+    for path, kind in sorted(tree.kinds.items()):
+        above, _, name = path.rpartition("/")
+        inside.setdefault(above, []).append(name + "/" * (kind == FOLDER))
+    return inside
+
+
 def find(room: Room, top: str, pattern: str) -> Iterator[str]:
     """The paths below a folder whose name is as the pattern, or has it in it where it has no * ? or [."""
     fold = lambda text: unicodedata.normalize("NFC", text).casefold()  # noqa: E731
@@ -85,22 +112,37 @@ def find(room: Room, top: str, pattern: str) -> Iterator[str]:
 
 @dataclass
 class Sent:
-    """One file on its way into the room."""
+    """One file on its way into the room; `top` is the folder below which it was found."""
 
     place: str
     path: str
+    top: str | None = None
     fault: Fault | None = None
     size: int = 0
+    owner: str | None = None  # of the file that was there, where that is somebody else
+
+    def __post_init__(self):
+        # (a name here that is another in the room was never that file's: it takes no file's place)
+        self.is_new = self.top is not None and not self.path.endswith("/" + os.path.relpath(self.place, self.top))
+
+    def words(self) -> str:
+        return version_of(self.owner)
 
 
-def send_all(room: Room, pairs: Sequence[tuple[str, str]], told: Callable[[Sent], None]) -> None:
-    """Puts files of this machine at paths of the room; small ones several at once."""
+def version_of(owner: str | None) -> str:
+    """(Whoever may add could have put a file under the name that somebody is about to put.)"""
+    return f", a new version of {shown(owner)}'s file" if owner else ""
+
+
+def send_all(room: Room, pairs: Sequence[tuple], told: Callable[[Sent], None]) -> None:
+    """Puts files of this machine at paths of the room; small ones several at once. `pairs` are as `Sent` has them."""
     for part in batched(pairs, BATCH):
         sent = [Sent(*it) for it in part]
         small = {}
         for it in sent:
             try:
-                data = local.read_local(it.place, form.MOST + 1)
+                data = local.read_found(it.top, it.place, form.MOST + 1) if it.top else \
+                    local.read_local(it.place, form.MOST + 1)
                 it.size = len(data)
                 if len(data) <= MOST_BYTES:
                     small[it.path] = data
@@ -129,7 +171,7 @@ def send_one(room: Room, it: Sent, data: bytes) -> None:
     bar = local.Progress(it.path, len(data), form.PIECE)
     fills = it.path.rpartition("/")[2] == it.place.rpartition("/")[2]
     try:
-        files.write(room, it.path, data, fills=fills, heard=bar.heard)
+        it.owner = files.write(room, it.path, data, is_new=it.is_new, fills=fills, heard=bar.heard)
     finally:
         bar.end()
 
@@ -142,11 +184,14 @@ def send_small(room: Room, sent: list[Sent], data: dict[str, bytes]) -> None:
         replies = room.ask_all(commands)
         for it, reply, command in zip(left, replies, commands):
             it.fault = None if reply["code"] == 0 else refused(reply, command)
-        left = [it for it, reply in zip(left, replies) if reply.get("error") == goes_on]
+        written = [it for it, reply in zip(left, replies) if cmd == "WRITE" and reply["code"] == 0]
+        left = [it for it, reply in zip(left, replies) if reply.get("error") == goes_on and not it.is_new]
+    for it, reply in zip(written, room.ask_all({"cmd": "STAT", "path": it.path} for it in written)):
+        it.owner = reply.get("owner") if reply.get("owner") != room.settings.user else None
     for it in left:
         try:
             it.fault = None
-            files.write(room, it.path, data[it.path])
+            it.owner = files.write(room, it.path, data[it.path])
         except Fault as fault:
             it.fault = stop_on(fault)
 

@@ -1,5 +1,6 @@
 """Who may do what with an object: the room decides for each name, by `/v1/check`, and nothing here does."""
 import itertools
+import json
 import tomllib
 from collections.abc import Iterator
 from dataclasses import dataclass
@@ -12,6 +13,7 @@ from .room import Room
 from .words import ALL, FILE, FOLDER, GROUP, SETS, mask_words, right_words, shown
 
 READ, WRITE, TRAVERSE, DELETE_CHILD = 0x1, 0x2, 0x20, 0x40
+WITHOUT_GROUPS = "# Each user is asked about without groups, since no roster is known here: --roster FILE"
 OF_LARGE = {READ: READ | TRAVERSE, WRITE: 0x6 | TRAVERSE}  # what its folder has to allow, for its pieces to count
 
 
@@ -40,14 +42,23 @@ def read_roster(path: str) -> list[Subject]:
         raise LocalFault(f"{path} is no roster: a table [users] of lines like: ann = [\"eng\"]") from None
 
 
-def subjects_of(its: dict) -> list[Subject]:
-    """Whom the object's list can tell apart, without a roster: nobody's groups are known."""
+def roster_of_front(room: Room) -> dict[str, list[str]] | None:
+    """The users of the room with their groups, as its front tells them, or None where it does not."""
+    try:
+        found = json.loads(room.file_of_front(".users.json") or "null")
+        return {user: [str(it) for it in groups] for user, groups in found.items()}
+    except (ValueError, TypeError, AttributeError, RecursionError):
+        return None
+
+
+def subjects_of(its: dict, of: dict[str, list[str]]) -> list[Subject]:
+    """Whom the object's list can tell apart. `of` has the groups of users, as far as they are known."""
     owner, named = its["owner"], [it for it in its["entries"] if not it["who"].endswith("@")]
     users = {it["who"] for it in named if not it["flag"] & GROUP}
     groups = {it["who"] for it in named if it["flag"] & GROUP}
     stranger = next(it for it in map("nobody-{}".format, itertools.count()) if it not in users | {owner})
-    rows = [Subject(f"{owner} (owner)", owner)]
-    rows += [Subject(it, it) for it in sorted(users - {owner})]
+    rows = [Subject(f"{owner} (owner)", owner, tuple(of.get(owner, ())))]
+    rows += [Subject(it, it, tuple(of.get(it, ()))) for it in sorted(users - {owner})]
     rows += [Subject(f"group:{it}", stranger, (it,)) for it in sorted(groups | {its["group"]})]
     return rows + [Subject("anybody else", stranger)]
 
@@ -84,14 +95,14 @@ def large_words(mask: int) -> str:
     return mask_words(mask ^ DELETE_CHILD if mask ^ DELETE_CHILD in SETS.values() else mask, FILE)
 
 
-def who(room: Room, path: str, roster: list[Subject] | None) -> list[Row]:
+def who(room: Room, path: str, roster: list[Subject] | None, groups: dict[str, list[str]] | None = None) -> list[Row]:
     its = standing(room, path)
     is_large = its["kind"] == FOLDER and large_at(room, path)
     inside = standing(room, f"{path.rstrip('/')}/{NAME}") if is_large else None
     above = list(standing_above(room, path))
     not_known = next((folder for folder, found in above if found is None), None)
     rows = []
-    for subject in roster if roster is not None else subjects_of(its):
+    for subject in roster if roster is not None else subjects_of(its, groups or {}):
         mask = allowed(room, its, subject, ALL)
         if inside:
             mask = of_large(mask, allowed(room, inside, subject, ALL))

@@ -3,7 +3,9 @@ import re
 import unicodedata
 from collections.abc import Iterable, Iterator
 
-FILE, FOLDER = "file", "folder"
+from .manifest import FOLDER, PART
+
+FILE = "file"
 LARGE = "large file"  # one document, whose list is that of the folder that holds its pieces
 
 # Bit, word on a document, word on a folder, and other words that are taken.
@@ -82,9 +84,6 @@ def shown(text: str) -> str:
 def neat(path: str) -> str:
     """A path for what is made: its letters composed (Unicode NFC), and without blanks at the ends of its names."""
     return "/".join(it.strip() for it in unicodedata.normalize("NFC", path).split("/"))
-
-
-PART = ".room-"  # begins the names of what a large file is made of (docs/FILES.md)
 
 
 def is_part(command: dict) -> bool:

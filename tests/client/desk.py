@@ -4,6 +4,7 @@ import contextlib
 import http.client
 import http.server
 import io
+import json
 import os
 import subprocess
 import sys
@@ -19,6 +20,7 @@ from room_client.command import main
 
 COMMAND = os.path.join(HERE, "..", "client", "room")
 PREFIX = "/rooms/plans"
+GROUPS = {"ann": ["eng"], "bob": ["eng", "staff"], "eng": []}  # as served.ROSTER
 PASSWORDS = {"ann": "a secret: of ann", "bob": "bob's"}
 ALL_CHANGE = {"flag": 3, "mask": 0x1301EF, "type": 0, "who": "EVERYONE@"}
 
@@ -135,6 +137,11 @@ class Front(http.server.BaseHTTPRequestHandler):
             self.pass_on(user, body, fault)
 
     do_DELETE = do_POST
+
+    def do_GET(self):
+        """The roster, as the page has it."""
+        is_it = self.user() is not None and self.path == f"{PREFIX}.users.json"
+        self.answer(200 if is_it else 404, json.dumps(GROUPS).encode() if is_it else b"<html>no</html>")
 
     def user(self):
         kind, _, pair = self.headers.get("authorization", "").partition(" ")

@@ -106,7 +106,8 @@ class Commands(Desk):
             "zoe           read  (but cannot get there: lacks traverse at /)\n"
             "group:eng     view\n"
             "group:staff   write,append  (but cannot get there: lacks traverse at /)\n"
-            "anybody else  none  (but cannot get there: lacks traverse at /)\n"))
+            "anybody else  none  (but cannot get there: lacks traverse at /)\n"
+            "# Each user is asked about without groups, since no roster is known here: --roster FILE\n"))
         self.file("roster", ROSTER.encode())
         self.prints("who", "/plans/a", "--roster", "roster", want="ann  all\nbob  edit\n"
                     "eng  none  (but cannot get there: lacks traverse at /)\n")
@@ -128,20 +129,21 @@ class Commands(Desk):
             room.create("/f", b"12")
             room.set_list("/d", 1, [ALL_CHANGE])
         look, other = "look with: room ls", "choose another name, or remove it first"
-        ask = "ask its owner, or who may set its list"
+        ask = "ask its owner, or anyone who may set its list"
         self.refuses("get", "/no/x",
                      want=f"NOENT (1) at /no/x: nothing is there, or a folder above it is missing: {look}")
-        self.refuses("ls", "/f", want="NOTDIR (2) at /f: a folder is wanted, and a document is there: mend the path")
-        self.refuses("get", "/d", want="ISDIR (3) at /d: a document is wanted, and a folder is there: mend the path")
+        self.refuses("ls", "/f", want="NOTDIR (2) at /f: a folder is needed, and a document is there: correct the path")
+        self.refuses("get", "/d", want="ISDIR (3) at /d: a document is needed, and a folder is there: correct the path")
         self.refuses("mkdir", "/f", want="EXIST (4) at /f: something is there already: " + other)
         self.refuses("put", "--new", "-", "/f", want="EXIST (4) at /f: something is there already: " + other)
         self.refuses("mkdir", "/x", user="bob", want="ACCESS (5) at /: you lack the right add-folder: " + ask)
         self.refuses("append", "-", "/f", user="bob", want="ACCESS (5) at /f: you lack the right append: " + ask)
-        self.refuses("rm", "/d", want="NOTEMPTY (6) at /d: the folder has something in it: remove that first")
-        self.refuses("mv", "/d", "/d/e/x", want="INVAL (7) at /d: the root neither moves nor goes, nothing moves into "
-                     "itself, and a list has at most 32 entries of its own: mend the words")
+        self.refuses("rm", "/d", want="NOTEMPTY (6) at /d: the folder has something in it: room rm -r removes it "
+                     "with that")
+        self.refuses("mv", "/d", "/d/e/x", want="INVAL (7) at /d: the root cannot be moved or removed, nothing moves "
+                     "into itself, and a list has at most 32 own entries: correct the command")
         self.refuses("acl", "/f", "set", "allow bob read inherit", want="ATTRNOTSUPP (8) at /f: inheritance that this "
-                     "object cannot have: on a document none, and on a folder 'not-here' only beside it: mend the "
+                     "object cannot have: on a document none, and on a folder 'not-here' only beside it: correct the "
                      "entry")
         self.refuses("append", "-", "/f", stdin=bytes(65535),
                      want="FBIG (9) at /f: a document has at most 65,536 bytes: split it")
@@ -149,13 +151,16 @@ class Commands(Desk):
         self.prints("stat", "/f", want="file, 2 bytes, owner ann, group eng, list flags auto-inherit\n")
 
     def test_each_refusal_of_a_message(self):
-        self.refuses("mkdir", "x", want="BAD_REQUEST (43) at x: a word is not as the room takes it: a path is / or up "
-                     "to 16 names, each of at most 64 bytes behind a /; a user or group is 1 to 32 letters, digits, "
-                     "'.', '_' or '-': mend the words")
+        self.refuses("mkdir", "/x//y", want="BAD_REQUEST (43) at /x//y: the room refuses this form: a path is / or up "
+                     "to 16 names, each of at most 64 bytes after a /; a user or group is 1 to 32 letters, digits, "
+                     "'.', '_' or '-': correct the command")
+        for words in (["mkdir", "x"], ["ls", "x"], ["rm", "x"], ["mv", "/a", "x"], ["get", "x"], ["acl", "x"],
+                      ["who", "x"], ["put", "-", "x"], ["stat", "x"], ["find", "x", "y"], ["cp", "x", "/a"]):
+            self.refuses(*words, status=2, want="'x' is no path of the room: a path begins with /")
         self.refuses("ls", user="zed",
-                     want="UNKNOWN_USER (42): you are no user of the room: ask who keeps its roster")
+                     want="UNKNOWN_USER (42): you are no user of the room: ask whoever keeps its roster")
         self.refuses("ls", flags=["--url", self.url + "/x", "--state", "x"],
-                     want="BAD_ROUTE (41): the room has no such route: mend the URL")
+                     want="BAD_ROUTE (41): the room has no such route: correct the URL")
         self.prints("ls", want="")
 
     def test_a_path_that_is_too_deep(self):
@@ -182,7 +187,7 @@ class Places(Desk):
         for name in states:
             self.assertEqual(stat.S_IMODE(os.stat(self.path(f".local/state/room/{name}")).st_mode), 0o600)
         self.file("secret", b"wrong\n")
-        wrong = ("answered 401: the login or its password is wrong: mend --login or the password file; nothing was "
+        wrong = ("answered 401: the login or its password is wrong: correct --login or the password file; nothing was "
                  "done, and nothing is kept")
         self.assertEqual(self.plain("ls"), (3, "", f"room: {url} {wrong}\n"))
         os.chmod(self.path("secret"), 0o640)

@@ -30,7 +30,7 @@ class Docs(Desk):
         """Where an address stands as an example, its port is the one that the front, or a first room, has."""
         front = re.search(r"listen 127\.0\.0\.1:(\d+)", text_of(os.path.join(TOP, "front", "listen.conf")))[1]
         admin = text_of(os.path.join(TOP, "service", "admin", "fileroom_admin", "commands.py"))
-        ports = {"/": front, "": re.search(r"PORTS = range\((\d+),", admin)[1]}
+        ports = {"/": front, "": re.search(r"(?m)^PORT = (\d+)", admin)[1]}
         names = "README.md", "docs/CLIENT.md", "docs/RUNNING.md", "client/room_client/__init__.py"
         for text in self.does("--help")[1], *(text_of(os.path.join(TOP, it)) for it in names):
             found = re.findall(r"http://127\.0\.0\.1:(\d+)(/?)", text)

@@ -3,6 +3,7 @@ import contextlib
 import json
 import os
 import random
+import re
 import signal
 import subprocess
 import sys
@@ -49,6 +50,17 @@ class Behind(Desk):
         return sorted(it.rpartition("-")[0] for it in room.children(path) if it != manifest.NAME)
 
 
+class Who(Behind):
+    def test_groups_of_the_front(self):
+        """A user has the groups of the room's roster, as the front tells it."""
+        with self.room() as room:
+            room.set_list("/", 1, [{"flag": 0x43, "mask": 0x1200AF, "type": 0, "who": "staff"},
+                                   {"flag": 3, "mask": 0x1F07FF, "type": 0, "who": "OWNER@"},
+                                   {"flag": 0, "mask": 1, "type": 0, "who": "bob"}])
+        self.prints("who", "/", want="ann (owner)   all\nbob           edit\ngroup:eng     none\ngroup:staff   edit\n"
+                    "anybody else  none\n")
+
+
 class Sizes(Behind):
     def test_each_size_comes_back(self):
         for size in (0, 1, PIECE, PIECE + 1, 3 * PIECE):
@@ -91,7 +103,7 @@ class Sizes(Behind):
     def test_what_is_there_is_not_taken(self):
         self.file("in", some(PIECE + 1, 1))
         self.prints("mkdir", "/d", want="/d: made\n")
-        folder = "ISDIR (3) at /d: a document is wanted, and a folder is there: mend the path"
+        folder = "ISDIR (3) at /d: a document is needed, and a folder is there: correct the path"
         self.refuses("put", "in", "/d", want=folder)
         self.prints("put", "in", "/d/", want="/d/in: 65537 bytes\n")
         self.refuses("put", "in", "/d", want=folder)
@@ -192,7 +204,7 @@ class Damaged(Behind):
             with self.room() as room:
                 room.write(f"/a/{manifest.NAME}", json.dumps(other).encode())
             self.assertEqual(self.does("ls")[1], "a/\n", other)
-            folder = "ISDIR (3) at /a: a document is wanted, and a folder is there: mend the path"
+            folder = "ISDIR (3) at /a: a document is needed, and a folder is there: correct the path"
             self.refuses("get", "/a", want=folder)
 
 
@@ -308,7 +320,8 @@ class Stopped(Behind):
         return os.waitstatus_to_exitcode(os.waitpid(pid, 0)[1])
 
     def stop_at_each_step(self, before, data):
-        """Of three in a row a reader sees the old file or the new one, and the next writer leaves nothing else."""
+        """Of three in a row a reader sees the old file or the new one, and the next writer leaves nothing else: but for
+        a whole new version that was to take a document's place, under a name that is seen."""
         stop_at, ends = 0, set()
         while True:
             with self.room(state=self.path("other")) as other:
@@ -325,7 +338,10 @@ class Stopped(Behind):
                 files.write(room, "/d/a", data, fills=True)
             with self.room(state=self.path("other")) as other:
                 self.assertEqual(files.read(other, "/d/a"), data, stop_at)
-                self.assertEqual(list(other.children("/d")), ["a"], stop_at)
+                left = [it for it in other.children("/d") if re.fullmatch(r"a \([0-9a-f]{4}\)", it)]
+                self.assertEqual([*other.children("/d")], ["a", *left], stop_at)
+                self.assertEqual([files.read(other, f"/d/{it}") for it in left], [data] * len(left[:1]), stop_at)
+                self.assertTrue(not left or before == b"small")
                 self.assertEqual(self.parts(other, "/d/a"), [".room-pieces"], stop_at)
                 files.remove_all(other, "/d")
             stop_at += 1
@@ -444,13 +460,14 @@ class Slots(Behind):
         os.kill(self.served.server.pid, signal.SIGSTOP)
         self.addCleanup(os.kill, self.served.server.pid, signal.SIGCONT)
         child = self.start("put", "in", "/d/a")
-        time.sleep(1.5)
+        self.wait_for("front.json", "")
+        time.sleep(0.5)
         child.send_signal(signal.SIGINT)
         self.assertEqual(child.wait(20), 130)
         os.kill(self.served.server.pid, signal.SIGCONT)
         self.assertEqual(self.does("put", "in", "/d/a")[0], 0)
         child = self.start("put", "in", "/d/a")
-        self.wait_for_pieces()
+        self.wait_for("front.json.3", "CREATE")
         os.kill(self.served.server.pid, signal.SIGSTOP)
         time.sleep(0.5)
         child.send_signal(signal.SIGINT)
@@ -462,11 +479,12 @@ class Slots(Behind):
         self.assertEqual(self.does("session", "finish"), (0, "", said))
         self.prints("get", "/d/a", "out", want=f"{40 * PIECE} bytes to out\n")
 
-    def wait_for_pieces(self):
+    def wait_for(self, name, text):
+        """Until the child has written it into such a file."""
         end = time.monotonic() + 20
         while time.monotonic() < end:
-            with contextlib.suppress(OSError), open(self.path("front.json.3")) as file:
-                if "CREATE" in file.read():
+            with contextlib.suppress(OSError), open(self.path(name)) as file:
+                if text in file.read():
                     return
             time.sleep(0.002)
         self.fail("no piece is under way")
@@ -543,7 +561,7 @@ class Kept(Behind):
             self.assertEqual(self.parts(room, "/a"), [".room-pieces"])
         self.assertEqual(said, [])
 
-    def test_what_somebody_else_finishes(self):
+    def test_what_nobody_else_finishes(self):
         """An upload of ann's that was stopped (bob has rights by his name, and ann as the owner alone)."""
         with self.behind() as room:
             room.set_list("/", 0, [{"flag": 3, "mask": 0x1F07FF, "type": 0, "who": "OWNER@"},
@@ -551,9 +569,11 @@ class Kept(Behind):
             for path in "/a", "/a/.room-writing-0123456789abcdef":
                 room.mkdir(path)
         data = some(PIECE + 1, 1)
-        with self.room(user="bob", say=lambda _: None) as bob:
+        with self.room(user="bob") as bob, self.assertRaisesRegex(files.Refused, "it is a folder of ann, who could"):
             files.write(bob, "/a", data)
-        with self.behind() as room:
+        with self.behind(lambda _: None) as room:
+            self.assertEqual(self.parts(room, "/a"), [".room-writing"])
+            files.write(room, "/a", data)
             self.assertEqual(files.read(room, "/a"), data)
 
     def test_rights_and_owner_by_command(self):

@@ -59,6 +59,17 @@ class Lost(Desk):
             self.assertEqual(room.read("/log"), b"piece")
         self.assertEqual(said, ["finished what was pending: APPEND /log: done"])
 
+    def test_a_pending_read_is_finished_without_a_word(self):
+        self.front.faults[:] = ["pass", "lose"] + [504] * 50
+        with self.assertRaises(NoAnswer):
+            with self.behind(patience=0.3) as room:
+                room.children("/")
+        del self.front.faults[:]
+        said = []
+        with self.behind(said.append) as room:
+            self.assertTrue(room.was_pending)
+        self.assertEqual(said, [])
+
     def test_the_same_again_is_the_one_that_was_pending(self):
         with self.behind() as room:
             room.create("/log", b"")

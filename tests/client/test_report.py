@@ -65,6 +65,18 @@ class Reports(Desk):
         self.assertTrue(page.rows[4][2].startswith("add-file, write, "), page.rows[4])
         self.assertIn("view: see it and what is in it", page.rows[0])
 
+    def test_no_path_is_a_formula(self):
+        """Not where a program parts cells at ; either."""
+        self.served.start()
+        with self.room() as room:
+            room.create("/plans/;=1+1;", b"")
+        self.served.kill()
+        status, text, _ = self.does("report", "--csv", stdin=self.served.report("access")[1], own_settings=False)
+        self.assertEqual(status, 0)
+        rows = csv.reader(io.StringIO(text[1:], newline=""), delimiter=";")
+        self.assertEqual([cell for row in rows for cell in row if cell.startswith("=")], [])
+        self.assertIn('"/plans/;=1+1;"', text)
+
     def test_large_file(self):
         """It is one object, but for what is in it and has other rights."""
         self.served.start()

@@ -88,6 +88,6 @@ class Tls(Desk):
         self.words = ["--url", url.replace("http:", "https:"), "--login", "ann", "--password-file", self.path("secret")]
         self.says("ls", status=3, want="127.0.0.1 speaks no TLS there: ask who runs the room for its address")
         self.words += ["--ca-file", self.file("odd.pem", b"odd")]
-        self.says("ls", status=5, want="odd.pem has no certificate in it .*: mend ca-file")
+        self.says("ls", status=5, want="odd.pem has no certificate in it .*: correct ca-file")
         self.words[-1] = "none.pem"
         self.says("ls", status=5, want="none.pem: No such file or directory")

@@ -1,16 +1,21 @@
 """Several files and folders: put, get, cp, find, sync, and the trash."""
 import json
 import os
+import re
 import stat
+import sys
+import tempfile
 from unittest import mock
 
-from desk import Desk
-from room_client import files, trash
+from desk import COMMAND, Desk
+from room_client import files, trash, trees
 from room_client.manifest import PIECE
 from room_client.slots import Slot
 from test_files import Behind, some
 
 EVERYBODY = {"flag": 3, "mask": 0x1F07FF, "type": 0, "who": "EVERYONE@"}
+OWNERS = [{"flag": 0, "mask": 0x1F07FF, "type": 0, "who": "OWNER@"}]
+ANNS = [*OWNERS, {"flag": 3, "mask": 0x1F07FF, "type": 0, "who": "ann"}]  # as fileroom-admin makes it
 
 
 class Trees(Behind):
@@ -51,13 +56,77 @@ class Trees(Behind):
         self.assertEqual(self.here("other"), self.here("photos"))
         for words in (["-r", "/album", "/album/2026/x"], ["-r", "/", "/x"], ["/album/a.txt", "/album/"]):
             path = words[-2]
-            self.refuses("cp", *words, want=f"INVAL (7) at {path}: nothing is copied into itself: mend the path")
+            self.refuses("cp", *words, want=f"INVAL (7) at {path}: nothing is copied into itself: correct the path")
         self.assertEqual(self.does("get", "-r", "/", "all")[0], 0)
         self.assertEqual(sorted(os.listdir(self.path("all"))), ["album", "other"])
-        full = "NOTEMPTY (6) at /album: the folder has something in it: remove that first"
+        full = "NOTEMPTY (6) at /album: the folder has something in it: room rm -r removes it with that"
         self.refuses("rm", "/album", want=full)
         self.prints("rm", "-r", "/album", "/other", want="/album: removed\n/other: removed\n")
         self.prints("ls", want="")
+
+    def test_into_a_folder_that_is_there(self):
+        for path in "/office", "/board":
+            self.prints("mkdir", path, want=f"{path}: made\n")
+        self.prints("put", "photos/a.txt", "/board/", want="/board/a.txt: 1 bytes\n")
+        self.prints("cp", "/board/a.txt", "/office", want="/board/a.txt is also /office/a.txt\n")
+        self.refuses("mv", "/board/a.txt", "/office", want="EXIST (4) at /office/a.txt: something is there already: "
+                     "choose another name, or remove it first")
+        self.prints("rm", "/office/a.txt", want="/office/a.txt: removed\n")
+        self.prints("mv", "/board/a.txt", "/office", want="/board/a.txt is now /office/a.txt\n")
+        self.prints("mv", "/office", "/board", want="/office is now /board/office\n")
+        self.prints("put", "photos/2026/lake.jpg", "/lake.jpg", want="/lake.jpg: 65537 bytes\n")
+        self.prints("cp", "/board/office/a.txt", "/lake.jpg", want="/board/office/a.txt is also /lake.jpg\n")
+        self.prints("get", "/lake.jpg", want="a")
+
+    def test_moved_once_though_its_answer_was_lost(self):
+        for path in "/a", "/b":
+            self.prints("mkdir", path, want=f"{path}: made\n")
+        for to, at, passed in ("/b", "/b/a", 2), ("/c", "/c", 1):
+            self.front.faults[:] = ["pass"] * passed + ["lose"] + [504] * 99
+            path = "/a" if to == "/b" else "/b/a"
+            self.assertEqual(self.does("mv", path, to, flags=["--patience", "0.2"])[0], 3)
+            del self.front.faults[:]
+            status, out, err = self.does("mv", path, to)
+            self.assertEqual((status, out), (0, f"{path} is now {at}\n"), err)
+            self.assertIn("that was this very request, done once", err)
+
+    def test_looked_at(self):
+        self.assertEqual(self.does("put", "-r", "photos", "/album")[0], 0)
+        self.prints("tree", "/album", want="/album\n  2026/\n    June/\n      b.txt\n    lake.jpg\n  a.txt\n  empty/\n")
+        self.prints("ls", "-R", "/album", want="/album:\n2026/\na.txt\nempty/\n\n/album/2026:\nJune/\nlake.jpg\n\n"
+                    "/album/2026/June:\nb.txt\n\n/album/empty:\n")
+        self.prints("du", "/album", want="65538  2026/\n    1  a.txt\n    0  empty/\n65539  /album\n")
+        self.prints("cat", "/album/a.txt", "/album/2026/June/b.txt", want="ab")
+        status, out, err = self.does("cat", "/none", "/album/a.txt")
+        self.assertEqual((status, out, err.count("\n")), (1, "a", 1))
+
+    def test_edited(self):
+        """By editors that add, that do nothing, that are slow, and that fail."""
+        # (what an editor was given stays where it is, if it could not be put)
+        self.enterContext(mock.patch.dict(os.environ, TMPDIR=self.folder))
+        self.enterContext(mock.patch.object(tempfile, "tempdir", None))
+        with self.room() as room:
+            room.create("/a", b"one")
+        self.file("theirs", b"theirs")
+        adds = "sh -c 'printf \" two\" >>$0'"
+        with mock.patch.dict(os.environ, EDITOR=adds):
+            self.prints("edit", "/a", want="/a: 7 bytes\n")
+            self.prints("edit", "/new", want="/new: 4 bytes\n")
+        self.prints("get", "/a", want="one two")
+        with mock.patch.dict(os.environ, EDITOR="true"):
+            self.prints("edit", "/a", want="nothing was changed\n")
+        meanwhile = " ".join([sys.executable, COMMAND, *Desk.words_of(self, "bob"), "put", self.path("theirs"), "/a"])
+        with self.room() as room:
+            room.set_list("/", 1, [EVERYBODY])
+        with mock.patch.dict(os.environ, EDITOR=adds[:-1] + f"; {meanwhile} >&2' "):
+            status, out, err = self.does("edit", "/a")
+        self.assertEqual((status, out), (7, ""), err)
+        with open(re.search("what you wrote is in (.*)", err)[1], "rb") as file:
+            self.assertEqual(file.read(), b"one two two")
+        self.prints("get", "/a", want="theirs")
+        with mock.patch.dict(os.environ, EDITOR="false"):
+            status, _, err = self.does("edit", "/a")
+            self.assertEqual((status, "nothing was put; it is in" in err), (5, True), err)
 
     def test_several(self):
         self.file("b", b"22")
@@ -196,6 +265,49 @@ class Trees(Behind):
         status, _, err = self.does("sync", "photos", "room:/album")
         self.assertEqual((status, err), (1, "room: EXIST (4) at d: a file on one side, a folder on the other\n"))
 
+    def planted(self):
+        """What somebody else may put into a folder here, so that the client reads or writes elsewhere."""
+        self.assertEqual(self.does("put", "-r", "photos", "/album")[0], 0)
+        self.file("private", b"a secret")
+
+    def test_get_into_a_folder_with_a_link(self):
+        self.planted()
+        os.mkdir(self.path("here"))
+        for plant in lambda it: os.symlink(self.path("private"), it), os.mkfifo:
+            plant(self.path("here/a.txt"))
+            self.prints("get", "/album/a.txt", "here", want="1 bytes to here/a.txt\n")
+            self.assertEqual(self.here("here"), {"a.txt": b"a"})
+            os.remove(self.path("here/a.txt"))
+        self.assertEqual(self.here("")["private"], b"a secret")
+
+    def test_one_link_in_the_way_of_many(self):
+        self.planted()
+        os.mkdir(self.path("elsewhere"))
+        for words, to in (["get", "-r", "/album"], "back"), (["sync", "room:/album"], "synced"):
+            os.mkdir(self.path(to))
+            os.symlink(self.path("elsewhere"), self.path(f"{to}/2026"))
+            status, out, err = self.does(*words, to)
+            self.assertEqual((status, err.count("\n")), (5, 1 + (to == "synced")), err)
+            self.assertIn(f"room: {to}/2026: Not a directory", err)
+            self.assertIn("a.txt", out)
+            self.assertEqual(self.here("elsewhere"), {})
+
+    def test_put_of_what_was_looked_at(self):
+        """Swapped between the look and the reading."""
+        self.planted()
+        def swap(*words):
+            os.remove(self.path("photos/a.txt"))
+            os.symlink(self.path("private"), self.path("photos/a.txt"))
+            os.rename(self.path("photos/2026"), self.path("photos/before"))
+            os.symlink(self.path("photos/before"), self.path("photos/2026"))
+            return made(*words)
+
+        made = trees.make_folders
+        with mock.patch.object(trees, "make_folders", swap):
+            status, out, err = self.does("put", "-r", "photos", "/other")
+        self.assertEqual((status, out, err.count("\n")), (5, "", 3), err)
+        self.prints("find", "/other", "*", want="/other/2026/\n/other/2026/June/\n/other/empty/\n")
+
 
 class Names(Desk):
     def test_names_are_composed_and_trimmed_as_they_are_made(self):
@@ -236,6 +348,7 @@ class Trash(Behind):
         with self.room() as room:
             for path in ("/trash", "/trash/ann", "/d", "/d/e"):
                 room.mkdir(path)
+            room.set_list("/trash/ann", 2, ANNS)
             room.create("/d/e/a.txt", b"x")
             files.write(room, "/d/large", some(PIECE + 1, 1))
 
@@ -254,7 +367,8 @@ class Trash(Behind):
         self.prints("trash", "restore", "large", "/big", want="/big: restored\n")
         self.prints("get", "/d/e/a.txt", want="x")
         self.prints("rm", "/big", want="/big: in /trash/ann\n")
-        self.refuses("rm", "/d", want="NOTEMPTY (6) at /d: the folder has something in it: remove that first")
+        self.refuses("rm", "/d", want="NOTEMPTY (6) at /d: the folder has something in it: room rm -r removes it "
+                     "with that")
         self.prints("rm", "-r", "/d", want="/d: in /trash/ann\n")
         self.prints("trash", "empty", want="2 removed for good\n")
         self.assertEqual(self.in_trash(), [])
@@ -272,7 +386,7 @@ class Trash(Behind):
 
     def test_restored_once_though_its_answer_was_lost(self):
         self.prints("rm", "/d/e/a.txt", want="/d/e/a.txt: in /trash/ann\n")
-        self.front.faults[:] = ["pass"] * 2 + ["lose"] + [504] * 99
+        self.front.faults[:] = ["pass"] * 3 + ["lose"] + [504] * 99
         status, _, err = self.does("trash", "restore", "a.txt", flags=["--patience", "0.2"])
         self.assertEqual(status, 3, err)
         del self.front.faults[:]
@@ -295,6 +409,56 @@ class Trash(Behind):
             self.assertIsNone(trash.trash_of(room))
             self.assertIsNone(trash.discard(room, "/d/b", None, False))
 
+    def test_its_place(self):
+        """One for a sixteenth of the users, and by itself where it was before."""
+        self.assertEqual(trash.places_of("ann"), ["/trash/@d/ann", "/trash/ann"])
+        parts = [trash.places_of(f"member{it:03}")[0].split("/")[2] for it in range(1000)]
+        self.assertLess(max(map(parts.count, parts)), 256)
+        with self.room() as room:
+            room.mkdir("/trash/@d")
+            room.mkdir("/trash/@d/ann")
+            room.set_list("/trash/@d/ann", 2, ANNS)
+        self.prints("rm", "/d/e/a.txt", want="/d/e/a.txt: in /trash/@d/ann\n")
+        self.prints("trash", "restore", "a.txt", want="/d/e/a.txt: restored\n")
+
+    def test_somebody_elses_is_not_used(self):
+        with self.room() as room:
+            room.set_list("/trash/ann", 2, OWNERS)
+            room.chown("/trash/ann", "bob", "eng")
+        told = ("your trash /trash/ann is bob's, who could read what you remove: ask who runs the room for one "
+                "(fileroom-admin trash); or room rm --for-good")
+        self.refuses("rm", "/d/e/a.txt", want=told.replace("bob", "somebody else"))
+        with self.room("bob") as room:
+            room.set_list("/trash/ann", 2, [EVERYBODY])
+        self.refuses("rm", "/d/e/a.txt", want=told)
+        self.prints("ls", "/d/e", want="a.txt\n")
+        os.mkdir(self.path("none"))
+        status, out, err = self.does("sync", "--delete", "none", "room:/d/e")
+        self.assertEqual((status, err), (1, f"room: {told}\n"), out)
+        self.prints("ls", "/d/e", want="a.txt\n")
+        self.prints("rm", "--for-good", "/d/e/a.txt", want="/d/e/a.txt: removed\n")
+
+    def test_one_that_others_may_read_is_not_used(self):
+        """Its owner may be the caller, and its list still let others in, or the folder above hand that down; what is in
+        it can be taken out."""
+        self.prints("rm", "/d/e/a.txt", want="/d/e/a.txt: in /trash/ann\n")
+        told = ("the list of your trash /trash/ann does not keep others out, who could read what you remove: ask who "
+                "runs the room for one (fileroom-admin trash); or room rm --for-good")
+        for flags, *others in [
+            (2, {"flag": 0, "mask": 0x21, "type": 0, "who": "bob"}), (1,),
+            (0, {"flag": 11, "mask": 1, "type": 0, "who": "bob"}),
+            (2, {"flag": 0x40, "mask": 0x21, "type": 0, "who": "ann"}),
+            (2, {"flag": 3, "mask": 0x40000, "type": 0, "who": "EVERYONE@"}),
+        ]:
+            with self.room() as room:
+                room.set_list("/trash/ann", flags, OWNERS + others)
+            self.refuses("rm", "/d/large", want=told)
+        self.prints("ls", "/d", want="e/\nlarge\n")
+        self.prints("trash", "restore", "a.txt", want="/d/e/a.txt: restored\n")
+        with self.room() as room:
+            room.set_list("/trash/ann", 2, ANNS)
+        self.prints("rm", "/d/large", want="/d/large: in /trash/ann\n")
+
     def test_a_trash_that_does_not_take_it(self):
         with self.room() as room:
             room.set_list("/trash/ann", 3, [{"flag": 3, "mask": 0x1200A9, "type": 0, "who": "OWNER@"}])
@@ -304,7 +468,7 @@ class Trash(Behind):
         self.prints("get", "/d/e/a.txt", want="x")
 
     def test_done_once_though_its_answer_was_lost(self):
-        self.front.faults[:] = ["pass"] * 3 + ["lose"] + [504] * 99
+        self.front.faults[:] = ["pass"] * 5 + ["lose"] + [504] * 99
         words = ["--patience", "0.2"]
         status, _, err = self.does("rm", "/d/e/a.txt", flags=words)
         self.assertEqual(status, 3, err)

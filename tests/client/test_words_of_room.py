@@ -6,7 +6,8 @@ import shutil
 import subprocess
 import unittest
 
-from desk import HERE
+from desk import COMMAND, HERE
+from test_files import Behind
 from room_client import command, faults
 
 CLIENT = os.path.join(HERE, "..", "client")
@@ -50,9 +51,68 @@ class WordsOfRoom(unittest.TestCase):
         self.assertEqual(self.completed("--url", "x", "ls"), self.completed("ls"))
         self.assertEqual(self.completed("--url"), set())
 
+    def test_other_shells(self):
+        """(What they say of it is tried below.)"""
+        for name, line in ("room.zsh", "compadd -- (ls.*)"), ("room.fish", "set -l commands (.*)"):
+            with open(os.path.join(CLIENT, name), encoding="utf-8") as file:
+                self.assertEqual(set(re.search(line, file.read())[1].split()), set(subparsers()[1]), name)
+
     def completed(self, *words):
         """What stands behind these words, in an empty folder."""
         line = f". {CLIENT}/room.bash; COMP_WORDS=(room {' '.join(words)} ''); COMP_CWORD={len(words) + 1}; _room; " \
                "printf '%s\\n' \"${COMPREPLY[@]}\""
         how = {"capture_output": True, "text": True, "check": True, "cwd": "/proc/self/task", "timeout": 30}
         return {it for it in subprocess.run(["bash", "-c", line], **how).stdout.split() if not it.isdecimal()}
+
+
+class PathsOfRoom(Behind):
+    """Paths, as shells complete them."""
+
+    def setUp(self):
+        super().setUp()
+        with self.room() as room:
+            for path in "/plans", "/plain", "/other", "/plans/my notes":
+                room.mkdir(path)
+            room.create("/place", b"")
+            for name in "/pl\u202e", "/pl`id` x", "/pl$(id)":
+                room.create(name, b"")
+        self.file("large", bytes(65537))
+        self.prints("put", "large", "/plage", want="/plage: 65537 bytes\n")
+        self.line = [COMMAND, *self.words_of("ann")]
+
+    def completes(self, *line, **more):
+        done = subprocess.run(line, capture_output=True, text=True, env=self.environment() | more, cwd=self.folder,
+                              stdin=subprocess.DEVNULL, timeout=60)
+        return sorted(done.stdout.splitlines()), done.stderr
+
+    def test_the_client(self):
+        found = ["/pl$(id)", "/pl`id` x", "/place", "/plage", "/plain/", "/plans/"]
+        self.assertEqual(self.completes(*self.line, "ls", ROOM_COMPLETE="/pl"), (found, ""))
+        self.assertEqual(self.completes(*self.line, ROOM_COMPLETE="/plans/"), (["/plans/my notes/"], ""))
+        self.assertEqual(self.completes(*self.line, ROOM_COMPLETE="/none/"), ([], ""))
+        words = [it for it in self.line if it not in ("--password-file", self.path("secret"))]
+        self.assertEqual(self.completes(*words, ROOM_COMPLETE="/pl"), ([], ""))  # (nobody is asked for a password)
+
+    def test_what_is_pending_stays(self):
+        self.front.faults[:] = ["lose"] + [504] * 99
+        self.assertEqual(self.does("mkdir", "/new", flags=["--patience", "0.2"])[0], 3)
+        del self.front.faults[:]
+        self.assertEqual(self.completes(*self.line, ROOM_COMPLETE="/pl"), ([], ""))
+        self.assertIn("finished what was pending: MKDIR /new", self.does("session", "finish")[2])
+
+    @unittest.skipUnless(shutil.which("bash"), "bash is not here")
+    def test_bash(self):
+        """(A name with $ or ` bash would put into the line as a command.)"""
+        for begin, want in ("/pl", ["/place", "/plage", "/plain/", "/plans/"]), ("/plans/my\\ ", ["/plans/my notes/"]):
+            words = " ".join(f"'{it}'" for it in [*self.line, "ls", begin])
+            line = f". {CLIENT}/room.bash; COMP_WORDS=({words}); COMP_CWORD={len(self.line) + 1}; _room; " \
+                   "printf '%s\\n' \"${COMPREPLY[@]}\""
+            self.assertEqual(self.completes("bash", "-c", line), (want, ""))
+
+    @unittest.skipUnless(shutil.which("fish"), "fish is not here")
+    def test_fish(self):
+        os.symlink(COMMAND, self.path("room"))
+        path = self.folder + os.pathsep + os.environ["PATH"]
+        line = " ".join(["room", *self.line[1:], "ls", "/pla"])
+        found = self.completes("fish", "-N", "-c", f"source {CLIENT}/room.fish; complete -C '{line}'", PATH=path)
+        self.assertEqual(found[0], ["/place", "/plage", "/plain/", "/plans/"], found[1])
