@@ -1,17 +1,20 @@
 /** The view of an access list: what it says in words, and changing it. */
-import { NOBODY_KNOWS } from "./actions.js";
 import { Refusal } from "./codes.js";
 import { ask } from "./dialogs.js";
-import { button, checkbox, link, make } from "./dom.js";
+import { button, checkbox, faultLine, link, make } from "./dom.js";
 import { entryEditor } from "./editor.js";
 import { head } from "./heads.js";
-import { asOwn, follows, isForNobody, isInherited, newEntry, sentence, whomFault, whomOf,
+import { MOST_ENTRIES, asOwn, follows, isDeny, isForNobody, isInherited, newEntry, sentence, whomFault, whomOf,
   withFollows } from "./lists.js";
 import { shown } from "./names.js";
+import { tellFault } from "./notices.js";
 import { ROOT, addressOf, folderOf } from "./places.js";
+import { helpThem, shutOut } from "./reach.js";
 import { FOLDER } from "./rights.js";
+import { SharePanel } from "./share.js";
 import { standing } from "./stand.js";
 import { standingAt } from "./trees.js";
+import { t } from "./words.js";
 
 /** The names that may be meant in an entry: of the roster, and of the list itself. */
 function knownNames(roster, entries) {
@@ -20,9 +23,10 @@ function knownNames(roster, entries) {
   return make("datalist", { id: "known-names" }, ...[...names].sort().map((value) => make("option", { value })));
 }
 
+let isDetailed = false; // whether the editor is open, from one list to the next
+
 const ownOf = (list) => list.entries.filter((it) => !isInherited(it));
 
-/** The entries as sentences. */
 const sentences = (entries, standing, how) =>
   make("ol", how, ...entries.map((it) => make("li", {}, sentence(it, standing.kind, standing))));
 
@@ -46,28 +50,27 @@ class ListView {
     return follows(this.aclflag) ? this.list.entries.filter(isInherited) : [];
   }
 
-  /** Draws the list anew, where entries come, go or move. */
   draw() {
     const own = this.own.map((it, at) => this.entry(it, at));
     const rest = this.inherited;
     const handed = make("section", { hidden: rest.length === 0 },
-      make("h2", {}, "Handed down from the folder above"),
-      make("p", {}, "These stand behind its own entries, and are changed ",
-        link(addressOf({ ...this.place, path: folderOf(this.place.path) }), "in that folder"), "."),
+      make("h2", {}, t.handedTitle),
+      make("p", {}, `${t.handedBehind} `,
+        link(addressOf({ ...this.place, path: folderOf(this.place.path) }), t.inThatFolder), "."),
       sentences(rest, this.standing, { className: "entries handed", start: own.length + 1 }));
-    this.element.replaceChildren(this.taking(), make("h2", {}, "Its own entries"),
-      own.length ? make("ol", { className: "entries" }, ...own) : make("p", {}, "It has none of its own."),
-      make("p", { className: "tools" }, button("Add an entry", () => this.add())), handed,
-      make("p", { className: "actions" }, button("Save the list", () => this.save(), { className: "main" }),
-        button("Leave it as it was", () => this.leave())));
+    this.element.replaceChildren(this.taking(), make("h2", {}, t.ownEntries),
+      own.length ? make("ol", { className: "entries" }, ...own) : make("p", {}, t.noneOwn),
+      make("p", { className: "tools" }, button(t.addEntry, () => this.add())), handed,
+      make("p", { className: "actions" }, button(t.saveList, () => this.save(), { className: "main" }),
+        button(t.leaveList, () => this.leave())));
   }
 
   taking() {
-    if (this.place.path === ROOT) return make("p", {}, "This is the top folder: nothing is handed down to it.");
+    if (this.place.path === ROOT) return make("p", {}, t.topList);
     const its = follows(this.aclflag);
     return make("div", {},
-      checkbox("It takes over what the folder above hands down", its, (it) => this.take(it)),
-      make("p", { className: "about" }, its ? WITHOUT : this.copied.length ? TAKEN : ALONE));
+      checkbox(t.takesOver, its, (it) => this.take(it)),
+      make("p", { className: "about" }, its ? t.without : this.copied.length ? t.taken : t.alone));
   }
 
   /** Without the folder's entries, copies of them become its own: what counted goes on counting until it is changed.
@@ -81,7 +84,8 @@ class ListView {
   }
 
   entry(it, at) {
-    const does = { Up: () => this.move(at, at - 1), Down: () => this.move(at, at + 1), Remove: () => this.drop(at) };
+    const does = { [t.up]: () => this.move(at, at - 1), [t.down]: () => this.move(at, at + 1),
+      [t.remove]: () => this.drop(at) };
     return entryEditor(it, { kind: this.standing.kind, standing: this.standing, names: "known-names",
       roster: this.roster, isOpen: this.opened === at, does, changed: (now) => {
         this.own[at] = now;
@@ -111,18 +115,39 @@ class ListView {
   }
 
   /** Sets it, where nobody set another meanwhile; what was changed here stays until it is set. */
-  async save() {
-    const about = `The list of ${shown(this.place.path)}`;
-    if (this.own.some(isForNobody)) return void this.app.attempt(about, () => needWhom());
+  async save(news = this.news()) {
+    const about = t.listOf(shown(this.place.path));
+    const count = this.own.length;
+    const fault = this.own.some(isForNobody) ? t.needWhom : count > MOST_ENTRIES ? t.listFull(count, MOST_ENTRIES) : "";
+    if (fault) return tellFault(t.about(about, fault));
     const unknown = this.own.map((it) => whomFault(it, this.roster)).filter((it) => it !== "");
     if (unknown.length && !await askAbout(unknown)) return;
-    let now = null;
-    const isDone = await this.app.attempt(about, async () => {
-      now = await this.app.room.run("GETLIST", this.place.path);
-      if (isSame(now, this.list)) await this.set();
+    const now = await this.app.attempt(about, async () => {
+      const its = await this.app.room.run("GETLIST", this.place.path);
+      if (isSame(its, this.list)) await this.set();
+      return its;
     });
-    if (!isDone) return;
-    if (isSame(now, this.list) || await this.settle(now)) await this.app.done("The list is set.");
+    if (now === null) return;
+    if (isSame(now, this.list) || await this.settle(now)) await this.end(news);
+  }
+
+  /** It is set. Whom it names anew is helped, where they cannot get there. */
+  async end(news) {
+    const object = { path: this.place.path, kind: this.standing.kind };
+    const found = await this.app.attempt(t.listOf(shown(object.path)), () => shutOut(this.app, object, news));
+    const told = found ? await helpThem(this.app, object, news, found) : "";
+    await this.app.done(`${t.listSet} ${told}`.trim());
+  }
+
+  /** What lets somebody do more than the list that was shown. */
+  news() {
+    const before = new Set(ownOf(this.list).map((it) => JSON.stringify(it)));
+    return this.own.filter((it) => !isDeny(it) && !before.has(JSON.stringify(it)));
+  }
+
+  setTo(own, news) {
+    this.own = own;
+    return this.save(news);
   }
 
   /** What was changed here is lost, as the user wants. */
@@ -138,46 +163,36 @@ class ListView {
 
   /** Somebody changed the list meanwhile: both are shown. True where this one was set. */
   async settle(now) {
-    const parts = [["Theirs", ownOf(now)], ["Yours", this.own]].flatMap(([title, entries]) =>
+    const parts = [[t.theirs, ownOf(now)], [t.yours, this.own]].flatMap(([title, entries]) =>
       [make("h3", {}, title), sentences(entries, this.standing, { className: "entries" })]);
-    const chosen = await ask({ title: "Somebody changed this list meanwhile", task: () => this.set(),
-      words: [make("p", {}, NOBODY_KNOWS), ...parts], does: "Set yours in its place",
-      others: [{ words: "Take theirs", value: "theirs" }] });
+    const chosen = await ask({ title: t.listChanged, task: () => this.set(),
+      words: [make("p", {}, t.nobodyKnows), ...parts], does: t.setYours,
+      others: [{ words: t.takeTheirs, value: "theirs" }] });
     if (chosen === "theirs") await this.app.show(standing());
     return chosen === true;
   }
 }
 
-/** Beside the tick: what comes of taking it away, and what came. */
-const WITHOUT = "Without the tick, what is handed down now stays, as entries of its own: remove what shall not count " +
-  "any more. What the folder above hands down later does not come.";
-const TAKEN = "What was handed down stands among its own entries now: remove there what shall not count any more.";
-const ALONE = "What the folder above hands down does not count here. With the tick it stands behind its own entries, " +
-  "which stay.";
-
-function needWhom() {
-  throw new Error("An entry is for nobody yet. Choose for whom it counts, or remove it.");
-}
-
 const isSame = (one, other) => JSON.stringify(one) === JSON.stringify(other);
 
-const askAbout = (faults) => ask({ title: "Set it all the same?", does: "Set it all the same",
-  words: faults.map((it) => make("p", {}, `${it} The entry counts for nobody until the roster has that name.`)) });
+const askAbout = (faults) => ask({ title: t.setAllTheSameTitle, does: t.setAllTheSame,
+  words: faults.map((it) => make("p", {}, t.countsForNobody(it))) });
 
-function words({ kind, owner, group }) {
-  const thing = kind === FOLDER ? "folder" : "document";
-  const whose = owner ? `Its owner is ${owner}, its group ${group}. ` : "";
-  return make("p", {}, `${whose}For each right, the first entry that names it and the person decides; what no entry ` +
-    `decides is denied. To get at this ${thing} one must also pass through each folder above it.`);
-}
+const words = ({ kind, owner, group }) => make("p", {}, t.aboutList(kind === FOLDER, owner, group));
 
 export async function showAccess(app, place) {
   const its = await standingAt(app.room, place.path);
   const list = await app.room.run("GETLIST", place.path).catch((fault) => fault);
-  if (list instanceof Refusal) return [...head(place), make("p", { className: "fault" }, list.message)];
+  if (list instanceof Refusal) return [...head(place), faultLine(list.message)];
   if (list instanceof Error) throw list;
   const roster = await app.room.users();
   const view = new ListView(app, place, its, list, roster);
   view.draw();
-  return [...head(place), words(its), view.element, knownNames(roster, list.entries)];
+  const panel = new SharePanel(its, view.own, roster, (own, news) => view.setTo(own, news));
+  const how = { className: "exceptions", open: isDetailed };
+  const more = make("details", how, make("summary", {}, t.details), words(its), view.element);
+  more.ontoggle = () => {
+    isDetailed = more.open;
+  };
+  return [...head(place), panel.element, more, knownNames(roster, list.entries)];
 }

@@ -1,4 +1,5 @@
 /** Tells that requests wait for their answers, and how often they were sent. */
+import { t } from "./words.js";
 
 const SHORTEST = 250; // milliseconds
 const LONGEST = 5_000;
@@ -7,7 +8,7 @@ const waiting = new Set();
 /** The user has given up: whether the request acted is not known. */
 export class GaveUp extends Error {
   constructor() {
-    super("Given up. Whether it was done is not known: look before you do it again.");
+    super(t.gaveUp);
   }
 }
 
@@ -16,26 +17,25 @@ const section = part("busy");
 const words = part("busy-text");
 
 function tell() {
-  const told = [...waiting].filter((it) => it.times >= 2).sort((a, b) => b.times - a.times)[0];
+  const told = [...waiting].filter((it) => it.times >= 2 || it.isShut).sort((a, b) => b.times - a.times)[0];
   section.hidden = !told;
   if (!told) return;
-  const which = waiting.size > 1 ? `${waiting.size} requests are kept, and` : "The request is kept, and";
-  words.textContent = `${told.why} ${which} sent again until ${waiting.size > 1 ? "they are" : "it is"} ` +
-    `answered. Tried ${told.times} times so far.`;
+  words.textContent = t.waits(told.why, waiting.size, told.times);
 }
 
-/** What a request waits by: longer each time, or until a button is pressed. */
+/** What a request waits by: longer each time, or until a button is pressed, or where a login is asked for until
+ * somebody comes back from another tab. */
 class Waiting {
   times = 0;
 
-  wait(why, times) {
-    Object.assign(this, { why, times });
+  wait(why, times, isShut) {
+    Object.assign(this, { why, times, isShut });
     waiting.add(this);
     tell();
     return new Promise((goOn, stop) => {
       this.goOn = goOn;
       this.stop = () => stop(new GaveUp());
-      this.timer = setTimeout(goOn, Math.min(SHORTEST * 2 ** (times - 1), LONGEST));
+      if (!isShut) this.timer = setTimeout(goOn, Math.min(SHORTEST * 2 ** (times - 1), LONGEST));
     });
   }
 
@@ -56,4 +56,5 @@ export function standIn(element) {
 }
 
 part("busy-now").onclick = () => waiting.forEach((it) => it.goOn());
+addEventListener("focus", () => waiting.forEach((it) => it.isShut && it.goOn()));
 part("busy-stop").onclick = () => waiting.forEach((it) => it.stop());

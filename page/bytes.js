@@ -19,9 +19,7 @@ export function fromBase64(text) {
   return Uint8Array.from(atob(text), (it) => it.charCodeAt(0));
 }
 
-export function fromText(text) {
-  return new TextEncoder().encode(text);
-}
+export const fromText = (text) => new TextEncoder().encode(text);
 
 /** The text that the bytes are, or null where they are none that can be shown; with `isStart` they may end in
  * the middle of a letter. */
@@ -34,7 +32,6 @@ export function toText(bytes, isStart = false) {
   }
 }
 
-/** Gives it to the user's disk. */
 export function save(blob, name) {
   const address = URL.createObjectURL(blob);
   const link = Object.assign(document.createElement("a"), { href: address, download: forDisk(name) });

@@ -1,18 +1,17 @@
 /** Dialogs: they stay until what they ask for is done, and ask before something typed is lost. */
 import { standIn } from "./busy.js";
 import { button, labelled, make } from "./dom.js";
+import { clean, shown } from "./names.js";
+import { isTooLong, nameFault, shortened } from "./places.js";
 import { watch } from "./unsaved.js";
+import { t } from "./words.js";
 
 const SLOW = 500; // milliseconds after which it is said that something is under way
 const open = new Set();
 
-/** The question before what was typed is lost. */
-export const UNSAVED = { told: "What you typed is not saved.", keep: "Go on typing", lose: "Discard it" };
-
 /** Closes all of them: the page goes elsewhere. */
 export const closeAll = () => open.forEach((it) => it.end(null));
 
-/** Waits until none is open. */
 export async function untilClosed() {
   while (open.size > 0) await Promise.race([...open].map((it) => it.closed));
 }
@@ -24,20 +23,22 @@ function valueOf(field) {
 }
 
 class Dialog {
-  /** See `ask`. */
   constructor({ title, words = [], fields = {}, does, faultOf = () => "", task = () => {}, others = [], first,
-    stays = "Cancel" }) {
+    stays = t.cancel, isFinal = false }) {
     Object.assign(this, { faultOf, task, first, fields: Object.values(fields).map((it) => it.field), isAtWork: false });
+    if (isFinal) this.first = stays;
     this.fault = make("p", { className: "fault", role: "alert" });
-    this.leaving = make("p", { className: "fault", role: "alert", hidden: true }, UNSAVED.told, " ",
-      button(UNSAVED.keep, () => this.stay()), " ", button(UNSAVED.lose, () => this.end(null)));
+    this.leaving = make("p", { className: "fault", role: "alert", hidden: true }, t.unsaved, " ",
+      button(t.typeOn, () => this.stay()), " ", button(t.discard, () => this.end(null)));
     this.atWork = make("p", { role: "status" });
+    const leave = button(stays, () => this.leave());
     this.form = make("form", { method: "dialog" }, make("h2", {}, title), ...[words].flat(),
       ...Object.values(fields).map(({ label, field }) => labelled(label, field)), this.fault,
       ...(this.fields.length ? [this.leaving] : []), this.atWork,
-      make("p", { className: "actions" }, make("button", { className: "main" }, does),
+      make("p", { className: "actions" }, ...(isFinal ? [leave] : []),
+        make("button", { className: isFinal ? "" : "main" }, does),
         ...others.map((it) => button(it.words, () => this.run(it.task ?? (() => {}), it.value))),
-        button(stays, () => this.leave())));
+        ...(isFinal ? [] : [leave])));
     this.element = make("dialog", { "aria-label": title, closedby: "none" }, this.form);
     this.form.onsubmit = (event) => this.submit(event);
     this.element.onkeydown = (event) => this.key(event);
@@ -50,10 +51,12 @@ class Dialog {
   }
 
   key(event) {
-    if (event.key !== "Escape") return;
+    const isSave = (event.ctrlKey || event.metaKey) && ["s", "Enter"].includes(event.key);
+    if (event.key !== "Escape" && !isSave) return;
     event.preventDefault();
     event.stopPropagation();
-    this.leave();
+    if (isSave) this.form.requestSubmit();
+    else this.leave();
   }
 
   submit(event) {
@@ -66,11 +69,12 @@ class Dialog {
   async run(task, value) {
     if (this.isAtWork) return;
     this.isAtWork = true;
-    this.form.inert = true;
+    const focused = document.activeElement;
+    this.form.inert = true; // (which takes the focus away, and with it the keys)
     this.fault.textContent = "";
     const back = standIn(this.element);
     const slow = setTimeout(() => {
-      this.atWork.textContent = "Under way …";
+      this.atWork.textContent = t.working;
     }, SLOW);
     try {
       await task();
@@ -83,6 +87,7 @@ class Dialog {
       back();
       this.form.inert = false;
       this.isAtWork = false;
+      if (open.has(this)) focused.focus();
     }
   }
 
@@ -130,4 +135,26 @@ export const ask = (how) => new Dialog(how).show();
 
 export const input = (value = "", how = {}) =>
   make("input", { value, autocomplete: "off", spellcheck: false, ...how });
+
+/** A field for a name, of which all but the ending is marked at first. Instead of one that is too long a shorter one is
+ * offered as it is typed. */
+export function nameInput(value = "", how = {}) {
+  const [field, hint] = [input(value, how), make("p", { role: "status", className: "about" })];
+  const dot = value.lastIndexOf(".");
+  field.addEventListener("focus", () => field.setSelectionRange(0, dot > 0 ? dot : value.length), { once: true });
+  field.oninput = () => {
+    const name = clean(field.value);
+    const isLong = isTooLong(name) && !name.startsWith("/");
+    const take = () => {
+      field.value = shortened(name);
+      hint.replaceChildren();
+      field.focus();
+    };
+    hint.replaceChildren(...isLong ? [nameFault(name), " ", button(t.shorten(shown(shortened(name))), take,
+      { className: "small" })] : []);
+    field.parentNode.after(hint);
+  };
+  return field;
+}
+
 export const area = (value = "", rows = 16) => make("textarea", { value, rows });

@@ -12,8 +12,11 @@ export function make(tag, how = {}, ...children) {
   return it;
 }
 
-export const button = (words, onclick, how = {}) => make("button", { type: "button", onclick, ...how }, words);
+export const button = (words, onclick, how = {}) =>
+  make("button", { type: "button", onclick, ...how }, ...[words].flat());
 export const link = (href, ...words) => make("a", { href }, ...words);
+
+export const faultLine = (...words) => make("p", { className: "fault" }, ...words);
 
 /** A name of the room, kept apart from the direction in which the text around it is written, with marks in the place of
  * what could not be seen. */
@@ -26,7 +29,6 @@ export function nameText(name) {
 
 let ids = 0;
 
-/** A field with its label in front of it. */
 export function labelled(words, field) {
   ids += 1;
   field.id ||= `field-${ids}`;

@@ -3,6 +3,7 @@ import { button, checkbox, make, select } from "./dom.js";
 import { input } from "./dialogs.js";
 import { REACH, WHOM, carried, isDeny, sentence, whomFault, whomOf, withWhom } from "./lists.js";
 import { FOLDER, LARGE, RIGHTS, SETS, bothWords, setOf } from "./rights.js";
+import { t } from "./words.js";
 
 const CHOSEN = "chosen";
 
@@ -20,19 +21,19 @@ class Fields {
   }
 
   verb() {
-    const choices = [{ value: "0", word: "Allow" }, { value: "1", word: "Deny" }];
+    const choices = [{ value: "0", word: t.allow }, { value: "1", word: t.deny }];
     return select(choices, isDeny(this.entry) ? "1" : "0", (it) => this.set({ ...this.entry, type: Number(it) }),
-      { "aria-label": "Allow or deny" });
+      { "aria-label": t.allowOrDeny });
   }
 
   whom() {
     const now = whomOf(this.entry);
-    const name = input(now.name, { "aria-label": "Name", list: this.names, hidden: now.name === "" });
+    const name = input(now.name, { "aria-label": t.nameLabel, list: this.names, hidden: now.name === "" });
     const choices = WHOM.filter(({ id }) => id !== "" || now.id === "").map(({ id, word }) => ({ value: id, word }));
     const whom = select(choices, now.id, (id) => {
       name.hidden = !WHOM.find((it) => it.id === id).isNamed;
       this.set(withWhom(this.entry, { id, name: name.value }));
-    }, { "aria-label": "Whom" });
+    }, { "aria-label": t.whomLabel });
     name.oninput = () => this.set(withWhom(this.entry, { id: whom.value, name: name.value.trim() }));
     return [whom, name];
   }
@@ -40,15 +41,15 @@ class Fields {
   rights() {
     this.boxes = RIGHTS.map((it) => this.right(it));
     const choices = [...SETS.map(({ mask, does }) => ({ value: String(mask), word: does })),
-      { value: CHOSEN, word: "do what is chosen below" }];
+      { value: CHOSEN, word: t.chosenBelow }];
     this.sets = select(choices, this.setNow(), (it) => {
       if (it === CHOSEN) return;
       this.set({ ...this.entry, mask: Number(it) });
       this.showRights();
-    }, { "aria-label": "Rights" });
+    }, { "aria-label": t.rightsLabel });
     const some = (isAsked) => this.boxes.filter((_, at) => RIGHTS[at].isAsked === isAsked);
-    return [make("fieldset", {}, make("legend", {}, "Rights"), ...some(true),
-      make("details", {}, make("summary", {}, "Rights that no command asks for"), ...some(false)))];
+    return [make("fieldset", {}, make("legend", {}, t.rightsLabel), ...some(true),
+      make("details", {}, make("summary", {}, t.unaskedRights), ...some(false)))];
   }
 
   setNow() {
@@ -73,12 +74,12 @@ class Fields {
     const boxes = REACH.map(({ flag, word, isTurned }) =>
       checkbox(word, ((this.entry.flag & flag) !== 0) !== Boolean(isTurned),
         () => this.set({ ...this.entry, flag: this.entry.flag ^ flag })));
-    return [make("fieldset", {}, make("legend", {}, "Counts for"), ...boxes)];
+    return [make("fieldset", {}, make("legend", {}, t.countsFor), ...boxes)];
   }
 
   all() {
     const rights = this.rights();
-    return [make("p", { className: "row" }, this.verb(), ...this.whom(), "to", this.sets), this.fault, ...rights,
+    return [make("p", { className: "row" }, this.verb(), ...this.whom(), t.to, this.sets), this.fault, ...rights,
       ...this.reach()];
   }
 }

@@ -1,52 +1,21 @@
 /** Files of up to 16 MiB: a small one is a document, a large one a folder with pieces (docs/FILES.md). */
 import { MOST_BYTES, fromBase64, toBase64 } from "./bytes.js";
-import { Refusal } from "./codes.js";
-import { carried, follows, isInherited } from "./lists.js";
+import { clear, clearBeside, fileAt } from "./clearing.js";
+import { EXIST, ISDIR, NOENT, NOTDIR, NOTEMPTY, Refusal, isRefused, orElse } from "./codes.js";
+import { carried, forDocument, ownList } from "./lists.js";
 import * as form from "./manifest.js";
 import { shown } from "./names.js";
 import { folderOf, inFolder, lastName, namesOf } from "./places.js";
-import { FILE, FOLDER } from "./rights.js";
+import { FILE } from "./rights.js";
+import { forEach } from "./room.js";
+import { t } from "./words.js";
 
-export const NOENT = 1;
-export const NOTDIR = 2;
-const ISDIR = 3;
-export const EXIST = 4;
-export const ACCESS = 5;
-const NOTEMPTY = 6;
 const TRIES = 5; // of a reader that meets one new version after another
-
-export const isRefused = (fault, ...codes) => fault instanceof Refusal && codes.includes(fault.code);
-
-/** What the task gives, or `instead` where it is refused with one of these codes. */
-export async function orElse(task, instead, ...codes) {
-  try {
-    return await task;
-  } catch (fault) {
-    if (isRefused(fault, ...codes)) return instead;
-    throw fault;
-  }
-}
-
-/** Does the task for each, some beside each other. The first fault ends it, once those under way have ended. */
-export async function forEach(items, task, width = 6) {
-  const left = items.values();
-  let fault = null;
-  async function go() {
-    for (const it of left) {
-      if (fault) return;
-      await task(it).catch((its) => {
-        fault ??= its;
-      });
-    }
-  }
-  await Promise.all(Array.from({ length: width }, go));
-  if (fault) throw fault;
-}
 
 /** For who waits for no end and shows none. */
 export const NOBODY = { add() {}, check() {}, note() {}, fail() {}, overtaken: () => null };
 
-export const bytesAt = async (room, path, more) => fromBase64((await room.aside("READ", path, more)).data);
+const bytesAt = async (room, path, more) => fromBase64((await room.aside("READ", path, more)).data);
 
 /** The bytes of the manifest in that folder, or null where there is none. */
 const manifestBytes = (room, path) => orElse(bytesAt(room, inFolder(path, form.NAME)), null, NOENT, ISDIR, NOTDIR);
@@ -73,9 +42,9 @@ async function readLarge(room, path, transfer) {
     if (bytes) return bytes;
     const before = text;
     text = await manifestBytes(room, path);
-    if (isSame(before, text)) throw new Error(`${shown(path)} is damaged: its pieces are not what its manifest says.`);
+    if (isSame(before, text)) throw new Error(t.damaged(shown(path)));
   }
-  throw new Error(`${shown(path)} is no whole file now. Look again.`);
+  throw new Error(t.notWhole(shown(path)));
 }
 
 /** Null where it is not whole. */
@@ -94,15 +63,14 @@ async function wholeOf(room, path, its, transfer) {
     if (isRefused(fault, NOENT, ISDIR, NOTDIR) || fault instanceof RangeError) return null;
     throw fault;
   }
-  const size = ends.reduce((sum, it) => sum + it, 0);
-  return size === its.size && await form.sumOf(bytes) === its.sha256 ? bytes : null;
+  return ends.reduce((sum, it) => sum + it, 0) === its.size && await form.sumOf(bytes) === its.sha256 ? bytes : null;
 }
 
 /** Makes the file, or a new version of it; with `isNew` only where nothing is there. Where it is then: a version that
  * another one overtook may be kept as a copy. */
 export async function writeFile(room, path, bytes, transfer = NOBODY, isNew = false) {
   const fault = form.sizeFault(bytes.length);
-  if (fault) throw new Error(`${shown(lastName(path))} ${fault}. It was not sent.`);
+  if (fault) throw new Error(t.notSent(shown(lastName(path)), fault));
   if (bytes.length > MOST_BYTES) return new Upload(room, path, bytes, transfer).run(isNew);
   const data = toBase64(bytes);
   const small = () => room.aside("CREATE", path, { data });
@@ -113,18 +81,30 @@ export async function writeFile(room, path, bytes, transfer = NOBODY, isNew = fa
   return path;
 }
 
-/** One new version of a file that is a folder, or becomes one. */
+/** Makes a file that is a copy of another one, or of a version of it, and has its list before it has its bytes. */
+export async function writeCopy(room, of, path, bytes, transfer = NOBODY) {
+  const list = ownList(await room.aside("GETLIST", of));
+  if (!list) return writeFile(room, path, bytes, transfer, true);
+  if (bytes.length > MOST_BYTES) return new Upload(room, path, bytes, transfer, list).run(true);
+  await room.step("CREATE", path, { data: "" });
+  await room.step("SETLIST", path, { ...list, entries: list.entries.map(forDocument) });
+  await room.step("WRITE", path, { data: toBase64(bytes) });
+  return path;
+}
+
+/** One new version of a file that is a folder, or becomes one. A new one gets the list, where there is one. */
 class Upload {
-  constructor(room, path, bytes, transfer) {
-    Object.assign(this, { room, path, bytes, transfer, names: [], before: null });
+  constructor(room, path, bytes, transfer, list = null) {
+    Object.assign(this, { room, path, bytes, transfer, list, names: [], before: null });
   }
 
   async run(isNew) {
-    if (namesOf(this.path).length > form.DEEPEST) throw new Error("A file of more than 64 KiB lies 14 deep at most.");
+    if (namesOf(this.path).length > form.DEEPEST) throw new Error(t.tooDeep);
     this.its = await form.manifestOf(this.bytes);
     const document = await this.begin(isNew);
     if (document) return new Replacement(this, document).run();
     try {
+      if (this.list) await this.room.step("SETLIST", this.path, this.list);
       await this.putPieces(this.path);
     } catch (fault) {
       if (this.isMade) await orElse(this.room.step("REMOVE", this.path), null, NOENT, NOTEMPTY);
@@ -141,8 +121,7 @@ class Upload {
     if (!ours || ours.owner === owner && ours.group === group) return;
     await give(this.room, levels, { owner, group }).catch((fault) => {
       if (!(fault instanceof Refusal)) throw fault;
-      this.transfer.fail(`What was uploaded of ${shown(lastName(this.path))} stays yours, and ${owner} may lack ` +
-        `rights on it: ${fault.message}`);
+      this.transfer.fail(t.staysYours(shown(lastName(this.path)), owner, fault.message));
     });
   }
 
@@ -150,7 +129,7 @@ class Upload {
     await this.putManifest(this.path, this.before === null);
     if (this.before === null && !this.isMade) await this.share([[inFolder(this.path, form.NAME)]]);
     await this.lookAfter();
-    if (this.clears) this.transfer.note(`What a stopped upload of ${shown(lastName(this.path))} left is cleared.`);
+    if (this.clears) this.transfer.note(t.leftCleared(shown(lastName(this.path))));
     if (this.isMade) await clearBeside(this.room, this.path, this.transfer);
     return this.path;
   }
@@ -165,10 +144,19 @@ class Upload {
     this.before = await manifestBytes(this.room, this.path);
     const isLeft = form.isUnfinished(this.names);
     if (!isLeft && !(this.before && form.readManifest(this.before))) {
-      throw new Error(`A folder has the name ${shown(lastName(this.path))}.`);
+      throw new Error(t.isFolder(shown(lastName(this.path))));
     }
+    if (isLeft) await this.needOwn();
     this.clears = isLeft || this.names.some(([name]) => form.isLeft(name));
     return null;
+  }
+
+  /** That this folder is as the user would have made it. (Anyone who may add could make one under a name that somebody
+   * is about to put, open it to others, and give it away.) */
+  async needOwn() {
+    const isOwn = this.stat.owner === this.room.user;
+    const isOpen = isOwn && ownList(await this.room.aside("GETLIST", this.path));
+    if (!isOwn || isOpen) throw new Error(t.notYourUpload(shown(lastName(this.path)), isOwn ? "" : this.stat.owner));
   }
 
   /** All pieces in a folder of that name, which is there once they are. */
@@ -186,7 +174,7 @@ class Upload {
       await this.room.step("RENAME", inFolder(at, writing), { to: inFolder(at, this.its.folder) });
     } catch (fault) {
       await clear(this.room, at, writing, this.transfer);
-      if (isRefused(fault, NOENT)) throw new Error(`Somebody else's version of ${shown(this.path)} came first.`);
+      if (isRefused(fault, NOENT)) throw new Error(t.otherFirst(shown(this.path)));
       throw fault;
     }
   }
@@ -204,8 +192,8 @@ class Upload {
       return null;
     }
     await clear(this.room, this.path, this.its.folder, this.transfer);
-    if (!chosen) throw new Error(`The other version of ${shown(this.path)} stands.`);
-    return writeFile(this.room, chosen, this.bytes, this.transfer, true);
+    if (!chosen) throw new Error(t.otherStands(shown(this.path)));
+    return writeCopy(this.room, this.path, chosen, this.bytes, this.transfer);
   }
 
   /** The one request that is the new version. */
@@ -224,7 +212,7 @@ class Upload {
     const now = await manifestAt(this.room, this.path);
     if (now?.folder !== this.its.folder) {
       await clear(this.room, this.path, this.its.folder, this.transfer);
-      throw new Error(`Somebody else's version of ${shown(this.path)} came right behind yours, and stands.`);
+      throw new Error(t.otherBehind(shown(this.path)));
     }
     const { names } = await this.room.aside("LIST", this.path);
     // (another writer, who began before, may have taken the pieces for left over)
@@ -232,7 +220,8 @@ class Upload {
     const there = new Set(this.names.map(([name]) => name));
     const old = this.before && form.readManifest(this.before)?.folder;
     for (const [name] of names) {
-      const isOld = name.startsWith(form.PIECES) && name !== this.its.folder && (there.has(name) || name === old);
+      const isOld = name.startsWith(form.PIECES) && name !== this.its.folder &&
+        (there.has(name) || name === old);
       if (isOld || form.isLeft(name)) await clear(this.room, this.path, name, this.transfer);
     }
   }
@@ -256,10 +245,10 @@ class Replacement {
       await this.upload.putPieces(its);
       await this.upload.putManifest(its, true);
       await this.takeOwner(its);
-      if (!isSame(before, await bytesAt(this.room, this.path))) throw new Error("Somebody changed it meanwhile.");
+      if (!isSame(before, await bytesAt(this.room, this.path))) throw new Error(t.changedMeanwhile);
       await this.room.step("RENAME", this.path, { to: gone });
     } catch (fault) {
-      await clear(this.room, above, names.its, this.transfer);
+      await clear(this.room, above, names.its, this.transfer, fileAt);
       throw fault;
     }
     await this.takeName(its, gone);
@@ -268,9 +257,8 @@ class Replacement {
   }
 
   async takeList(its) {
-    const { aclflag, entries } = await this.room.aside("GETLIST", this.path);
-    const own = entries.filter((it) => !isInherited(it) || !follows(aclflag)).map(carried);
-    if (own.length || aclflag !== 1) await this.room.step("SETLIST", its, { aclflag, entries: own });
+    const own = ownList(await this.room.aside("GETLIST", this.path));
+    if (own) await this.room.step("SETLIST", its, { ...own, entries: own.entries.map(carried) });
   }
 
   async takeOwner(its) {
@@ -299,37 +287,4 @@ const piecesAt = (at, { folder, pieces }) => [pieces.map((it) => inFolder(at, fo
  * more. */
 async function give(room, levels, whose) {
   for (const paths of levels) await forEach(paths, (it) => room.step("CHOWN", it, whose));
-}
-
-/** Takes a folder out of a file in one request, and then removes it. What is in the way is told, and left. */
-async function clear(room, at, name, transfer) {
-  const gone = inFolder(at, name.startsWith(form.GONE) ? name : form.otherName(form.GONE));
-  try {
-    if (!name.startsWith(form.GONE)) await room.step("RENAME", inFolder(at, name), { to: gone });
-    await removeAll(room, gone);
-  } catch (fault) {
-    const what = `Something is left of the upload to ${shown(at)}`;
-    if (!isRefused(fault, NOENT, NOTDIR)) transfer.fail(`${what}: ${fault.message}`);
-  }
-}
-
-/** What the replacement of a document left beside it, where it was stopped. */
-async function clearBeside(room, path, transfer) {
-  const { gone, its } = await form.beside(lastName(path));
-  const reply = await room.asideIfAllowed("LIST", folderOf(path));
-  for (const [name] of reply?.names ?? []) {
-    if (name === gone || name === its) await clear(room, folderOf(path), name, transfer);
-  }
-}
-
-/** Removes an object with all that is in it, for good: the manifest of a large file first. */
-export async function removeAll(room, path, transfer = NOBODY) {
-  transfer.check();
-  const { names } = await orElse(room.aside("LIST", path), { names: [] }, NOTDIR);
-  const remove = (it) => orElse(room.step("REMOVE", it), null, NOENT);
-  if (names.some(([name]) => name === form.NAME)) await remove(inFolder(path, form.NAME));
-  const documents = names.filter(([name, kind]) => kind !== FOLDER && name !== form.NAME);
-  await forEach(documents, ([name]) => remove(inFolder(path, name)));
-  for (const [name, kind] of names) if (kind === FOLDER) await removeAll(room, inFolder(path, name), transfer);
-  await remove(path);
 }

@@ -5,8 +5,8 @@ import { head } from "./heads.js";
 import { inOrder, shown } from "./names.js";
 import { addressOf, lastName } from "./places.js";
 import { FOLDER } from "./rights.js";
-import { plural } from "./transfers.js";
 import { matches, walk } from "./trees.js";
+import { t } from "./words.js";
 
 const MOST = 500; // names that are shown
 const kept = new Map(); // each place's view, so that who comes back finds it
@@ -17,9 +17,9 @@ class Search {
     this.field = make("input", { type: "search", autocomplete: "off", spellcheck: false, className: "first" });
     this.told = make("p", { role: "status" }, "");
     this.list = make("ul", { className: "found" });
-    const form = make("form", {}, labelled(`Letters of a name below ${shown(place.path)}`, this.field),
-      make("p", { className: "tools" }, make("button", { className: "main" }, "Search"),
-        button("Stop", () => this.stop())));
+    const form = make("form", {}, labelled(t.lettersBelow(shown(place.path)), this.field),
+      make("p", { className: "tools" }, make("button", { className: "main" }, t.search),
+        button(t.stop, () => this.stop())));
     form.onsubmit = (event) => {
       event.preventDefault();
       this.run();
@@ -29,21 +29,21 @@ class Search {
 
   stop() {
     this.turn += 1;
-    this.told.textContent = "Stopped.";
+    this.told.textContent = t.stopped;
   }
 
   async run() {
     const turn = this.turn += 1;
-    const counts = { looked: 0, found: 0, shut: 0 };
+    const counts = { looked: 0, found: 0, shut: 0, done: 0, known: 1 };
     const transfer = { ...NOBODY, check: () => {
-      if (turn !== this.turn) throw new Error("Stopped.");
-    } };
+      if (turn !== this.turn) throw new Error(t.stopped);
+    }, walked: (done, known) => Object.assign(counts, { done, known }) };
     this.list.replaceChildren();
     try {
       await walk(this.app.room, this.place.path, (it) => this.meet(it, counts, turn), transfer);
       if (turn !== this.turn) return;
       this.list.append(...[...this.list.children].sort((a, b) => inOrder(a.textContent, b.textContent)));
-      this.tell(counts, "That is all.");
+      this.tell(counts, t.thatIsAll);
     } catch (fault) {
       this.told.textContent = fault.message;
     }
@@ -54,13 +54,12 @@ class Search {
     counts.looked += 1;
     counts.shut += it.isShut ? 1 : 0;
     if (matches(lastName(it.path), this.field.value) && (counts.found += 1) <= MOST) this.list.append(this.row(it));
-    this.tell(counts, "Looking …");
+    this.tell(counts, t.looking(counts.done, counts.known));
   }
 
   tell({ looked, found, shut }, end) {
-    const more = found > MOST ? ` The first ${MOST} are shown.` : "";
-    const hidden = shut ? ` You may not look into ${plural(shut, "folder")}.` : "";
-    this.told.textContent = `${found} found among ${plural(looked, "name")}.${more}${hidden} ${end}`;
+    const more = found > MOST ? ` ${t.firstShown(MOST)}` : "";
+    this.told.textContent = `${t.found(found, looked, shut)}${more} ${end}`;
   }
 
   row({ path, kind }) {
@@ -69,8 +68,18 @@ class Search {
   }
 }
 
-export async function showFind(app, place) {
+function searchAt(app, place) {
   const key = addressOf(place);
   if (!kept.has(key)) kept.set(key, new Search(app, place));
-  return [...head(place), kept.get(key).element];
+  return kept.get(key);
 }
+
+export function searchFor(app, word) {
+  const place = { ...app.place, view: "find" };
+  const its = searchAt(app, place);
+  its.field.value = word;
+  its.run();
+  location.hash = addressOf(place);
+}
+
+export const showFind = async (app, place) => [...head(place), searchAt(app, place).element];

@@ -1,16 +1,25 @@
-/** What stands above each view: the way to it, its name, and the other views of the same object. */
+/** What stands above each view: the way to it, its name with its menu, and the other views of the same object. */
 import { link, make, nameText } from "./dom.js";
+import { takeRows } from "./drag.js";
+import { menuButton } from "./menu.js";
+import { shown } from "./names.js";
+import { tellFault } from "./notices.js";
 import { ROOT, addressOf, foldersAbove } from "./places.js";
 import { nameAt } from "./trash.js";
+import { t } from "./words.js";
 
-const VIEWS = [["open", "Contents"], ["access", "Access list"], ["who", "Who may do what"]];
+const VIEWS = [["open", t.contents], ["access", t.share], ["who", t.whoMay]];
 
 const nameOf = (place, path) => (path === ROOT ? place.room : nameAt(path));
 
-function way(place) {
-  const folders = foldersAbove(place.path).map((path) =>
-    make("li", {}, link(addressOf({ room: place.room, path }), nameText(nameOf(place, path)))));
-  return make("nav", { "aria-label": "Folders above" }, make("ol", { className: "way" }, ...folders));
+function way(place, app) {
+  const folders = foldersAbove(place.path).map((path) => {
+    const it = make("li", {}, link(addressOf({ room: place.room, path }), nameText(nameOf(place, path))));
+    if (app) takeRows(it, app, path);
+    return it;
+  });
+  const list = make("ol", { className: "way" }, ...folders);
+  return make("nav", { className: "above", "aria-label": t.foldersAbove }, list);
 }
 
 function views(place) {
@@ -19,10 +28,14 @@ function views(place) {
     if (view === place.view) it.setAttribute("aria-current", "page");
     return it;
   });
-  return make("nav", { className: "views", "aria-label": "Views" }, ...links);
+  return make("nav", { className: "views", "aria-label": t.views }, ...links);
 }
 
-export function head(place, title = nameOf(place, place.path)) {
-  const its = make("h1", { tabIndex: -1 }, nameText(title));
-  return [...(place.path === ROOT ? [] : [way(place)]), its, views(place)];
+/** With a `menu` what concerns the object is a menu of its name; else its views stand below. */
+export function head(place, { title = nameOf(place, place.path), menu, app } = {}) {
+  const name = menu ? menuButton([nameText(title)], { className: "title" }, menu, { label: shown(title), fails:
+    (fault) => tellFault(fault.message) }) : nameText(title);
+  const its = make("h1", menu ? {} : { tabIndex: -1 }, name);
+  const line = make("div", { className: "head" }, ...(place.path === ROOT ? [] : [way(place, app)]), its);
+  return menu ? [line] : [line, views(place)];
 }

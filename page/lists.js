@@ -1,13 +1,15 @@
 /** Entries of a list in words, and back. docs/LISTS.md has the rules; whether an entry is lawful the room says. */
 import { FILE, FOLDER, LARGE, OF_OWNERS, RIGHTS, SETS, bothWords, rightsIn, setOf } from "./rights.js";
+import { t } from "./words.js";
 
+export const MOST_ENTRIES = 32; // of an object's own
 const DENY = 1;
 const GROUP_FLAG = 0x40;
 const MARK = 0x80;
 export const TO_FILES = 0x1;
 export const TO_FOLDERS = 0x2;
 const CHILDREN_ALONE = 0x4;
-const NOT_HERE = 0x8;
+export const NOT_HERE = 0x8;
 const AUTO_INHERIT = 1;
 const PROTECTED = 2;
 
@@ -16,30 +18,20 @@ export const isForNobody = (entry) => entry.who === "";
 
 /** Why an entry would count for nobody by the roster, `{"ann":["eng"]}`, or nothing. */
 export function whomFault(entry, roster) {
-  if (isForNobody(entry)) return "Choose for whom it counts.";
+  if (isForNobody(entry)) return t.noWhom;
   const { id, name } = whomOf(entry);
   if (!roster || !WHOM.find((it) => it.id === id).isNamed) return "";
   const known = id === "user" ? Object.keys(roster) : Object.values(roster).flat();
-  return known.includes(name) ? "" : `${name} is no ${id} of this room's roster.`;
+  return known.includes(name) ? "" : t.notInRoster(name, id);
 }
 
 /** Whom an entry can name: the word of the choice, and whether a name stands behind it. */
-export const WHOM = [
-  { id: "", word: "nobody yet" },
-  { id: "EVERYONE@", word: "everyone" },
-  { id: "OWNER@", word: "its owner" },
-  { id: "GROUP@", word: "its group" },
-  { id: "user", word: "the user", isNamed: true },
-  { id: "group", word: "the group", isNamed: true },
-];
+export const WHOM = ["", "EVERYONE@", "OWNER@", "GROUP@", "user", "group"].map((id) =>
+  ({ id, word: t.whom[id], isNamed: ["user", "group"].includes(id) }));
 
 /** Where an entry of a folder counts: its flag, the word, and whether the flag stands for no. */
-export const REACH = [
-  { flag: NOT_HERE, word: "this folder itself", isTurned: true },
-  { flag: TO_FILES, word: "the documents in it" },
-  { flag: TO_FOLDERS, word: "the folders in it" },
-  { flag: CHILDREN_ALONE, word: "what is further down", isTurned: true },
-];
+export const REACH = [NOT_HERE, TO_FILES, TO_FOLDERS, CHILDREN_ALONE].map((flag, at) =>
+  ({ flag, word: t.reach[at], isTurned: [NOT_HERE, CHILDREN_ALONE].includes(flag) }));
 
 export const isInherited = (entry) => (entry.flag & MARK) !== 0;
 export const asOwn = (entry) => ({ ...entry, flag: entry.flag & ~MARK });
@@ -47,19 +39,34 @@ export const isDeny = (entry) => entry.type === DENY;
 export const newEntry = (kind) =>
   ({ type: 0, flag: kind === FILE ? 0 : TO_FILES | TO_FOLDERS, mask: SETS[0].mask, who: "" });
 
-const BESIDE = { 0x1: 0x20, 0x2: 0x66, 0x4: 0x66 }; // what a folder has to allow beside a document's right
+// What a folder has to allow, or to deny, beside a document's right.
+const BESIDE = [{ 0x1: 0x20, 0x2: 0x66 }, { 0x2: 0x46, 0x4: 0x46 }];
+const [WRITE, APPEND] = [0x2, 0x4];
 
-/** An entry of a document, as the folder that is a large file needs it, and hands it down to its pieces. */
+/** An entry as a document can have it. */
+export const forDocument = (entry) => ({ ...entry, flag: entry.flag & GROUP_FLAG });
+
+/** An entry of a document, as the folder that is a large file needs it, and hands it down to its pieces. Nothing is
+ * added at a large file's end: who may append alone may do nothing to it. */
 export function carried(entry) {
-  const more = entry.type === 0 ? Object.entries(BESIDE).filter(([bit]) => entry.mask & bit) : [];
+  const more = Object.entries(BESIDE[entry.type]).filter(([bit]) => entry.mask & bit);
+  const own = isDeny(entry) || entry.mask & WRITE ? entry.mask : entry.mask & ~APPEND;
   return { ...asOwn(entry), flag: asOwn(entry).flag | TO_FILES | TO_FOLDERS,
-    mask: more.reduce((mask, [, it]) => mask | it, entry.mask) };
+    mask: more.reduce((mask, [, it]) => mask | it, own) };
+}
+
+/** Whether a list names its owner and this user alone, and takes over nothing that its folder may hand down later. */
+export const isPrivate = ({ aclflag, entries }, user) => !follows(aclflag) &&
+  entries.every(({ who, flag }) => who === "OWNER@" || (who === user && !(flag & GROUP_FLAG)));
+
+/** The list of an object's own, `{aclflag, entries}`; null where all of it is handed down. */
+export function ownList({ aclflag, entries }) {
+  const own = entries.filter((it) => !isInherited(it) || !follows(aclflag));
+  return own.length || aclflag !== AUTO_INHERIT ? { aclflag, entries: own } : null;
 }
 
 /** Whether an object takes over what its folder hands down. */
-export function follows(aclflag) {
-  return (aclflag & AUTO_INHERIT) !== 0 && (aclflag & PROTECTED) === 0;
-}
+export const follows = (aclflag) => (aclflag & AUTO_INHERIT) !== 0 && (aclflag & PROTECTED) === 0;
 
 export function withFollows(aclflag, isWanted) {
   if (follows(aclflag) === isWanted) return aclflag;
@@ -79,6 +86,8 @@ export function withWhom(entry, { id, name }) {
   return { ...entry, flag, who: isNamed ? name : id };
 }
 
+export const whomText = ({ id, name }) => [t.whom[id], name].filter((it) => it).join(" ");
+
 function whomWords(entry, { owner, group }) {
   const { id, name } = whomOf(entry);
   const whose = { "OWNER@": owner, "GROUP@": group }[id];
@@ -86,28 +95,21 @@ function whomWords(entry, { owner, group }) {
   return [word, name, whose ? `(${whose})` : ""].filter((it) => it !== "").join(" ");
 }
 
-export function joined(words) {
-  return words.length < 2 ? words.join("") : `${words.slice(0, -1).join(", ")} and ${words.at(-1)}`;
-}
-
 /** The rights of an entry, in the words of the kinds of objects for which it counts. */
 function rightsWords({ mask, flag }, kind) {
   const set = setOf(mask, kind);
   if (set) return set.does;
-  if (mask === 0) return "do nothing";
-  if (kind === LARGE) return joined(rightsIn(mask, LARGE));
+  if (mask === 0) return t.doNothing;
+  if (kind === LARGE) return t.joined(rightsIn(mask, LARGE));
   const isForFiles = kind === FILE || flag & NOT_HERE && flag & TO_FILES && !(flag & TO_FOLDERS);
   const isForBoth = !isForFiles && kind === FOLDER && flag & TO_FILES;
-  if (!isForBoth) return joined(rightsIn(mask, isForFiles ? FILE : FOLDER));
-  return joined(RIGHTS.filter((it) => mask & it.bit).map(bothWords));
+  if (!isForBoth) return t.joined(rightsIn(mask, isForFiles ? FILE : FOLDER));
+  return t.joined(RIGHTS.filter((it) => mask & it.bit).map(bothWords));
 }
 
 function reachWords(flag) {
-  const kinds = [flag & TO_FILES ? "documents" : "", flag & TO_FOLDERS ? "folders" : ""].filter((it) => it !== "");
-  if (kinds.length === 0) return flag & NOT_HERE ? "Counts nowhere." : "Counts here alone.";
-  const depth = flag & CHILDREN_ALONE ? ", and no further" : ", and further down";
-  return `${flag & NOT_HERE ? "Does not count here, but is" : "Counts here, and is"} handed down to ${joined(kinds)}` +
-    ` in it${depth}.`;
+  if (!(flag & (TO_FILES | TO_FOLDERS))) return flag & NOT_HERE ? t.countsNowhere : t.countsHere;
+  return t.handsDown(!(flag & NOT_HERE), flag & TO_FILES, flag & TO_FOLDERS, !(flag & CHILDREN_ALONE));
 }
 
 /** Whether an entry of a large file counts for all of it. */
@@ -115,9 +117,8 @@ const isOfAll = ({ flag }) => (flag & (TO_FILES | TO_FOLDERS | CHILDREN_ALONE | 
 
 /** What an entry says, without where it counts. */
 export const ruling = (entry, kind, standing) =>
-  `${isDeny(entry) ? "Deny" : "Allow"} ${whomWords(entry, standing)} to ${rightsWords(entry, kind)}.`;
+  t.ruling(isDeny(entry), whomWords(entry, standing), rightsWords(entry, kind));
 
-/** An entry as a sentence. */
 export function sentence(entry, kind, standing) {
   const reach = kind === FOLDER || kind === LARGE && !isOfAll(entry) ? ` ${reachWords(entry.flag)}` : "";
   return ruling(entry, kind, standing) + reach;

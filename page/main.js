@@ -1,25 +1,30 @@
 /** The page: shows the place that the address names, and does what the user asks for. */
-import * as busy from "./busy.js";
 import { showAccess } from "./access.js";
+import { lookAgain, takePastes } from "./beside.js";
+import * as busy from "./busy.js";
 import { Refusal } from "./codes.js";
 import { showContents } from "./contents.js";
-import { UNSAVED, ask, closeAll, untilClosed } from "./dialogs.js";
-import { button, link, make } from "./dom.js";
-import { showFind } from "./find.js";
+import { ask, closeAll, untilClosed } from "./dialogs.js";
+import { button, faultLine, link, make } from "./dom.js";
+import { searchFor, showFind } from "./find.js";
 import { head } from "./heads.js";
+import { showHelp } from "./help.js";
 import { Login, logOut } from "./login.js";
-import { showMatrix } from "./matrix.js";
 import { isPart } from "./manifest.js";
+import { showMatrix } from "./matrix.js";
+import { isMenuOpen, openMenu } from "./menu.js";
 import { shown } from "./names.js";
 import { pass, say, settle, tellFault } from "./notices.js";
-import { ROOT, addressOf, namesOf, pathOf, placeOf } from "./places.js";
+import { learnNames } from "./people.js";
+import { ROOT, addressOf, isWithin, namesOf, pathOf, placeOf } from "./places.js";
 import { Room } from "./room.js";
 import { arrive, leave, standing } from "./stand.js";
 import { sessionOfTab } from "./tabs.js";
 import { end, isUnsaved, watch } from "./unsaved.js";
 import { fileOfFront } from "./wire.js";
+import { LANGUAGES, choose, language, t } from "./words.js";
 
-const VIEWS = { open: showContents, access: showAccess, who: showMatrix, find: showFind };
+const VIEWS = new Map([["open", showContents], ["access", showAccess], ["who", showMatrix], ["find", showFind]]);
 const part = (id) => document.getElementById(id);
 
 class App {
@@ -47,39 +52,40 @@ class App {
     const { cmd, path } = command;
     if (!reply && !fault) return tellFault(leftAt(path));
     if (["STAT", "LIST", "READ", "GETLIST", "ACCESS"].includes(cmd)) return;
-    const end = fault?.message ?? (reply.code === 0 ? "it is done, once." : new Refusal(reply, command).message);
-    (reply?.code === 0 ? say : tellFault)(`A request from before was sent again, ${cmd} of ${shown(path)}: ${end}`);
+    const end = fault?.message ?? (reply.code === 0 ? t.doneOnce : new Refusal(reply, command).message);
+    (reply?.code === 0 ? say : tellFault)(t.sentBefore(cmd, shown(path), end));
   }
 
-  /** Runs it with the page at rest: a second press of a button does nothing. True where it was done; else its fault is
-   * told, with `what` it was, in words. */
+  /** Runs it with the page at rest: a second press of a button does nothing. What the task gives, true where that is
+   * nothing, or null where its fault was told, with `what` it was, in words. */
   async attempt(what, task) {
     const about = `${this.room?.name} ${what}`;
     part("main").inert = true;
     part("main").setAttribute("aria-busy", "true");
     try {
-      await task();
+      const given = await task() ?? true;
       settle(about);
-      return true;
+      return given;
     } catch (fault) {
-      tellFault(`${what}: ${fault.message}`, about);
-      return false;
+      tellFault(t.about(what, fault.message), about);
+      return null;
     } finally {
       part("main").inert = false;
       part("main").removeAttribute("aria-busy");
     }
   }
 
-  /** Something was done: tells it, and shows what is there then; `moved` where what was shown is elsewhere now, and no
-   * way leads Back to where it was. */
-  async done(words, moved = null) {
+  /** Something was done: tells it, and how it is undone; and shows what is there then; `moved` where what was shown is
+   * elsewhere now, and no way leads Back to where it was. */
+  async done(words, moved = null, undo = null) {
     const here = placeOf(location.hash);
-    if (here && moved && isAt(here.path, moved.from)) {
-      this.saying = words; // (the next place tells it)
+    const undoIt = undo && (() => this.attempt(t.undo, undo));
+    if (here && moved && isWithin(here.path, moved.from)) {
+      this.saying = [words, undoIt]; // (the next place tells it)
       location.replace(addressOf({ room: here.room, path: moved.to }));
     } else {
       const back = standing();
-      say(words);
+      say(words, undoIt);
       await this.show(back);
     }
   }
@@ -87,6 +93,7 @@ class App {
   /** What went on beside the page has ended: a folder is shown anew, where nobody is at something else. */
   async ended() {
     await untilClosed();
+    while (isMenuOpen()) await new Promise((goOn) => setTimeout(goOn, 100));
     await this.shown;
     if (placeOf(location.hash)?.view === "open") await this.show(standing());
   }
@@ -98,7 +105,7 @@ class App {
     this.isLosing = false;
     closeAll();
     pass();
-    if (this.saying) say(this.saying);
+    if (this.saying) say(...this.saying);
     this.saying = null;
     leave(this.here);
     await this.show(() => arrive(location.hash));
@@ -114,15 +121,19 @@ class App {
 
   async nodesOf(place) {
     try {
-      if (!this.rooms.includes(place.room)) throw new Error(`There is no room ${shown(place.room)} here.`);
+      if (!this.rooms.includes(place.room)) throw new Error(t.noRoom(shown(place.room)));
       this.room = await this.openRoom(place.room);
-      return await (VIEWS[place.view] ?? showContents)(this, place);
+      return await (VIEWS.get(place.view) ?? showContents)(this, place);
     } catch (fault) {
       const rooms = this.rooms.map((room) => make("li", {}, link(addressOf({ room, path: ROOT }), room)));
       const isKnown = this.rooms.includes(place.room);
-      const more = isKnown ? [] : [make("p", {}, "The rooms that are here:"), make("ul", {}, ...rooms)];
-      return [...head(place), make("p", { className: "fault" }, fault.message), ...more];
+      const more = isKnown ? [] : [make("p", {}, t.rooms), make("ul", {}, ...rooms)];
+      return [...head(place), faultLine(fault.message), ...more];
     }
+  }
+
+  get place() {
+    return placeOf(location.hash) ?? { view: "open", room: this.rooms[0], path: ROOT };
   }
 
   show(then = () => arrive(location.hash)) {
@@ -131,9 +142,10 @@ class App {
   }
 
   async #show(then) {
-    const place = placeOf(location.hash) ?? { view: "open", room: this.rooms[0], path: ROOT };
+    const place = this.place;
     const turn = this.turn += 1;
     this.here = location.hash;
+    this.watched = null;
     await this.attempt(shown(place.path), async () => {
       const nodes = await this.nodesOf(place);
       if (turn !== this.turn) return;
@@ -150,51 +162,63 @@ class App {
 function leftAt(path) {
   const names = namesOf(path);
   const part = names.findIndex(isPart);
-  const its = pathOf(part < 0 ? names : names.slice(0, part));
-  return `An upload, a copy or a removal of ${shown(its)} was under way as the page ended, and is not whole. Look at ` +
-    "what is there, and do it again.";
+  return t.leftAt(shown(pathOf(part < 0 ? names : names.slice(0, part))));
 }
 
-const isAt = (path, from) => path === from || path.startsWith(`${from}/`);
-
-const INSECURE = "This page needs https, or the address 127.0.0.1: elsewhere a browser has no locks, which keep two " +
-  "tabs from one session.";
-
-/** Whether the user wants to lose what is typed. */
-const mayLose = () => ask({ title: "Leave this?", words: make("p", {}, UNSAVED.told), does: UNSAVED.lose,
-  stays: UNSAVED.keep, first: UNSAVED.keep });
+const mayLose = () => ask({ title: t.leave, words: make("p", {}, t.unsaved), does: t.discard, stays: t.typeOn,
+  first: t.typeOn });
 
 function fail(words) {
-  part("main").replaceChildren(make("p", { className: "fault" }, words));
+  part("main").replaceChildren(faultLine(words));
 }
 
 async function leaveAll() {
   if (isUnsaved() && !await mayLose()) return;
   end();
   const isOut = await logOut();
-  document.body.replaceChildren(make("main", {}, make("h1", {}, isOut ? "You are logged out" : "Not logged out"),
-    make("p", {}, isOut ? "This browser has forgotten your login. What you downloaded is still on this machine."
-      : "The front still takes your login: close all windows of this browser."),
-    make("p", {}, button("Log in", () => location.reload()))));
+  document.body.replaceChildren(make("main", {}, make("h1", {}, isOut ? t.loggedOut : t.notLoggedOut),
+    make("p", {}, isOut ? t.forgotten : t.notForgotten),
+    make("p", {}, button(t.logIn, () => location.reload()))));
+}
+
+/** What is at the right above: who one is, help, another language, the end. */
+function userMenu(user) {
+  part("user").textContent = user;
+  part("user").setAttribute("aria-label", t.you(user));
+  const others = Object.entries(LANGUAGES).filter(([it]) => it !== language);
+  const speak = (it) => {
+    choose(it);
+    location.reload();
+  };
+  part("user").onclick = () => openMenu(part("user"), [{ words: t.help, does: showHelp },
+    ...others.map(([it, words]) => ({ words, does: () => speak(it) })),
+    { words: t.logOut, does: leaveAll, isApart: true }], { label: t.you(user) });
 }
 
 async function start() {
-  part("help").onclick = () => part("help-page").showModal();
   part("help-close").onclick = () => part("help-page").close();
-  part("log-out").onclick = leaveAll;
-  if (!navigator.locks) return fail(INSECURE);
+  part("skip").onclick = () => (part("main").querySelector(".things [tabindex='0'], .things a") ??
+    part("main").querySelector("h1 button, h1"))?.focus();
+  if (!navigator.locks) return fail(t.insecure);
   const login = await Login.ask();
   const rooms = JSON.parse(await fileOfFront("/rooms.json") ?? "[]");
-  if (!login.user || rooms.length === 0) return fail("The front tells no user or no room: ask who runs it.");
+  if (!login.user || rooms.length === 0) return fail(t.noRooms);
+  await learnNames();
   const app = new App(login, rooms);
-  part("user").textContent = `You are ${login.user}.`;
+  userMenu(login.user);
+  part("search").onsubmit = (event) => {
+    event.preventDefault();
+    searchFor(app, part("search").querySelector("input").value);
+  };
   part("rooms").replaceChildren(...rooms.map((value) => make("option", { value }, value)));
   part("rooms").onchange = () => {
     location.hash = addressOf({ room: part("rooms").value, path: ROOT });
   };
   watch(() => part("main").querySelector(".typed")?.isUnsaved());
   addEventListener("hashchange", () => app.come());
+  lookAgain(app);
+  takePastes(app);
   return app.show();
 }
 
-start().catch((fault) => fail(`${fault.message} Reload this page.`));
+start().catch((fault) => fail(t.reload(fault.message)));

@@ -1,5 +1,6 @@
 /** The form of large files: the manifest, and the names of what lies in their folder (docs/FILES.md). */
 import { fromText, toText } from "./bytes.js";
+import { t } from "./words.js";
 
 const PART = ".room-";
 export const NAME = `${PART}file`;
@@ -13,7 +14,7 @@ export const MOST = 2 ** 24; // bytes of a file
 /** Why so many bytes are too many for a file, or nothing. */
 export function sizeFault(bytes) {
   const size = Math.ceil(bytes / 2 ** 20 * 10) / 10;
-  return bytes > MOST ? `has ${size} MiB, and ${MOST / 2 ** 20} MiB is the most` : "";
+  return bytes > MOST ? t.tooLarge(size, MOST / 2 ** 20) : "";
 }
 const MOST_PIECES = 256;
 export const DEEPEST = 14; // names of the path of a large file
@@ -26,7 +27,7 @@ export const otherName = (kind) => kind + hex(crypto.getRandomValues(new Uint8Ar
 export const isLeft = (name) => name.startsWith(WRITING) || name.startsWith(GONE);
 
 /** What is of a large file or its writing, and nobody's name for anything. */
-export const isPart = (name) => name.startsWith(PART);
+export const isPart = (name) => /^\.room-(file|(writing|pieces|gone|new)-[0-9a-f]{16})$/.test(name);
 
 /** The manifest of a new version of these bytes. */
 export async function manifestOf(bytes) {
@@ -38,30 +39,43 @@ export async function manifestOf(bytes) {
 export const bytesOf = ({ folder, form, pieces, sha256, size }) =>
   fromText(JSON.stringify({ folder, form, pieces, sha256, size }));
 
+const MOST_TEXT = 20_000; // bytes of a manifest; the longest has some 17,000
+const isText = (it, form) => typeof it === "string" && form.test(it);
+const PIECE_NAME = /^(?!\.{1,2}$)[A-Za-z0-9._-]{1,64}$/;
 const MEMBERS = {
-  folder: (it) => new RegExp(`^\\${PIECES}[0-9a-f]{16}$`).test(it),
+  folder: (it) => isText(it, /^\.room-pieces-[0-9a-f]{16}$/),
   form: (it) => it === 1,
-  pieces: (it) => Array.isArray(it) && it.length <= MOST_PIECES && it.every((name) => /^[^/]+$/.test(name)),
-  sha256: (it) => /^[0-9a-f]{64}$/.test(it),
-  size: (it) => Number.isInteger(it) && it >= 0 && it <= MOST,
+  pieces: (it) => Array.isArray(it) && it.length <= MOST_PIECES && it.every((name) => isText(name, PIECE_NAME)) &&
+    new Set(it).size === it.length,
+  sha256: (it) => isText(it, /^[0-9a-f]{64}$/),
+  size: (it, { length }) => Number.isInteger(it) && it >= PIECE * (length - 1) && it <= PIECE * length,
 };
 
-/** Null where the bytes are of another form, or no such text. */
+/** Null where the bytes are of another form, or no such text: whoever may write a document may write any. */
 export function readManifest(bytes) {
+  if (bytes.length > MOST_TEXT) return null;
   try {
-    const found = JSON.parse(toText(bytes));
-    const isWhole = Object.keys(found).sort().join() === Object.keys(MEMBERS).join();
-    return isWhole && Object.entries(MEMBERS).every(([name, fits]) => fits(found[name])) ? found : null;
+    const text = toText(bytes);
+    const found = JSON.parse(text);
+    const isWhole = Object.keys(found).sort().join() === Object.keys(MEMBERS).join() &&
+      Object.entries(MEMBERS).every(([name, fits]) => fits(found[name], found.pieces));
+    // (a member that stands twice, or a number or a letter in another way, makes it longer)
+    return isWhole && text.replace(/[ \t\r\n]/g, "").length === JSON.stringify(found).length ? found : null;
   } catch {
     return null;
   }
 }
 
+const PART_NAME = /^\.room-(writing|pieces|gone)-[0-9a-f]{16}$/;
+const areParts = (names) => names.every(([name, kind]) => kind === "folder" && PART_NAME.test(name));
+
 /** Whether a folder with these names, `[NAME, KIND]`, is a file whose first version was never whole. */
-export function isUnfinished(names) {
-  return names.length > 0 && names.every(([name, kind]) =>
-    kind === "folder" && [WRITING, PIECES, GONE].some((it) => name.startsWith(it)));
-}
+export const isUnfinished = (names) => names.length > 0 && areParts(names);
+
+/** Whether a folder with these names is a large file and nothing besides. Anyone who may add to a folder may put a
+ * manifest into it, or other things beside one: what lies there is neither hidden by it nor removed with it. */
+export const isLarge = (names) => names.some(([name, kind]) => name === NAME && kind !== "folder") &&
+  areParts(names.filter(([name]) => name !== NAME));
 
 /** Where a document lies and what takes its place, until the one is gone and the other has its name: whoever writes
  * that name next finds both. */

@@ -1,83 +1,33 @@
 /** The view of who may do what: users and objects, and what the room says of each pair. */
-import { button, labelled, make, nameText } from "./dom.js";
+import { button, faultLine, labelled, make, nameText } from "./dom.js";
 import { head } from "./heads.js";
-import { deciding, joined, ruling, whomOf } from "./lists.js";
-import { NAME } from "./manifest.js";
-import { byName, shown } from "./names.js";
-import { foldersAbove, inFolder, lastName, ROOT } from "./places.js";
-import { ALL, FOLDER, LARGE, LEGEND, NOT_KNOWN, PASS_THROUGH, SHUT_OUT, askedOf, levelOf, ofLarge,
-  rightsIn } from "./rights.js";
-import { kindBy, lookInto } from "./trees.js";
+import { deciding, ruling, whomOf } from "./lists.js";
+import { byName, inOrder, shown } from "./names.js";
+import { inFolder, lastName, ROOT } from "./places.js";
+import { displayName, personText } from "./people.js";
+import { Questions } from "./questions.js";
+import { ALL, FOLDER, LEGEND, NOT_KNOWN, SEVERAL, SHUT_OUT, askedOf, levelOf, rightsIn } from "./rights.js";
+import { forEach } from "./room.js";
+import { standing } from "./stand.js";
+import { kindBy } from "./trees.js";
+import { t } from "./words.js";
 
-const MOST_USERS = 20; // columns shown at once
+const MOST_USERS = 20; // columns of users, or of one group's members
+const MOST_GROUPS = 60; // columns of groups
+const MOST_TOLD = 10; // names of a group's members in a sentence
 const MOST_OBJECTS = 40; // rows shown at first, and added each time: some requests each
 
-/** What is asked of the room for one matrix, each thing once. */
-class Questions {
-  constructor(app) {
-    Object.assign(this, { app, asked: new Map() });
-  }
-
-  once(key, task) {
-    if (!this.asked.has(key)) this.asked.set(key, task());
-    return this.asked.get(key);
-  }
-
-  /** Kind, owner, group and list, or null where the caller may not see them. */
-  object(path) {
-    return this.once(path, async () => {
-      const stat = await this.app.room.runIfAllowed("STAT", path);
-      const list = stat && await this.app.room.runIfAllowed("GETLIST", path);
-      return list && { ...stat, ...list };
-    });
-  }
-
-  /** What something is that the room calls a folder or a document. */
-  async kindOf({ path, kind }) {
-    if (kind !== FOLDER) return kind;
-    const its = await this.once(`into ${path}`, () => lookInto(this.app.room, path));
-    return its.kind === LARGE ? LARGE : FOLDER;
-  }
-
-  /** What the user may do with an object, or null. Of a large file the list counts, and what it hands down. */
-  async mayDo({ path, kind }, user, groups) {
-    const own = await this.allowed(path, user, groups);
-    if (kind !== LARGE || own === null) return own;
-    const inside = await this.allowed(inFolder(path, NAME), user, groups);
-    return inside === null ? null : ofLarge(own, inside);
-  }
-
-  /** The rights that the object's list allows the user, or null where that is not known. */
-  async allowed(path, user, groups) {
-    const it = await this.object(path);
-    const isOwn = user === this.app.user;
-    if (isOwn && !(it && groups)) return this.once(`own ${path}`, () => this.own(path));
-    const key = JSON.stringify([user, it]);
-    return it && this.once(key, () => this.app.room.allowed(it, user, groups ?? []));
-  }
-
-  async own(path) {
-    return (await this.app.room.runIfAllowed("ACCESS", path, { mask: ALL }))?.allowed ?? null;
-  }
-
-  /** The first folder above that does not let the user pass, or null; `isKnown` where each of them told. */
-  async barrier(path, user, groups) {
-    let isKnown = true;
-    for (const folder of foldersAbove(path)) {
-      const allowed = await this.allowed(folder, user, groups);
-      if (allowed !== null && !(allowed & PASS_THROUGH)) return { folder, isKnown: true };
-      isKnown &&= allowed !== null;
-    }
-    return { folder: null, isKnown };
-  }
+async function levelAt(questions, { path, kind }, user, groups) {
+  const [allowed, barrier] = await Promise.all([questions.mayDo({ path, kind }, user, groups),
+    questions.barrier(path, user, groups)]);
+  const level = barrier.folder ? SHUT_OUT : allowed === null ? NOT_KNOWN : levelOf(allowed, kind);
+  return { allowed, barrier, level };
 }
 
-async function cellOf(questions, { path, kind }, user, groups) {
-  const allowed = await questions.mayDo({ path, kind }, user, groups);
-  const barrier = await questions.barrier(path, user, groups);
-  const level = barrier.folder ? SHUT_OUT : allowed === null ? NOT_KNOWN : levelOf(allowed, kind);
-  const why = allowed === null ? "" : await whyWords(questions, { path, kind }, user, groups);
-  return { path, kind, user, allowed, barrier, level, why };
+async function cellOf(questions, object, user, groups) {
+  const its = await levelAt(questions, object, user, groups);
+  const why = its.allowed === null ? "" : await whyWords(questions, object, user, groups);
+  return { ...object, user, ...its, why };
 }
 
 /** Which entries of the object's list decide, in words, where they may be seen and come to what the room says. */
@@ -87,18 +37,17 @@ async function whyWords(questions, { path, kind }, user, groups) {
   const places = object && groups && deciding(object, user, groups, how);
   if (!places) return "";
   const entries = places.map((at) => `${at + 1}. ${ruling(object.entries[at], kind, object)}`);
-  const always = user === object.owner ? " An owner may always see the list and change it." : "";
-  return (entries.length ? ` By its entries: ${entries.join(" ")}` : ` No entry of it is for ${user}.`) + always;
+  const always = user === object.owner ? t.ownersAlways : "";
+  return (entries.length ? t.whyEntries(entries) : t.noEntry(user)) + always;
 }
 
-/** A cell in whole sentences. */
 function told({ path: itsPath, kind, user, allowed, barrier, why }) {
   const path = shown(itsPath);
-  if (allowed === null && !barrier.folder) return `What ${user} may do with ${path}: ${NOT_KNOWN.tells}.`;
-  const rights = joined(rightsIn(askedOf(allowed, kind), kind)) || "do nothing with it";
-  const may = allowed === null ? "" : `The list of ${path} lets ${user} ${rights}.${why}`;
-  if (barrier.folder) return `${user} may not pass through ${shown(barrier.folder)}, so cannot get at ${path}. ${may}`;
-  return barrier.isKnown ? may : `${may} Whether ${user} may pass through each folder above is not known to you.`;
+  if (allowed === null && !barrier.folder) return t.mayUnknown(user, path, NOT_KNOWN.tells);
+  const rights = t.joined(rightsIn(askedOf(allowed, kind), kind)) || t.doNothingWith;
+  const may = allowed === null ? "" : t.mayDo(path, user, rights, why);
+  if (barrier.folder) return t.barred(user, shown(barrier.folder), path, may);
+  return barrier.isKnown ? may : t.barUnknown(may, user);
 }
 
 function cellElement(cell, detail) {
@@ -112,22 +61,45 @@ function cellElement(cell, detail) {
 function legend() {
   const rows = LEGEND.map((it) => make("div", {}, make("dt", { className: `level ${it.name}` }, it.word),
     make("dd", {}, it.tells)));
-  return make("dl", { className: "legend", "aria-label": "Legend" }, ...rows);
+  return make("dl", { className: "legend", "aria-label": t.legend }, ...rows);
 }
 
-async function table(questions, objects, users, detail) {
-  const titles = users.map(([user]) => make("th", { scope: "col" }, nameText(user)));
+/** What the members of a group may do: the level that all have, or several, told when it is pressed. */
+async function groupCell(questions, object, { users }, detail) {
+  const levels = new Map();
+  await Promise.all(users.map(async ([user, groups]) => {
+    const { level } = await levelAt(questions, object, user, groups);
+    levels.set(level.word, { level, users: [...levels.get(level.word)?.users ?? [], user] });
+  }));
+  const found = [...levels.values()].sort((a, b) => b.users.length - a.users.length);
+  const both = found.slice(0, 2).map((it) => it.level.word).join(" / ") + (found.length > 2 ? " …" : "");
+  const level = found.length === 1 ? found[0].level : { ...SEVERAL, word: both };
+  const words = found.map((it) => t.haveLevel(it.level.word, it.users.length, it.users.slice(0, MOST_TOLD).join(", ")));
+  const show = () => {
+    detail.textContent = t.about(shown(object.path), words.join(" "));
+  };
+  return make("td", { className: `level ${level.name}` }, button(level.word, show, { title: words.join(" ") }));
+}
+
+async function rowOf(questions, object, columns, detail) {
+  const [path, kind] = [object.path, await questions.kindOf(object)];
+  const cells = await Promise.all(columns.map(async (it) => (it.isGroup ?
+    groupCell(questions, { path, kind }, it, detail) :
+    cellElement(await cellOf(questions, { path, kind }, ...it.users[0]), detail))));
+  const end = kind === FOLDER && path !== ROOT ? "/" : "";
+  return make("tr", {}, make("th", { scope: "row" }, nameText(lastName(path)), end), ...cells);
+}
+
+async function table(questions, objects, columns, { detail, open }) {
+  const titles = columns.map((it) => (it.isGroup ? make("th", { scope: "col" }, button([nameText(it.title),
+    ` (${it.users.length})`], () => open(it), { "aria-expanded": String(it.isOpen) })) :
+    make("th", { scope: "col", title: displayName(it.title) }, nameText(it.title))));
   const rows = [];
-  for (const object of objects) {
-    const [path, kind, cells] = [object.path, await questions.kindOf(object), []];
-    for (const [user, groups] of users) {
-      cells.push(cellElement(await cellOf(questions, { path, kind }, user, groups), detail));
-    }
-    const end = kind === FOLDER && path !== ROOT ? "/" : "";
-    rows.push(make("tr", {}, make("th", { scope: "row" }, nameText(lastName(path)), end), ...cells));
-  }
-  return make("div", { className: "wide", tabIndex: 0, role: "region", "aria-label": "Users and objects" },
-    make("table", { className: "matrix" }, make("thead", {}, make("tr", {}, make("th", { scope: "col" }, "Object"),
+  await forEach([...objects.entries()], async ([at, it]) => {
+    rows[at] = await rowOf(questions, it, columns, detail);
+  });
+  return make("div", { className: "wide", tabIndex: 0, role: "region", "aria-label": t.matrixLabel },
+    make("table", { className: "matrix" }, make("thead", {}, make("tr", {}, make("th", { scope: "col" }, t.object),
       ...titles)), make("tbody", {}, ...rows)));
 }
 
@@ -152,42 +124,71 @@ async function objectsOf(app, path) {
   return [{ path, kind }, ...children];
 }
 
-const WITHOUT_ROSTER = "The front does not tell this room's users: these are the ones that lists and owners name, " +
-  "asked about without their groups.";
+/** Users by their groups, those of none last. */
+function groupsOf(users) {
+  const all = users.flatMap((it) => (it[1]?.length ? it[1] : [""]).map((group) => ({ group, it })));
+  const columns = [...Map.groupBy(all, ({ group }) => group)].map(([group, its]) =>
+    ({ title: group || t.noGroup, isGroup: true, isLast: group === "", users: its.map(({ it }) => it) }));
+  return columns.sort((a, b) => a.isLast - b.isLast || inOrder(a.title, b.title));
+}
 
-/** The table with as many rows as were asked for, and the users whose name has a word. */
+/** The table with as many rows as were asked for: a column for each user, or where they are many, for each group, which
+ * opens to its members; and those whose name has a word. */
 class MatrixView {
   constructor(app, questions, objects, users) {
-    Object.assign(this, { app, questions, objects, users, count: MOST_OBJECTS, word: "" });
-    this.detail = make("p", { className: "detail", role: "status" }, "Choose a cell to read it in words.");
+    Object.assign(this, { app, questions, objects, users, count: MOST_OBJECTS, word: "", opened: new Set() });
+    this.groups = users.length > MOST_USERS ? groupsOf(users) : [];
+    this.detail = make("p", { className: "detail", role: "status" }, t.chooseCell);
     this.element = make("div", {});
   }
 
+  /** The columns, and how many there would be without a limit. */
+  columns() {
+    const has = (name) => name.toLowerCase().includes(this.word.toLowerCase());
+    const members = (users) => users.slice(0, MOST_USERS).map((it) => ({ title: it[0], users: [it] }));
+    if (this.groups.length === 0) return members(this.users);
+    const users = this.word ? this.users.filter(([user]) => has(personText(user))) : [];
+    const groups = this.groups.filter(({ title }) => has(title)).slice(0, MOST_GROUPS);
+    this.told = this.word ? t.narrow(users.length, groups.length, Math.min(users.length, MOST_USERS)) :
+      t.narrow(this.users.length, this.groups.length, null);
+    return [...groups.flatMap((it) => {
+      const isOpen = this.opened.has(it.title);
+      return [{ ...it, isOpen }, ...isOpen ? members(it.users) : []];
+    }), ...members(users)];
+  }
+
   async draw() {
-    const users = this.users.filter(([user]) => user.includes(this.word));
-    const objects = this.objects.slice(0, this.count);
-    const shown = await table(this.questions, objects, users.slice(0, MOST_USERS), this.detail);
-    this.element.replaceChildren(shown, ...this.more(), ...this.narrow(users.length));
+    const columns = this.columns();
+    const open = ({ title }) => this.change(() => this.opened.delete(title) || this.opened.add(title));
+    const shown = await table(this.questions, this.objects.slice(0, this.count), columns,
+      { detail: this.detail, open });
+    this.element.replaceChildren(...this.narrow(), shown, ...this.more());
+  }
+
+  /** Shows it anew, and stays where the user is. */
+  change(task) {
+    const back = standing();
+    return this.app.attempt(t.whoMay, async () => {
+      task();
+      await this.draw();
+    }).then(back);
   }
 
   more() {
     const left = this.objects.length - this.count;
-    const show = () => this.app.attempt("Who may do what", () => {
+    const show = () => this.change(() => {
       this.count += MOST_OBJECTS;
-      return this.draw();
     });
-    return left > 0 ? [button(`Show more of the ${left} objects that are left`, show)] : [];
+    return left > 0 ? [button(t.showMore(left), show)] : [];
   }
 
-  narrow(found) {
-    if (this.users.length <= MOST_USERS) return [];
+  narrow() {
+    if (this.groups.length === 0) return [];
     const field = make("input", { type: "search", value: this.word });
-    field.onchange = () => this.app.attempt("Who may do what", () => {
+    field.onchange = () => this.change(() => {
       this.word = field.value.trim();
-      return this.draw();
     });
-    const words = `Users whose name has these letters (${Math.min(found, MOST_USERS)} of ${found} are shown)`;
-    return [labelled(words, field)];
+    return [labelled(this.told, field)];
   }
 }
 
@@ -197,6 +198,6 @@ export async function showMatrix(app, place) {
   const { users, isWhole } = await usersOf(app, questions, objects.slice(0, MOST_OBJECTS));
   const view = new MatrixView(app, questions, objects, users);
   await view.draw();
-  const note = isWhole ? [] : [make("p", { className: "fault" }, WITHOUT_ROSTER)];
+  const note = isWhole ? [] : [faultLine(t.withoutRoster)];
   return [...head(place), ...note, view.element, view.detail, legend()];
 }

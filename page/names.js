@@ -1,4 +1,5 @@
 /** Names as they are shown, and as they are sent. */
+import { language, t } from "./words.js";
 
 /** In turn: a pictograph with what belongs to it; what nobody would see or what turns the text around it; the rest. */
 const PARTS = new RegExp(
@@ -6,34 +7,34 @@ const PARTS = new RegExp(
   "(?:\\u200d\\p{Extended_Pictographic}(?:\\ufe0f|\\p{Emoji_Modifier})?)*)" +
   "|([\\p{C}\\p{Zl}\\p{Zp}\\p{Default_Ignorable_Code_Point}\\u2800]|(?! )\\p{Zs}|^ | (?= *$)|(?<= ) )|[^]", "gu");
 
-const NOT_COMPOSED = "⟨not composed⟩"; // letters with their accents apart look like letters with them
 
-function markOf(letter) {
-  return letter === " " ? "⟨blank⟩" : `⟨U+${letter.codePointAt(0).toString(16).toUpperCase().padStart(4, "0")}⟩`;
-}
+const markOf = (letter) =>
+  letter === " " ? `⟨${t.blank}⟩` : `⟨U+${letter.codePointAt(0).toString(16).toUpperCase().padStart(4, "0")}⟩`;
 
-/** The parts of a name: texts, and marks in the place of what could not be seen. */
+/** The parts of a name: texts, and marks in the place of what could not be seen. (Letters with their accents apart look
+ * like letters with them.) */
 export function partsOf(name) {
   const parts = [...name.matchAll(PARTS)].map(([text, , hidden]) =>
     hidden ? { text: markOf(hidden), isMark: true } : { text, isMark: false });
-  return name === name.normalize("NFC") ? parts : [...parts, { text: NOT_COMPOSED, isMark: true }];
+  return name === name.normalize("NFC") ? parts : [...parts, { text: `⟨${t.notComposed}⟩`, isMark: true }];
 }
 
 /** A name or path in a sentence. */
 export const shown = (name) => partsOf(name).map((it) => it.text).join("");
 
-/** A name for the user's own disk, where nothing marks what cannot be seen, and some systems part names at other
- * letters than /. */
+/** What is in no name of some system: letters, an empty one, . and .., a . at the end, devices of Windows. */
+const NO_NAME = /[\\:*?"<>|]|^\.{0,2}$|\.$|(?<=^(?:con|prn|aux|nul|com[0-9]|lpt[0-9]))(?=\.|$)/gi;
+
+/** A name for the user's own disk, where nothing marks what cannot be seen. */
 export const forDisk = (name) =>
-  partsOf(name).map((it) => (it.isMark ? "_" : it.text)).join("").replace(/[\\:*?"<>|]/g, "_");
+  partsOf(name).map((it) => (it.isMark ? "_" : it.text)).join("").replace(NO_NAME, "_");
 
 /** As it is sent: one way to write each letter, and no blanks at the ends. */
 export const clean = (name) => name.normalize("NFC").trim();
 
-const { compare } = new Intl.Collator(undefined, { numeric: true });
+const { compare } = new Intl.Collator(language, { numeric: true });
 
 /** The order in which people look for names: capitals do not count before others, and 2 stands before 10. */
 export const inOrder = (one, other) => compare(one, other) || (one < other ? -1 : 1);
 
-/** The same of a listing, `[name, kind]`. */
 export const byName = ([one], [other]) => inOrder(one, other);

@@ -1,22 +1,25 @@
 /** What is told at the top of the page. A fault stays until it is closed, or until what it is about goes well; a plain
  * word goes with the next one, and with the place. */
 import { button, make } from "./dom.js";
+import { t } from "./words.js";
 
+const MOST_SHOWN = 5; // faults of one thing that are shown unasked
 const section = document.getElementById("notices");
 
 function put(how, ...children) {
   const it = make("div", how, ...children);
   const words = it.querySelector("p") ?? it;
-  words.append(" ", button("Close", () => it.remove(), { className: "small" }));
+  words.append(" ", button(t.close, () => it.remove(), { className: "small" }));
   section.prepend(it); // (the newest is seen first, where there are more than have room)
 }
 
-/** Plain words go. */
 export const pass = () => section.querySelectorAll(".good").forEach((it) => it.remove());
 
-export function say(words) {
+/** Words of what was done, and where it can be undone the way to that. */
+export function say(words, undo = null) {
   pass();
-  put({ className: "good" }, words);
+  if (!words) return;
+  put({ className: "good" }, words, ...undo ? [" ", button(t.undo, undo, { className: "small undo" })] : []);
 }
 
 /** What this is about went well: its faults go, and a list of faults with the last that is in it. */
@@ -36,8 +39,10 @@ export function tellFaults(words, faults) {
   if (faults.length === 1) {
     put({ className: "fault", ...how(faults[0].about) }, `${words}: ${faults[0].words}`);
   } else if (faults.length) {
-    const items = faults.map((it) => make("li", how(it.about), it.words));
-    put({ className: "fault" }, make("p", {}, `${words}:`), make("ul", {}, ...items));
+    const items = make("ul", {}, ...faults.map((it) => make("li", how(it.about), it.words)));
+    const many = [make("summary", {}, t.showThem), items];
+    const list = faults.length > MOST_SHOWN ? make("details", {}, ...many) : items;
+    put({ className: "fault" }, make("p", {}, `${words}:`), list);
   }
 }
 

@@ -2,16 +2,24 @@
  * the room refuses what is not allowed. */
 import * as actions from "./actions.js";
 import { button } from "./dom.js";
-import * as moving from "./moving.js";
-import { ROOT, folderOf } from "./places.js";
+import { download, downloadFolder } from "./downloads.js";
+import { copyTo, move } from "./moving.js";
+import { say, tellFault } from "./notices.js";
+import { ROOT, addressOf, folderOf } from "./places.js";
+import { putBack, remove } from "./removing.js";
 import { ADD_FILE, ADD_FOLDER, ALL, APPEND, DELETE, DELETE_CHILD, FILE, FOLDER, LARGE, PASS_THROUGH as PASS, READ,
-  WRITE } from "./rights.js";
-import { TRASH, toldBy } from "./trash.js";
+  READ_LIST, WRITE } from "./rights.js";
+import { isTrash, toldBy } from "./trash.js";
 import { filesButton, newVersion } from "./uploads.js";
+import { t } from "./words.js";
 
-/** The rights that the caller has on it. */
-export async function rightsOn(room, path) {
-  return (await room.asideIfAllowed("ACCESS", path, { mask: ALL }))?.allowed ?? ALL;
+export const rightsOn = async (room, path) =>
+  (await room.asideIfAllowed("ACCESS", path, { mask: ALL }))?.allowed ?? ALL;
+
+/** Whoever opens it has to log in, and may do what the lists allow. */
+async function copyLink(address) {
+  await navigator.clipboard.writeText(new URL(address, location.href.split("#")[0]).href)
+    .then(() => say(t.linkCopied), (fault) => tellFault(t.about(t.copyLink, fault.message)));
 }
 
 const has = (rights, ...bits) => bits.every((it) => rights & it);
@@ -22,34 +30,38 @@ export async function rightsAt(room, path) {
   return { own, above };
 }
 
-/** Buttons for an object of a kind: FILE, FOLDER, LARGE or "unfinished". */
+/** What is offered for an object of a kind, FILE, FOLDER, LARGE or "unfinished": items of a menu. */
 export function offersFor(app, path, kind, { own, above, size }) {
   const [isFile, isLarge, isTop, isThrown] = [kind === FILE, kind === LARGE, path === ROOT, toldBy(path) !== null];
   const isOver = (isLarge || kind === "unfinished") && has(own, ADD_FILE, ADD_FOLDER, PASS);
-  const isTrash = kind === FOLDER && folderOf(path) === TRASH; // (somebody's, with what they may want back)
-  const isMovable = !isTop && !isTrash && (has(own, DELETE) || has(above, DELETE_CHILD));
+  const isWhole = kind === FOLDER && isTrash(path); // (somebody's, with what they may want back)
+  const isMovable = !isTop && !isWhole && (has(own, DELETE) || has(above, DELETE_CHILD));
   const replaces = kind === "unfinished" ? null : { mayKeep: has(own, READ) && has(above, ADD_FILE, ADD_FOLDER) };
-  const does = [
+  const at = (view) => addressOf({ view, room: app.room.name, path });
+  return [
     [isFile && has(own, READ) || isLarge && has(own, READ, PASS),
-      () => button("Download", () => moving.download(app, path, size))],
-    [kind === FOLDER && has(own, READ, PASS), () => button("Download as zip", () => moving.downloadFolder(app, path))],
+      { words: t.download, does: () => download(app, path, size) }],
+    [kind === FOLDER && has(own, READ, PASS), { words: t.downloadZip, does: () => downloadFolder(app, path) }],
     [!isThrown && (isFile && has(own, WRITE) || isOver),
-      () => filesButton("Upload a new version", { isOne: true }, (it) => newVersion(app, path, it, replaces))],
+      { words: t.newVersion, files: { isOne: true }, chosen: (it) => newVersion(app, path, it, replaces) }],
     [!isThrown && isMovable && has(above, isFile ? ADD_FILE : ADD_FOLDER),
-      () => button("Rename", () => actions.rename(app, path))],
-    [isThrown && isMovable, () => button("Put back", () => moving.putBack(app, path))],
-    [isMovable, () => button("Move", () => moving.move(app, path))],
-    [!isTop && kind !== "unfinished" && has(own, READ), () => button("Copy", () => moving.copyTo(app, path))],
-    [isMovable, () => button("Remove", () => moving.remove(app, path))],
-  ];
-  return does.filter(([isOffered]) => isOffered).map(([, it]) => it());
+      { key: "rename", words: t.rename, does: () => actions.rename(app, path) }],
+    [isThrown && isMovable, { words: t.putBack, does: () => putBack(app, path) }],
+    [isMovable, { words: t.move, does: () => move(app, [path]) }],
+    [!isTop && kind !== "unfinished" && has(own, READ), { words: t.copy, does: () => copyTo(app, [path]) }],
+    [isMovable, { key: "remove", words: t.remove, does: () => remove(app, [path]) }],
+    [!isThrown && has(own, READ_LIST), { words: t.share, href: at("access"), isApart: true, isView: true }],
+    [!isThrown, { words: t.whoMay, href: at("who"), isView: true }],
+    [!isThrown, { words: t.copyLink, does: () => copyLink(at("open")), isView: true }],
+  ].filter(([isOffered]) => isOffered).map(([, it]) => it);
 }
 
-/** Those that change a document's text. */
+export const asButton = ({ words, files, chosen, does }) =>
+  (chosen ? filesButton(words, files, chosen) : button(words, does));
+
 export function textOffers(app, path, own, bytes, text) {
-  const does = [
-    ["Append", has(own, APPEND), () => actions.append(app, path)],
-    ["Edit", text !== null && has(own, READ, WRITE), () => actions.edit(app, path, bytes, text)],
-  ];
-  return does.filter(([, isOffered]) => isOffered).map(([words, , action]) => button(words, action));
+  return [
+    [has(own, APPEND) && (bytes === null || text !== null), { words: t.append, does: () => actions.append(app, path) }],
+    [text !== null && has(own, READ, WRITE), { words: t.edit, does: () => actions.edit(app, path, bytes, text) }],
+  ].filter(([isOffered]) => isOffered).map(([, it]) => it);
 }

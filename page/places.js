@@ -1,30 +1,21 @@
 /** Paths of the room, and the part of the address behind '#' that says which of them is shown. */
+import { fromText } from "./bytes.js";
+import { t } from "./words.js";
 
 const MAX_NAME_BYTES = 64;
-const MAX_NAMES = 16;
+export const MAX_NAMES = 16;
 export const MOST_THINGS = 256; // in a folder
 
 export const ROOT = "/";
 
-export function namesOf(path) {
-  return path.split("/").filter((it) => it !== "");
-}
+export const namesOf = (path) => path.split("/").filter((it) => it !== "");
+export const pathOf = (names) => `/${names.join("/")}`;
+export const inFolder = (folder, ...names) => pathOf([...namesOf(folder), ...names]);
+export const folderOf = (path) => pathOf(namesOf(path).slice(0, -1));
+export const lastName = (path) => namesOf(path).at(-1) ?? ROOT;
 
-export function pathOf(names) {
-  return `/${names.join("/")}`;
-}
-
-export function inFolder(folder, ...names) {
-  return pathOf([...namesOf(folder), ...names]);
-}
-
-export function folderOf(path) {
-  return pathOf(namesOf(path).slice(0, -1));
-}
-
-export function lastName(path) {
-  return namesOf(path).at(-1) ?? ROOT;
-}
+/** Whether a path is that of a folder, or of something below it. */
+export const isWithin = (path, folder) => path === folder || path.startsWith(`${folder}/`);
 
 /** The folders that a walk to the path goes through, from the root down. */
 export function foldersAbove(path) {
@@ -32,27 +23,26 @@ export function foldersAbove(path) {
   return names.map((_, count) => pathOf(names.slice(0, count)));
 }
 
+export const isTooLong = (name) => fromText(name).length > MAX_NAME_BYTES;
+
 /** Why the room would not take this as a name, or nothing. */
 export function nameFault(name) {
-  if (name === "" || name === "." || name === "..") return "A name is wanted, other than . and ..";
-  if (/[/\u0000-\u001f\u007f]/.test(name)) return "A name has no / and no control character.";
-  const bytes = new TextEncoder().encode(name).length;
-  return bytes > MAX_NAME_BYTES ? `This name counts as ${bytes} letters, and ${MAX_NAME_BYTES} are the most: letters ` +
-    "with accents count double or more." : "";
+  if (name === "" || name === "." || name === "..") return t.nameWanted;
+  if (/[/\u0000-\u001f\u007f]/.test(name)) return t.nameLetters;
+  return isTooLong(name) ? t.nameLong(fromText(name).length) : "";
 }
 
 /** Why the room would not take this as a path, or nothing. */
 export function pathFault(path) {
   const names = path.split("/").slice(1);
-  if (!path.startsWith("/")) return "A path begins with /.";
-  if (names.length > MAX_NAMES) return `A path has at most ${MAX_NAMES} names.`;
+  if (!path.startsWith("/")) return t.pathBegins;
+  if (names.length > MAX_NAMES) return t.pathLong(MAX_NAMES);
   return names.map(nameFault).find((it) => it !== "") ?? "";
 }
 
 /** The address of a place: its view, room and names, each percent-encoded. */
-export function addressOf({ view = "open", room, path }) {
-  return `#${[view, room, ...namesOf(path)].map(encodeURIComponent).join("/")}`;
-}
+export const addressOf = ({ view = "open", room, path }) =>
+  `#${[view, room, ...namesOf(path)].map(encodeURIComponent).join("/")}`;
 
 /** The place of an address, or null where it names none. */
 export function placeOf(address) {
@@ -65,12 +55,14 @@ export function placeOf(address) {
   }
 }
 
-/** A name with words in brackets, in front of its ending; as much of it as a name may have. */
-export function withMark(name, words) {
+/** As much of a name as a name may have, with a mark in front of its ending. */
+export function shortened(name, mark = "") {
   const dot = name.lastIndexOf(".");
   const [stem, ending] = dot > 0 && name.length - dot < 12 ? [name.slice(0, dot), name.slice(dot)] : [name, ""];
   const letters = [...stem];
-  const whole = () => `${letters.join("")} (${words})${ending}`;
-  while (letters.length > 1 && nameFault(whole())) letters.pop();
+  const whole = () => `${letters.join("").trim()}${mark}${ending}`;
+  while (letters.length > 1 && isTooLong(whole())) letters.pop();
   return whole();
 }
+
+export const withMark = (name, words) => shortened(name, ` (${words})`);

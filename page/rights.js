@@ -1,28 +1,31 @@
 /** The sixteen rights, in one place: what each lets do with a document and with a folder, and ways to sum them up. */
+import { t } from "./words.js";
 
 export const FILE = "file";
 export const FOLDER = "folder";
 export const LARGE = "large"; // a document in pieces, whose list is that of the folder that holds them
 
-const right = (bit, words, onFile, onFolder = onFile) =>
-  ({ bit, words, [FILE]: onFile, [FOLDER]: onFolder, [LARGE]: onFile, isAsked: true });
-const ofFolders = (bit, words, does, onLarge) =>
-  ({ ...right(bit, words, `${does} (of folders alone)`, does), [LARGE]: onLarge, isOfFolders: true });
-const unasked = (bit, word) => ({ ...right(bit, [word], word.replaceAll("-", " ")), isAsked: false });
+function right(bit, ...words) {
+  const [onFile, onFolder = onFile, onLarge = onFile] = t.rights[bit];
+  return { bit, words, [FILE]: onFile, [FOLDER]: onFolder, [LARGE]: onLarge, isAsked: true };
+}
+
+const ofFolders = (bit, ...words) => ({ ...right(bit, ...words), isOfFolders: true });
+const unasked = (bit, word) => ({ ...right(bit, word), isAsked: false });
 
 /** In the order in which they are shown, with the words that the command `room` has for them: of a document and of a
  * folder, where these are two. No command of the room asks for those that are not `isAsked`. */
 export const RIGHTS = [
-  right(0x1, ["read", "list"], "read it", "see what is in it"),
-  right(0x4, ["append", "add-folder"], "append to it", "make folders in it"),
-  right(0x2, ["write", "add-file"], "replace its text", "make documents in it"),
-  ofFolders(0x20, ["execute", "traverse"], "pass through to what is in it", "get at its pieces"),
-  right(0x10000, ["delete"], "remove or rename it"),
-  ofFolders(0x40, ["delete-child"], "remove or rename what is in it", "remove its old pieces"),
-  right(0x80, ["read-attributes"], "see its owner and size"),
-  right(0x20000, ["read-acl"], "see its list"),
-  right(0x40000, ["write-acl"], "change its list"),
-  right(0x80000, ["write-owner"], "give it another owner"),
+  right(0x1, "read", "list"),
+  right(0x4, "append", "add-folder"),
+  right(0x2, "write", "add-file"),
+  ofFolders(0x20, "execute", "traverse"),
+  right(0x10000, "delete"),
+  ofFolders(0x40, "delete-child"),
+  right(0x80, "read-attributes"),
+  right(0x20000, "read-acl"),
+  right(0x40000, "write-acl"),
+  right(0x80000, "write-owner"),
   unasked(0x8, "read-named-attrs"),
   unasked(0x10, "write-named-attrs"),
   unasked(0x100, "write-attributes"),
@@ -40,6 +43,7 @@ export const ADD_FOLDER = 0x4;
 export const PASS_THROUGH = 0x20;
 export const DELETE_CHILD = 0x40;
 export const DELETE = 0x10000;
+export const READ_LIST = 0x20000;
 
 export const OF_OWNERS = 0x60000; // to see its list and to change it, which an owner always may
 
@@ -47,24 +51,22 @@ export const VIEW = 0x1200a9; // what a new room gives to its group
 
 /** Sets of rights, by the names that they have everywhere. */
 export const SETS = [
-  { mask: VIEW, name: "view", does: "view", tells: "see it, and what is in it" },
-  { mask: 0x1200af, name: "edit", does: "edit", tells: "view, and replace, append, and make things in it" },
-  { mask: 0x1301ef, name: "change", does: "change", tells: "edit, and remove or rename it and what is in it" },
-  { mask: ALL, name: "all", does: "do all", tells: "change, and its list and its owner too" },
-];
+  { mask: VIEW, name: "view" },
+  { mask: 0x1200af, name: "edit" },
+  { mask: 0x1301ef, name: "change" },
+  { mask: ALL, name: "all" },
+].map((it) => ({ ...it, does: t.sets[it.name] }));
 
 /** The set that a mask is. (The right to remove its old pieces makes no other one of a large file's.) */
 export const setOf = (mask, kind) =>
   SETS.find((it) => ((it.mask ^ mask) & ~(kind === LARGE ? DELETE_CHILD : 0)) === 0);
 
 /** For the legend of the matrix: the sets, and what they alone do not tell. */
-const SOME = { name: "some", word: "some", tells: "other rights alone, as passing through: press the cell" };
-const NONE = { name: "none", word: "none", tells: "no right on it" };
-export const SHUT_OUT = { name: "shut", word: "shut out", tells: "may not pass through a folder above" };
-export const NOT_KNOWN = { name: "unknown", word: "?", tells: "you may not see this list, so it is not known" };
-const LEVELS = SETS.map(({ name, tells }) => ({ name, word: name, tells }));
-const MORE = { name: "more", word: "view+", tells: "view and more, which is no set of its own: press the cell" };
-export const LEGEND = [...LEVELS.toReversed(), MORE, SOME, NONE, SHUT_OUT, NOT_KNOWN];
+const level = (name) => ({ name, word: t.levels[name][0], tells: t.levels[name][1] });
+const [SOME, NONE, MORE] = ["some", "none", "more"].map(level);
+export const [SHUT_OUT, NOT_KNOWN, SEVERAL] = ["shut", "unknown", "several"].map(level);
+const LEVELS = SETS.map(({ name }) => level(name));
+export const LEGEND = [...LEVELS.toReversed(), MORE, SOME, NONE, SHUT_OUT, NOT_KNOWN, SEVERAL];
 
 /** The rights of a mask that commands ask for, of that kind of object. (To a large file nothing is appended.) */
 export function askedOf(mask, kind) {
@@ -89,11 +91,8 @@ export function levelOf(allowed, kind) {
 }
 
 /** The rights of a mask, each in words for that kind of object. */
-export function rightsIn(mask, kind) {
-  return RIGHTS.filter((it) => mask & it.bit).map((it) => it[kind]);
-}
+export const rightsIn = (mask, kind) => RIGHTS.filter((it) => mask & it.bit).map((it) => it[kind]);
 
 /** A right in a sentence that stands for both kinds of objects. */
-export function bothWords(right) {
-  return right[FILE] === right[FOLDER] || right.isOfFolders ? right[FOLDER] : `${right[FOLDER]} / ${right[FILE]}`;
-}
+export const bothWords = (right) =>
+  right[FILE] === right[FOLDER] || right.isOfFolders ? right[FOLDER] : `${right[FOLDER]} / ${right[FILE]}`;

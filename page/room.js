@@ -1,11 +1,24 @@
 /** A room: its commands, each one request of this tab's session, and its questions. */
 import { fileOfFront, untilAnswered } from "./wire.js";
-import { Refusal } from "./codes.js";
+import { ACCESS, NOTDIR, Refusal } from "./codes.js";
 import { ROOT, folderOf } from "./places.js";
 import { ALL, FILE, FOLDER } from "./rights.js";
 
-const NOT_A_FOLDER = 2; // codes of the room's
-const ACCESS = 5;
+/** Does the task for each, some beside each other. The first fault ends it, once those under way have ended. */
+export async function forEach(items, task, width = 6) {
+  const left = items.values();
+  let fault = null;
+  async function go() {
+    for (const it of left) {
+      if (fault) return;
+      await task(it).catch((its) => {
+        fault ??= its;
+      });
+    }
+  }
+  await Promise.all(Array.from({ length: width }, go));
+  if (fault) throw fault;
+}
 
 export class Room {
   constructor(name, base, session, patience, user) {
@@ -29,7 +42,6 @@ export class Room {
     return { user: this.user, owner, above: owner || path === ROOT ? null : await ask(folderOf(path)) };
   }
 
-  /** Runs a command. A refusal is thrown. */
   async run(cmd, path, more = {}) {
     const command = { cmd, path, ...more };
     return this.#need(await this.session.ask(command), command);
@@ -62,7 +74,7 @@ export class Room {
   /** What STAT tells, with the kind alone where the caller may not ask. */
   async standing(path) {
     const stat = await this.runIfAllowed("STAT", path);
-    return stat ?? { kind: (await this.session.ask({ cmd: "LIST", path })).code === NOT_A_FOLDER ? FILE : FOLDER };
+    return stat ?? { kind: (await this.session.ask({ cmd: "LIST", path })).code === NOTDIR ? FILE : FOLDER };
   }
 
   /** The rights that a list allows a user: the room is asked, and nothing is decided here. */

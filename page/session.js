@@ -5,6 +5,7 @@
  * body. So it is sent again after a lost answer, and after a reload or a crash of the tab too (docs/SLOTS.md).
  */
 import { untilAnswered } from "./wire.js";
+import { t } from "./words.js";
 
 const NUMBERS = 2 ** 32;
 const SLOTS = 16;
@@ -14,22 +15,20 @@ const NOT_KEPT = 25;
 const OWN_REFUSALS = new Set([20, 21, 22, 23, 24, 25]); // of the session, slot or number, and not of the request
 
 /** A request that was sent before, and whose session is gone: whether it acted is not known. */
-export class Unknown extends Error {
+class Unknown extends Error {
   constructor() {
-    super("The session of a request is gone. Whether it was done is not known: look before you do it again.");
+    super(t.unknown);
   }
 }
 
-function randomName() {
-  return [...crypto.getRandomValues(new Uint8Array(16))].map((it) => it.toString(16).padStart(2, "0")).join("");
-}
+const randomName = () =>
+  [...crypto.getRandomValues(new Uint8Array(16))].map((it) => it.toString(16).padStart(2, "0")).join("");
 
 const read = (key) => JSON.parse(localStorage.getItem(key));
 
 /** The body of a command. Its members stand as in the command's text, so that the room knows a repeat by its bytes. */
-function bodyOf(command) {
-  return JSON.stringify(Object.fromEntries(Object.entries(command).sort(([a], [b]) => (a < b ? -1 : 1))));
-}
+const bodyOf = (command) =>
+  JSON.stringify(Object.fromEntries(Object.entries(command).sort(([a], [b]) => (a < b ? -1 : 1))));
 
 /** A command that changes nothing, and hardly ever is the same again. */
 const harmless = () =>
@@ -60,7 +59,7 @@ class Lane {
         return;
       } catch (fault) {
         localStorage.removeItem(this.bodyKey);
-        if (times === 100) throw new Error(`This browser can keep no more requests: close other tabs. (${fault.name})`);
+        if (times === 100) throw new Error(t.noSpace(fault.name));
         await new Promise((goOn) => setTimeout(goOn, 100));
       }
     }

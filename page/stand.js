@@ -22,17 +22,17 @@ export function standing() {
     const same = from && within().filter((it) => wordsOf(it) === from.words)[from.count];
     const rows = part("main").querySelector("table")?.rows ?? [];
     const row = from?.row === undefined ? null : rows[Math.min(from.row, rows.length - 1)];
-    (same ?? row?.querySelector("td button") ?? part("main").querySelector("h1"))?.focus({ preventScroll: true });
+    const head = part("main").querySelector("h1 button, h1");
+    (same ?? row?.querySelector("td button") ?? head)?.focus({ preventScroll: true });
     scrollTo({ top, behavior: "instant" });
   };
 }
 
-/** The place is left. */
 export const leave = (address) => seen.set(address, scrollY);
 
 /** The place is come to: at its head, or as far down as it was left. */
 export function arrive(address) {
-  const first = part("main").querySelector(".first") ?? part("main").querySelector("h1");
+  const first = part("main").querySelector(".first, h1 button") ?? part("main").querySelector("h1");
   first?.focus({ preventScroll: true });
   scrollTo({ top: seen.get(address) ?? 0, behavior: "instant" });
 }

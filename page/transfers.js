@@ -5,17 +5,15 @@ import { shown } from "./names.js";
 import { say, settle, tellFaults } from "./notices.js";
 import { folderOf, inFolder, lastName, withMark } from "./places.js";
 import { watchEnd } from "./unsaved.js";
+import { t } from "./words.js";
 
-/** The user ended it. */
 class Cancelled extends Error {}
 
 export function sizeWords(bytes) {
-  if (bytes < 1_024) return bytes === 1 ? "1 byte" : `${bytes} bytes`;
+  if (bytes < 1_024) return t.bytes(bytes);
   const [count, unit] = bytes < 2 ** 20 ? [bytes / 1_024, "KiB"] : [bytes / 2 ** 20, "MiB"];
   return `${count < 10 ? count.toFixed(1) : Math.round(count)} ${unit}`;
 }
-
-export const plural = (count, one) => `${count} ${one}${count === 1 ? "" : "s"}`;
 
 class Transfer {
   notes = [];
@@ -29,13 +27,13 @@ class Transfer {
     this.bar = make("progress", { max: Math.max(total, 1), value: 0, "aria-label": title });
     this.words = make("span", {});
     this.element = make("p", { className: "transfer" }, make("span", {}, title), this.bar, this.words,
-      button("Cancel", () => this.cancel(), { className: "small" }));
+      button(t.cancel, () => this.cancel(), { className: "small" }));
     this.add(0);
   }
 
   cancel() {
     this.isCancelled = true;
-    this.words.textContent = "ends …";
+    this.words.textContent = t.ends;
   }
 
   check() {
@@ -45,7 +43,7 @@ class Transfer {
   add(count) {
     this.done += count;
     this.bar.value = this.done;
-    if (!this.isCancelled) this.words.textContent = `${this.unit(this.done)} of ${this.unit(this.total)}`;
+    if (!this.isCancelled) this.words.textContent = t.ofAll(this.unit(this.done), this.unit(this.total));
   }
 
   note(words) {
@@ -60,11 +58,9 @@ class Transfer {
   /** Somebody else wrote a version meanwhile, and its pieces have that owner, where that may be seen: true to put this
    * one in its place, the path of a copy, or null. */
   async overtaken(path, owner) {
-    const whose = owner ? ` What is in it belongs to ${owner}.` : "";
-    const chosen = await ask({ title: `Somebody else wrote ${shown(lastName(path))} meanwhile`, does: "Put mine there",
-      words: make("p", {}, `A new version came while yours was under way.${whose}`),
-      others: [{ words: "Keep mine as a copy", value: "copy" }] });
-    return chosen === "copy" ? inFolder(folderOf(path), withMark(lastName(path), `copy of ${this.app.user}`)) : chosen;
+    const chosen = await ask({ title: t.overtaken(shown(lastName(path))), does: t.putMine,
+      words: make("p", {}, t.newerCame(owner)), others: [{ words: t.keepCopy, value: "copy" }] });
+    return chosen === "copy" ? inFolder(folderOf(path), withMark(lastName(path), t.copyOf(this.app.user))) : chosen;
   }
 }
 
@@ -78,7 +74,7 @@ export async function transferring(app, title, how, task) {
     words = await task(it);
     settle(it.about);
   } catch (fault) {
-    if (fault instanceof Cancelled) words = `${title}: cancelled.`;
+    if (fault instanceof Cancelled) words = t.cancelled(title);
     else it.fail(fault.message);
   } finally {
     unwatch();

@@ -1,58 +1,52 @@
-/** The trash: what was removed lies in /trash/USER, where that is there (docs/FILES.md has the names). */
-import { ACCESS, EXIST, NOENT, forEach, isRefused, orElse } from "./files.js";
+/** The trash: what was removed lies in a folder of the user's own in /trash, where there is one (docs/FILES.md). */
+import { fromText } from "./bytes.js";
+import { EXIST, FOLDER_FULL, TOO_DEEP, isRefused } from "./codes.js";
+import { isPrivate } from "./lists.js";
 import { shown } from "./names.js";
-import { MOST_THINGS, ROOT, folderOf, inFolder, lastName, namesOf, pathFault } from "./places.js";
-import { ADD_FOLDER, ALL, FOLDER, VIEW } from "./rights.js";
+import { ROOT, folderOf, inFolder, isWithin, lastName, nameFault, namesOf, pathFault } from "./places.js";
+import { FOLDER } from "./rights.js";
+import { language, t } from "./words.js";
 
-export const TRASH = "/trash";
+const TRASH = "/trash";
 const MOST_NAME = 64; // bytes
-const PROTECTED = 2; // a list that takes over nothing
-const HANDED_DOWN = 3; // to documents and folders
 
-export const pathOfTrash = ({ user }) => inFolder(TRASH, user);
-
-/** The user's own trash, where there is one that they may look at. */
-export async function trashOf(app) {
-  const path = pathOfTrash(app);
-  return (await app.room.asideIfAllowed("STAT", path))?.kind === FOLDER ? path : null;
+/** (A folder holds 256 things, and a room has up to 1,000 users.) */
+function partOf(user) {
+  const sum = [...user].reduce((before, letter) => before + letter.charCodeAt(0), 0);
+  return `@${(sum % 16).toString(16)}`;
 }
 
-/** Whether the user may make one: who may make folders where they lie, or where that folder would. */
-export async function mayMakeTrash({ room }) {
-  const asked = (path) => room.aside("ACCESS", path, { mask: ADD_FOLDER });
-  try {
-    return (await orElse(asked(TRASH), null, NOENT) ?? await asked(ROOT)).allowed !== 0;
-  } catch (fault) {
-    if (isRefused(fault, ACCESS)) return false;
-    throw fault;
+/** Where a user's trash is, and where it was in rooms of before. */
+const placesFor = (user) => [inFolder(TRASH, partOf(user), user), inFolder(TRASH, user)];
+
+/** Whether a path is in /trash, or that. */
+export const isInTrash = (path) => isWithin(path, TRASH);
+
+/** Whether it is where somebody's trash is. */
+export const isTrash = (path) => isInTrash(path) && placesFor(lastName(path)).includes(path);
+export const isOwnTrash = ({ user }, path) => placesFor(user).includes(path);
+
+/** The user's trash as `path`, where there is one; or in words as `fault` that somebody else owns it. */
+export async function ownTrash({ room, user }) {
+  for (const path of placesFor(user)) {
+    const its = await room.asideIfAllowed("STAT", path);
+    if (its?.kind === FOLDER) return its.owner === user ? { path } : { fault: t.foreignTrash(path, its.owner) };
   }
+  return {};
 }
 
-const setAlone = (room, path, entries) => room.aside("SETLIST", path, { aclflag: PROTECTED, entries });
-
-/** Of that user alone. What was stopped before its list was set has none. */
-async function makeFor(room, who) {
-  const path = inFolder(TRASH, who);
-  const isMade = await orElse(room.aside("MKDIR", path), null, EXIST);
-  const isBare = isMade || (await room.asideIfAllowed("GETLIST", path))?.entries.length === 0;
-  if (isBare) await setAlone(room, path, [{ type: 0, flag: HANDED_DOWN, mask: ALL, who }]);
-}
-
-/** Makes one for each user of the roster that has none, in a folder where nobody else makes any. The user's own. */
-export async function makeTrash({ room, user }) {
-  const isMade = await orElse(room.aside("MKDIR", TRASH), null, EXIST);
-  const here = (who, mask) => ({ type: 0, flag: 0, mask, who });
-  if (isMade) await setAlone(room, TRASH, [here("OWNER@", ALL), here("EVERYONE@", VIEW)]);
-  const users = new Set([user, ...Object.keys(await room.users() ?? {})]);
-  await forEach([...users].slice(0, MOST_THINGS), (who) => makeFor(room, who));
-  return pathOfTrash({ user });
+/** As `ownTrash`, for what is to be removed: also a `fault` where its list lets others read what comes into it. */
+export async function trashOf({ room, user }) {
+  const its = await ownTrash({ room, user });
+  if (!its.path || isPrivate(await room.aside("GETLIST", its.path), user)) return its;
+  return { fault: t.openTrash(its.path) };
 }
 
 /** It tells where it came from, as far as a name has room; the command `room` gives it its place back by that. */
 function nameInTrash(path, now) {
   const stamp = now.toISOString().replace(/[^0-9]/g, "").slice(0, 14);
   const [name, ...folders] = [lastName(path), ...namesOf(folderOf(path))];
-  const bytes = (it) => new TextEncoder().encode(it).length;
+  const bytes = (it) => fromText(it).length;
   const whole = [name, ...folders, stamp].join("~");
   if (bytes(whole) <= MOST_NAME && !/[~…]/.test(path)) return whole;
   const end = `~…~${stamp}`;
@@ -64,19 +58,17 @@ function nameInTrash(path, now) {
 }
 
 /** What to do where the trash is what does not take it, by the room's code. */
-const NOT_TAKEN = {
-  10: "In the trash something of it would have more than 16 names in its path. Move it higher first, or remove it " +
-    "for good.",
-  11: `The trash is full: it has ${MOST_THINGS} things in it. Empty it, or remove this for good.`,
-};
+const NOT_TAKEN = { [TOO_DEEP]: t.trashDeep, [FOLDER_FULL]: t.trashFull };
 
+/** Where it is then. */
 export async function toTrash(room, path, trash) {
   for (let more = 0; ; more += 1) {
-    const name = nameInTrash(path, new Date(Date.now() + more * 1_000));
+    const to = inFolder(trash, nameInTrash(path, new Date(Date.now() + more * 1_000)));
     try {
-      return await room.run("RENAME", path, { to: inFolder(trash, name) });
+      await room.run("RENAME", path, { to });
+      return to;
     } catch (fault) {
-      if (isRefused(fault, 10, 11)) throw new Error(NOT_TAKEN[fault.code]);
+      if (isRefused(fault, TOO_DEEP, FOLDER_FULL)) throw new Error(NOT_TAKEN[fault.code]);
       if (!isRefused(fault, EXIST) || more === 30) throw fault;
     }
   }
@@ -92,8 +84,11 @@ function timeOf(stamp) {
 export function toldBy(path) {
   const parts = lastName(path).split("~");
   const when = timeOf(parts.pop());
-  if (folderOf(folderOf(path)) !== TRASH || !when || parts.length === 0) return null;
-  if (parts.length > 1 && parts.at(-1) === "…") return { name: parts.slice(0, -1).join("~"), place: null, when };
+  if (!isTrash(folderOf(path)) || !when || parts.length === 0) return null;
+  if (parts.length > 1 && parts.at(-1) === "…") {
+    const name = parts.slice(0, -1).join("~");
+    return nameFault(name) ? null : { name, place: null, when };
+  }
   const place = inFolder(ROOT, ...parts.slice(1), parts[0]);
   return path.includes("…") || pathFault(place) ? null : { name: parts[0], place, when };
 }
@@ -107,7 +102,6 @@ export const calledAt = (path) => shown(toldBy(path)?.name ?? path);
 /** Where it was, and since when it is in a trash, in words, or nothing. */
 export function beforeWords(path) {
   const its = toldBy(path);
-  const where = its?.place ? `was in ${shown(folderOf(its.place))}, ` : "";
-  const when = its?.when.toLocaleString(undefined, { dateStyle: "medium", timeStyle: "short" });
-  return its ? `${where}removed ${when}` : "";
+  const when = its?.when.toLocaleString(language, { dateStyle: "medium", timeStyle: "short" });
+  return its ? t.wasIn(its.place && shown(folderOf(its.place)), when) : "";
 }

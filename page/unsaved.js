@@ -14,9 +14,7 @@ export const watch = (look) => added(typed, look);
 
 /** As `watch`, for what goes on in other places of the page and ends with it alone. */
 export const watchEnd = (look) => added(running, look);
-
 const some = (looks) => [...looks].some((it) => it());
-
 export const isUnsaved = () => !isEnding && some(typed);
 
 /** The page ends by itself, and nobody is asked. */

@@ -1,26 +1,26 @@
 /** Files and folders of the user's disk go into the room. */
+import { MOST_BYTES } from "./bytes.js";
+import { EXIST, orElse } from "./codes.js";
 import { ask } from "./dialogs.js";
 import { button, make } from "./dom.js";
-import { EXIST, NOBODY, forEach, orElse, readFile, writeFile } from "./files.js";
-import { sizeFault } from "./manifest.js";
+import { readFile, writeCopy, writeFile } from "./files.js";
+import { DEEPEST, sizeFault } from "./manifest.js";
 import { clean, shown } from "./names.js";
+import { makeLike, mayOverflow } from "./overflow.js";
+import { pickFiles } from "./pick.js";
 import { settle, tellFault } from "./notices.js";
-import { MOST_THINGS, folderOf, inFolder, lastName, nameFault, namesOf, withMark } from "./places.js";
-import { plural, sizeWords, transferring } from "./transfers.js";
+import { MAX_NAMES, MOST_THINGS, folderOf, inFolder, isTooLong, lastName, nameFault, namesOf, shortened,
+  withMark } from "./places.js";
+import { forEach } from "./room.js";
+import { sizeWords, transferring } from "./transfers.js";
+import { t } from "./words.js";
 
 const MOST_TOLD = 10; // of many names or faults
 const AT_ONCE = 3; // files; the pieces of each go beside each other too
 
-/** A button by which the user chooses files, or with `isFolder` a folder; `chosen` gets them, each `{names, file}`. */
-export function filesButton(words, { isFolder = false, isOne = false }, chosen) {
-  const field = make("input", { type: "file", multiple: !isOne, hidden: true, "aria-label": words });
-  field.webkitdirectory = isFolder;
-  field.onchange = () => {
-    const files = [...field.files].map((file) => ({ names: (file.webkitRelativePath || file.name).split("/"), file }));
-    field.value = ""; // (so that the same file can be chosen again)
-    chosen(files);
-  };
-  return make("span", {}, button(words, () => field.click()), field);
+export function filesButton(words, how, chosen, label = words) {
+  const { field, click } = pickFiles(label, how, chosen);
+  return make("span", {}, button(words, click, { "aria-label": label }), field);
 }
 
 /** What an entry of a drop has in it: files, and folders with `file` null. */
@@ -35,7 +35,6 @@ async function within(entry, above = []) {
   }
 }
 
-/** What was dropped. */
 export async function dropped(data) {
   const items = [...data.items].filter((it) => it.kind === "file");
   const entries = items.map((it) => it.webkitGetAsEntry() ?? it.getAsFile());
@@ -44,45 +43,66 @@ export async function dropped(data) {
   return found.flat();
 }
 
-/** Why one of them cannot be sent, before anything is. */
-function faultOf({ names, file }) {
-  const fault = names.map(clean).map(nameFault).find((it) => it !== "");
-  if (fault) return `${shown(names.join("/"))}: ${fault}`;
+/** Why one of them cannot be sent into that folder, before anything is. */
+function faultOf({ names, file }, folder) {
+  const depth = namesOf(folder).length + names.length;
+  const fault = names.map(clean).map(nameFault).find((it) => it !== "") || (depth > MAX_NAMES ? t.pathLong(MAX_NAMES) :
+    file?.size > MOST_BYTES && depth > DEEPEST ? t.tooDeep : "");
+  if (fault) return t.about(shown(names.join("/")), fault);
   const its = sizeFault(file?.size ?? 0);
   return its ? `${shown(names.join("/"))} ${its}.` : "";
 }
 
+/** The same with names that the room takes: two that are alike then are told apart by a number. */
+function withShorter(chosen) {
+  const taken = new Map();
+  const shorter = (above, name) => {
+    if (!isTooLong(clean(name))) return name;
+    const key = [...above, name].join("/");
+    for (let count = 1; !taken.has(key); count += 1) {
+      const its = count > 1 ? withMark(clean(name), String(count)) : shortened(clean(name));
+      if (![...taken.values()].includes([...above, its].join("/"))) taken.set(key, [...above, its].join("/"));
+    }
+    return taken.get(key).split("/").at(-1);
+  };
+  return chosen.map(({ names, file }) => ({ names: names.map((it, at) => shorter(names.slice(0, at), it)), file }));
+}
+
 /** What an upload to these paths is, among all that is done. */
 const aboutOf = (room, ...paths) => `upload ${room.name} ${paths.join(" ")}`;
-
 const goalOf = (folder, names) => inFolder(folder, ...names.map(clean));
 
 /** Those that can be sent. Where some cannot, it is said why, and asked whether the others shall go. */
 async function fitting(app, folder, chosen) {
-  const faults = chosen.map(faultOf);
+  const faults = chosen.map((it) => faultOf(it, folder));
   const fit = chosen.filter((_, at) => faults[at] === "");
   const told = faults.filter((it) => it !== "");
   if (told.length === 0) return fit;
-  if (chosen.length === 1) {
-    tellFault(`${told[0]} Nothing was sent.`, aboutOf(app.room, goalOf(folder, chosen[0].names)));
+  const isLong = chosen.some(({ names }) => names.some((it) => isTooLong(clean(it))));
+  if (chosen.length === 1 && !isLong) {
+    tellFault(t.nothingSent(told[0]), aboutOf(app.room, goalOf(folder, chosen[0].names)));
     return [];
   }
-  const isWanted = await ask({ title: `${told.length} of ${chosen.length} cannot be uploaded`, words: listed(told),
-    does: fit.length ? `Upload the other ${fit.length}` : "Close" });
-  return isWanted ? fit : [];
+  const others = fit.length ? { words: t.uploadOthers(fit.length), value: "fit" } : null;
+  const shorter = isLong ? { words: t.uploadShorter, value: "shorter" } : null;
+  const [first, ...rest] = [shorter, others].filter((it) => it);
+  const answer = await ask({ title: t.cannotUpload(told.length, chosen.length), words: listed(told), others: rest,
+    does: first?.words ?? t.close });
+  if (!answer || !first) return [];
+  return (answer === true ? first.value : answer) === "fit" ? fit : fitting(app, folder, withShorter(chosen));
 }
 
 /** Some of many words, and how many more there are. */
 function listed(words) {
-  const more = words.length > MOST_TOLD ? [make("p", {}, `and ${words.length - MOST_TOLD} more.`)] : [];
+  const more = words.length > MOST_TOLD ? [make("p", {}, t.andMore(words.length - MOST_TOLD))] : [];
   return [make("ul", {}, ...words.slice(0, MOST_TOLD).map((it) => make("li", {}, it))), ...more];
 }
 
 /** Asks what to do with names that are there already: true to replace them, "both", "skip", or null. */
 function askAbout(clashes) {
-  return ask({ title: clashes.length === 1 ? "This is there already" : "These are there already",
-    words: listed(clashes.map(shown)), does: "Replace what is there",
-    others: [{ words: "Keep both", value: "both" }, { words: "Leave these out", value: "skip" }] });
+  return ask({ title: t.thereAlready(clashes.length),
+    words: listed(clashes.map(shown)), does: t.replaceThere,
+    others: [{ words: t.keepBoth, value: "both" }, { words: t.leaveOut, value: "skip" }] });
 }
 
 /** The names that are in each folder, asked once. */
@@ -101,13 +121,15 @@ class Folders {
     return new Set((reply?.names ?? []).map(([name]) => name));
   }
 
-  /** A name that is free there, and taken from now on. */
-  async free(path) {
+  /** A path that is free there, and not among those that are taken, as it is from now on. */
+  async free(path, taken = new Set()) {
     const names = await this.names(folderOf(path));
-    let name = lastName(path);
-    for (let count = 2; names.has(name); count += 1) name = withMark(lastName(path), String(count));
-    names.add(name);
-    return inFolder(folderOf(path), name);
+    let its = path;
+    for (let count = 2; names.has(lastName(its)) || taken.has(its); count += 1) {
+      its = inFolder(folderOf(path), withMark(lastName(path), String(count)));
+    }
+    taken.add(its);
+    return its;
   }
 }
 
@@ -133,8 +155,8 @@ function foldersOf(wanted, folder) {
   return [...found].sort((a, b) => namesOf(a).length - namesOf(b).length);
 }
 
-/** Where folders would have more in them than they may, it is asked whether as much shall go as fits. */
-async function mayOverflow(wanted, folder, folders) {
+/** Each folder that would have more in it than it may, with its names. */
+async function overfull(wanted, folder, folders) {
   const inside = new Map();
   const paths = [...foldersOf(wanted, folder), ...wanted.filter((it) => it.file).map((it) => it.path)];
   for (const path of paths) {
@@ -142,25 +164,23 @@ async function mayOverflow(wanted, folder, folders) {
     if (!inside.has(above)) inside.set(above, new Set(await folders.names(above)));
     inside.get(above).add(lastName(path));
   }
-  const over = [...inside].filter(([, names]) => names.size > MOST_THINGS);
-  const most = `${MOST_THINGS} are the most.`;
-  const words = over.map(([path, names]) => `${shown(path)} would have ${names.size} things in it; ${most}`);
-  return words.length === 0 || ask({ title: "Too many for one folder", words: listed(words),
-    does: "Upload what fits" });
+  return [...inside].filter(([, names]) => names.size > MOST_THINGS);
 }
 
 /** What became of what was there before these, in words. */
 function beforeWords(replaced) {
   const [one, ...others] = replaced;
   if (!one) return "";
-  const what = others.length ? `${replaced.length} of them` : shown(lastName(one.path));
-  const kept = one.kept ? `kept as ${shown(lastName(one.kept))}` : "not kept";
-  return ` ${what} took the place of what was there, which is ${kept}.`;
+  const what = others.length ? t.countOf(replaced.length) : shown(lastName(one.path));
+  return t.tookPlace(what, one.kept && shown(lastName(one.kept)));
 }
 
 async function sendAll(app, transfer, wanted, folder) {
   const { room } = app;
+  const likes = wanted.beside ?? [];
+  for (const { goal, like } of likes.filter((it) => it.like === folder)) await makeLike(room, goal, like);
   for (const path of foldersOf(wanted, folder)) await orElse(room.step("MKDIR", path), null, EXIST);
+  for (const { goal, like } of likes.filter((it) => it.like !== folder)) await makeLike(room, goal, like);
   const [start, files, isOne] = [performance.now(), wanted.filter((it) => it.file), wanted.length === 1];
   const replaced = [];
   let [count, size] = [0, 0];
@@ -174,15 +194,14 @@ async function sendAll(app, transfer, wanted, folder) {
       if (it.replaces && at === path) replaced.push(it); // (else it lies beside somebody else's newer one)
     } catch (fault) {
       transfer.check();
-      transfer.fail(isOne ? fault.message : `${shown(path)}: ${fault.message}`, aboutOf(room, path));
+      transfer.fail(isOne ? fault.message : t.about(shown(path), fault.message), aboutOf(room, path));
     }
   }, AT_ONCE);
   const failed = files.length - count;
-  if (failed && !isOne) transfer.title = `${failed} of ${plural(files.length, "file")} failed`;
+  if (failed && !isOne) transfer.title = t.someFailed(failed, files.length);
   if (failed && count === 0) return "";
   const seconds = (performance.now() - start) / 1_000;
-  const words = `${plural(count, "file")} uploaded: ${sizeWords(size)} in ${seconds.toFixed(1)} seconds.`;
-  return words + beforeWords(replaced);
+  return t.uploaded(count, sizeWords(size), seconds.toFixed(1)) + beforeWords(replaced);
 }
 
 /** What is to be sent of what was chosen, and how, by the user's word. */
@@ -194,46 +213,47 @@ async function wantedOf(app, folder, chosen) {
   const answer = clashes.length ? await askAbout(clashes.map((it) => it.path)) : true;
   if (answer === null) return [];
   if (answer === "skip") wanted = wanted.filter((it) => !clashes.includes(it));
+  const taken = new Set(wanted.map((it) => it.path));
   for (const it of clashes) {
-    if (answer === "both") it.path = await folders.free(it.path);
+    if (answer === "both") it.path = await folders.free(it.path, taken);
     else Object.assign(it, { isNew: false, replaces: true });
   }
-  return wanted.length && await mayOverflow(wanted, folder, folders) ? wanted : [];
+  const over = await overfull(wanted, folder, folders);
+  return over.length === 0 || await mayOverflow(over, wanted, folders) ? wanted : [];
 }
 
-/** Uploads what was chosen or dropped into the folder. */
 export async function upload(app, folder, chosen) {
   try {
     const wanted = await wantedOf(app, folder, chosen);
     if (wanted.length) await start(app, wanted, folder);
   } catch (fault) {
-    tellFault(`Upload to ${shown(folder)}: ${fault.message}`);
+    tellFault(t.about(t.uploadTo(shown(folder)), fault.message));
   }
 }
 
 /** Makes a copy of a file beside it, before it is replaced. Its path. */
 async function keepOld(room, path) {
   const day = new Date().toISOString().slice(0, 10);
-  const beside = await freePath(room, inFolder(folderOf(path), withMark(lastName(path), `before ${day}`)));
-  return writeFile(room, beside, await readFile(room, path), NOBODY, true);
+  const beside = await freePath(room, inFolder(folderOf(path), withMark(lastName(path), t.before(day))));
+  return writeCopy(room, path, beside, await readFile(room, path));
 }
 
 /** Asks whether a file shall take the place of what is there. Whether it may; `kept` of it is where the old one is. */
 function askToReplace(app, wanted, mayKeep) {
   const { path, file } = wanted;
-  const words = `${shown(file.name)} (${sizeWords(file.size)}) takes the place of what is there, which is gone then.`;
-  const kept = { words: "Keep the old one too", value: true, task: async () => {
+  const words = t.takesPlace(shown(file.name), sizeWords(file.size));
+  const kept = { words: t.keepOld, value: true, task: async () => {
     wanted.kept = await keepOld(app.room, path);
   } };
-  return ask({ title: `Replace ${shown(lastName(path))}?`, does: "Replace it", words: make("p", {}, words),
+  return ask({ title: t.replaceTitle(shown(lastName(path))), does: t.replaceIt, words: make("p", {}, words),
     others: mayKeep ? [kept] : [] });
 }
 
 /** A new version of one file. `replaces` is null where nothing whole is there yet; `mayKeep` of it tells whether a copy
  * may lie beside it. */
 export async function newVersion(app, path, [it], replaces) {
-  const fault = faultOf({ ...it, names: [lastName(path)] });
-  if (fault) return tellFault(`${fault} Nothing was sent.`, aboutOf(app.room, path));
+  const fault = faultOf({ ...it, names: [lastName(path)] }, folderOf(path));
+  if (fault) return tellFault(t.nothingSent(fault), aboutOf(app.room, path));
   const wanted = { path, file: it.file, isNew: false, replaces: replaces !== null };
   if (replaces && !await askToReplace(app, wanted, replaces.mayKeep)) return;
   await start(app, [wanted], folderOf(path));
@@ -241,7 +261,7 @@ export async function newVersion(app, path, [it], replaces) {
 
 function start(app, wanted, folder) {
   const total = wanted.reduce((sum, { file }) => sum + (file?.size ?? 0), 0);
-  const title = wanted.length === 1 ? `Upload of ${shown(lastName(wanted[0].path))}` : `Upload of ${wanted.length}`;
+  const title = t.uploadOf(wanted.length === 1 ? shown(lastName(wanted[0].path)) : wanted.length);
   const about = aboutOf(app.room, ...wanted.map((it) => it.path));
   return transferring(app, title, { total, about }, (it) => sendAll(app, it, wanted, folder));
 }

@@ -1,4 +1,5 @@
 /** One exchange with the room, and the same again until it is answered. */
+import { t } from "./words.js";
 
 const WAIT = 30_000; // milliseconds for an answer
 const DELAY = 30; // the code of 'later': the message did nothing
@@ -13,12 +14,16 @@ async function turn() {
   if (ready > now) await new Promise((goOn) => setTimeout(goOn, ready - now));
 }
 
-/** No answer of the room came. Whether it acted is not known, and the very same message may be sent again. */
-export class NoAnswer extends Error {}
-
-function isReply(it) {
-  return typeof it === "object" && it !== null && Number.isInteger(it.code);
+/** No answer of the room came. Whether it acted is not known, and the very same message may be sent again; `isShut`:
+ * not before somebody has logged in again, since each wrong login counts as a guess. */
+class NoAnswer extends Error {
+  constructor(words, isShut = false) {
+    super(words);
+    this.isShut = isShut;
+  }
 }
+
+const isReply = (it) => typeof it === "object" && it !== null && Number.isInteger(it.code);
 
 function readReply(text) {
   try {
@@ -30,11 +35,11 @@ function readReply(text) {
 }
 
 function whyNoReply(status) {
-  if (status === 401) return "The login is not accepted any more. Log in again in another tab, or reload this page.";
-  if (status === 404) return "The front knows this room no more.";
-  if (status === 429) return "That is more than the front lets through at once.";
-  if (status >= 500) return "The room is busy, or is being started again.";
-  return `The front answers with status ${status}.`;
+  if (status === 401) return t.loginGone;
+  if (status === 404) return t.roomGone;
+  if (status === 429) return t.tooMuch;
+  if (status >= 500) return t.restarting;
+  return t.status(status);
 }
 
 async function fetchText(url, how) {
@@ -44,7 +49,7 @@ async function fetchText(url, how) {
     const answer = await fetch(whole, { ...rules, ...how, signal: AbortSignal.timeout(WAIT) });
     return { status: answer.status, text: await answer.text() };
   } catch {
-    throw new NoAnswer("The room cannot be reached.");
+    throw new NoAnswer(t.unreachable);
   }
 }
 
@@ -53,8 +58,8 @@ async function exchange(url, body) {
   const headers = { "content-type": "application/json" };
   const { status, text } = await fetchText(url, { method: "POST", headers, body });
   const reply = readReply(text);
-  if (reply === null) throw new NoAnswer(whyNoReply(status));
-  if (reply.code === DELAY) throw new NoAnswer("The room is busy.");
+  if (reply === null) throw new NoAnswer(whyNoReply(status), status === 401);
+  if (reply.code === DELAY) throw new NoAnswer(t.busy);
   return reply;
 }
 
@@ -67,7 +72,7 @@ export async function untilAnswered(url, body, patience, before = () => {}) {
       await turn();
       const reply = await exchange(url, body).catch(noAnswer);
       if (!(reply instanceof NoAnswer)) return reply;
-      await waiting.wait(reply.message, times);
+      await waiting.wait(reply.message, times, reply.isShut);
     }
   } finally {
     waiting.over();

@@ -1,5 +1,6 @@
 /** A zip of stored files, made in the browser (PKWARE's APPNOTE, sections 4.3 to 4.5). */
 import { fromText } from "./bytes.js";
+import { t } from "./words.js";
 
 const UTF8 = 0x800; // names are UTF-8
 const VERSION = 20;
@@ -9,7 +10,6 @@ const TABLE = Uint32Array.from({ length: 256 }, (_, at) => {
   return it;
 });
 
-/** CRC-32, as zip has it. */
 export function crcOf(bytes) {
   let crc = 0xffffffff;
   for (const it of bytes) crc = TABLE[(crc ^ it) & 0xff] ^ (crc >>> 8);
@@ -40,7 +40,7 @@ export class Zip {
     for (const it of parts) this.size += it.length;
     // (a blob, so that the browser may keep it elsewhere than in memory)
     this.parts.push(new Blob(parts));
-    if (this.size > 0xfffff000 || this.count > 0xfff0) throw new Error("This is more than a zip can hold.");
+    if (this.size > 0xfffff000 || this.count > 0xfff0) throw new Error(t.zipFull);
   }
 
   /** A file, or where the name ends with / a folder. */
@@ -55,7 +55,6 @@ export class Zip {
     this.#put(numbers([4, 0x04034b50], ...common), text, bytes);
   }
 
-  /** The whole. */
   end() {
     const [start, count] = [this.size, this.count];
     this.#put(...this.index);

@@ -13,7 +13,8 @@ from served import end_with_parent, free_port, started_here
 WAIT = 600  # seconds for what a page shows: no time that it is to keep, but one after which it never comes
 ANSWER = 600  # seconds for a step of the browser, its start included: the same
 ELEMENT = "element-6066-11e4-a52e-4f735466cecf"  # the key of an element's name, fixed by WebDriver
-KEYS = {"tab": "\ue004", "enter": "\ue007", "escape": "\ue00c", "space": "\ue00d"}
+KEYS = {"tab": "\ue004", "enter": "\ue007", "escape": "\ue00c", "space": "\ue00d", "end": "\ue010", "home": "\ue011",
+        "left": "\ue012", "up": "\ue013", "right": "\ue014", "down": "\ue015", "delete": "\ue017", "f2": "\ue032"}
 
 
 def start_driver(port, folder):

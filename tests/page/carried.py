@@ -7,7 +7,7 @@ import re
 import subprocess
 
 from browser import WAIT
-from club import choose
+from club import choose, make_trash
 from served import HERE
 from typed import ASKED
 
@@ -67,8 +67,11 @@ def saved(club, name, count=1):
 
 
 def row(browser, name):
-    return browser.script("return [...document.querySelectorAll('.things tr')].find((it) => "
-                          "it.querySelector('bdi').textContent === arguments[0])?.innerText ?? ''", name)
+    """What a row tells, a line each: its name, its size, its kind."""
+    cells = ("const row = [...document.querySelectorAll('.things tbody tr')].find((it) => it.querySelector('bdi')"
+             ".textContent === arguments[0]); return ['th > div', '.size', '.kind'].map((it) => row?.querySelector(it)"
+             ".innerText ?? '').join('\\n')")
+    return browser.script(cells, name)
 
 
 def sizes(club, differs):
@@ -99,7 +102,7 @@ def sizes(club, differs):
     both = on_disk(club, "too large", bytes(16 * MIB + 1)), on_disk(club, long_name, b"x")
     put(club, "/big", *both)
     browser.sees("2 of 2 cannot be uploaded", "dialog")
-    browser.press("Close", "//dialog[@open]")
+    browser.press("Cancel", "//dialog[@open]")
     differs("nothing was sent of it", [it for it in club.lossy.bodies[sent:] if b"CREATE" in it or b"MKDIR" in it], [])
     put(club, "/big", *both, on_disk(club, "fits", b"fits"))
     browser.sees("2 of 3 cannot be uploaded", "dialog")
@@ -313,7 +316,8 @@ def drops(club, differs):
 
 
 def too_many(club, differs):
-    """More than a folder holds is told before anything is sent; as much goes as fits, and the rest is told."""
+    """More than a folder holds is told before anything is sent; as much goes as fits and the rest is told in one line,
+    or goes into another folder of the same list."""
     browser = club.browser
     for count in range(250):
         on_disk(club, f"many/{count}", b"")
@@ -328,9 +332,19 @@ def too_many(club, differs):
     put(club, "/full", *files)
     browser.press("Upload what fits")
     browser.sees("14 of 250 files failed:", "#notices")
+    differs("in one line", browser.shown().count("The folder is full"), 0)
+    browser.act("//*[@id='notices']//summary", "click")
     differs("each is told", browser.shown().count("The folder is full"), 14)
     browser.press("Close", "//*[@id='notices']/*[contains(., 'failed')]")
     differs("what fits", len(club.names("/full")), 256)
+    own = [{"type": 0, "flag": 3, "mask": 0x1200A9, "who": "eve"}]
+    club.holds({"cmd": "SETLIST", "path": "/full", "aclflag": 1, "entries": own})
+    put(club, "/full", *(on_disk(club, f"more/{count}", b"") for count in range(400, 410)))
+    browser.press("Put the rest into full (2)")
+    browser.sees("10 files uploaded", "#notices")
+    differs("the rest", sorted(club.names("/full (2)")), [str(it) for it in range(400, 410)])
+    differs("its list", [it for it in club.holds({"cmd": "GETLIST", "path": "/full (2)"})["entries"]
+                         if not it["flag"] & 0x80], own)
 
 
 def both_ways(club, differs):
@@ -348,8 +362,7 @@ def both_ways(club, differs):
     browser.sees("192 KiB, owner ann", "main")
     browser.press("Download")
     differs("the page gets it", saved(club, "by the page") == theirs, True)
-    for path in "/trash", "/trash/ann":
-        club.holds({"cmd": "MKDIR", "path": path})
+    make_trash(club)
     browser.press("Remove")
     browser.press("Remove", "//dialog[@open]")
     browser.sees("is in the trash", "#notices")
@@ -360,7 +373,8 @@ def both_ways(club, differs):
 
 
 def of_somebody_else(club, differs):
-    """Who writes a new version of another's file gives it to its owner, who may have no right on what is theirs not."""
+    """Who writes a new version of another's file gives it to its owner, who may have no right on what is theirs not.
+    What another began is nobody else's to end."""
     browser = club.browser
     change = {"type": 0, "flag": 3, "mask": 0x1301EF, "who": "eve"}
     alone = {"aclflag": 2, "entries": [{"type": 0, "flag": 3, "mask": 0x1F07FF, "who": "OWNER@"}, change]}
@@ -376,7 +390,12 @@ def of_somebody_else(club, differs):
         path = f"/ours/{name}"
         club.go(f"#open/club{path}")
         file = on_disk(club, "of eve", data)
-        choose(browser, "Upload a new version", file) if name == "stopped" else replace(browser, file)
+        if name == "stopped":
+            browser.sees("Upload a new version")
+            choose(browser, "Upload a new version", file)
+            browser.sees("stopped is an unfinished upload of ann, and others could read what you put", "#notices")
+            continue
+        replace(browser, file)
         browser.sees("1 file uploaded", "#notices")
         differs(f"ann reads what eve wrote: {name}", held(club, path) == data, True)
         inside = [f"{path}/{it}" for it in names_at(club, path)]

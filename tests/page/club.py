@@ -43,13 +43,14 @@ class Club:
         # (an address that is new to the browser: a page from its cache would ask for no password)
         self.logins += 1
         self.browser.go(self.address(f"?{self.logins}", user))
-        self.browser.sees(f"You are {user}.")
+        self.browser.sees(user, "#user")
 
     def go(self, place):
         """Goes to a place of the page, and waits until it is shown."""
         self.browser.go(self.address(place))
         shown = "return document.querySelector('main').dataset.place === arguments[0]"
         self.browser.until(place, lambda: self.browser.script(shown, place))
+        self.browser.script("document.querySelector('.exceptions')?.setAttribute('open', '')")
 
     def holds(self, command, user="ann"):
         """What the room itself answers, asked past the page."""
@@ -78,16 +79,71 @@ class Club:
         return [name for name, _ in self.holds({"cmd": "LIST", "path": path})["names"]]
 
 
+MENU = "//*[@role='menu']"
+
+
+def make_new(browser, words):
+    """Chooses it in the menu of what can be made."""
+    browser.press("+ New")
+    browser.press(words, MENU)
+
+
+def by_menu(browser, name, words):
+    """Chooses it in the menu of a row."""
+    browser.press(f"More for {name}")
+    browser.press(words, MENU)
+
+
+def of_folder(browser, words):
+    """Chooses it in the menu of the folder that is shown."""
+    browser.act("//main//h1/button", "click")
+    browser.press(words, MENU)
+
+
+def of_user(browser, words):
+    """Chooses it in the menu of who is logged in."""
+    browser.act("//*[@id='user']", "click")
+    browser.press(words, MENU)
+
+
+def offers(browser):
+    """The words of the menu that is open, without its links."""
+    browser.until("a menu", lambda: browser.find(MENU))
+    return browser.script("return [...document.querySelectorAll('[role=menu] button')].map((it) => it.textContent)")
+
+
+def to_folder(browser, name):
+    """Chooses a folder in the tree of the dialog, once that is open as far as it opens by itself."""
+    at_rest = ("return document.querySelector('dialog .tree [aria-selected=true]') && "
+               "!document.querySelector('.tree [aria-busy]')")
+    browser.until("the tree", lambda: browser.script(at_rest))
+    browser.act(f"//dialog[@open]//*[@role='treeitem']/span[normalize-space()='{name}']", "click")
+
+
 def make_document(browser, name, text):
-    browser.press("New document")
+    make_new(browser, "New document")
     browser.fill("Name", name)
     browser.fill("Text", text)
     browser.press("Make")
 
 
+def list_of_trash(user):
+    """As `fileroom-admin` makes it."""
+    return [{"type": 0, "flag": flag, "mask": 0x1F07FF, "who": it} for it, flag in (("OWNER@", 0), (user, 3))]
+
+
+def make_trash(club):
+    """One of ann's, where it was in rooms of before."""
+    for path in "/trash", "/trash/ann":
+        club.holds({"cmd": "MKDIR", "path": path})
+    club.holds({"cmd": "SETLIST", "path": "/trash/ann", "aclflag": 2, "entries": list_of_trash("ann")})
+
+
 def choose(browser, words, *paths):
     """Chooses files, or a folder, for the button of these words."""
     browser.script("document.getElementById('notices').replaceChildren()")
+    if words == "Upload a folder":
+        browser.press("+ New")
     browser.act(f"//main//input[@type='file' and @aria-label='{words}']", "value", {"text": "\n".join(paths)})
 
 

@@ -3,9 +3,13 @@ import io
 import re
 import zipfile
 import zlib
+from urllib.parse import quote
 
+import manifests
 from carried import NAME, PIECE, dice, held, names_at, on_disk, put, row, saved
-from club import USERS, set_list
+from club import MENU, USERS, by_menu, list_of_trash, make_trash, of_folder, offers, set_list, to_folder
+from room_client import trash
+from room_client.manifest import read_manifest
 
 ALL, EDIT, VIEW = 0x1F07FF, 0x1200AF, 0x1200A9
 # a picture of one red dot, and an SVG that would run
@@ -54,9 +58,8 @@ def wholes(club, differs):
     tree = {**TREE, "/t/sub/": None, "/t/sub/deep/": None, "/t/sub/large.bin": large}
     differs("the tree", below(club, "/t") == tree, True)
     club.go("#open/club")
-    browser.press("More for t")
-    browser.press("Copy t")
-    browser.press("other", "//dialog[@open]")
+    by_menu(browser, "t", "Copy")
+    to_folder(browser, "other")
     browser.sees("To the folder /other", "dialog")
     browser.press("Copy it there")
     browser.sees("/t is copied to /other/t.", "#notices")
@@ -71,7 +74,7 @@ def wholes(club, differs):
 def zipped(club, differs, tree):
     browser = club.browser
     club.go("#open/club/t")
-    browser.press("Download as zip")
+    of_folder(browser, "Download as zip")
     browser.sees("t.zip is made", "#notices")
     with zipfile.ZipFile(io.BytesIO(saved(club, "t.zip"))) as file:
         differs("its sums", file.testzip(), None)
@@ -89,9 +92,8 @@ def zipped(club, differs, tree):
 def search(club, differs):
     browser = club.browser
     club.go("#open/club/t")
-    browser.follow("Search")
-    browser.act("//main//input[@type='search']", "value", {"text": "LARGE"})
-    browser.press("Search", "//main")
+    browser.act("//header//input[@type='search']", "value", {"text": "LARGE"})
+    browser.keys("enter")
     browser.sees("That is all.", "main")
     found = "return [...document.querySelectorAll('.found li')].map((it) => it.textContent)"
     differs("found", browser.script(found), ["/t/sub/large.bin"])
@@ -107,10 +109,8 @@ def moved(club, differs, large):
     browser = club.browser
     club.go("#open/club/t/sub")
     browser.until("its size", lambda: "128 KiB" in row(browser, "large.bin"))
-    browser.press("More for large.bin")
-    browser.press("Move large.bin")
-    browser.press("One up", "//dialog[@open]")
-    browser.press("empty", "//dialog[@open]")
+    by_menu(browser, "large.bin", "Move")
+    to_folder(browser, "empty")
     browser.sees("To the folder /t/empty", "dialog")
     browser.fill("Name there", "moved.bin")
     browser.press("Move it there")
@@ -119,32 +119,43 @@ def moved(club, differs, large):
     differs("and here no more", "large.bin" in names_at(club, "/t/sub"), False)
 
 
+TRASH = trash.places_of("ann")[0]
+
+
+def make_trashes(club):
+    """A trash for each, in the place of what is there, as `fileroom-admin` makes them."""
+    for who in USERS:
+        top, part, _ = (path := trash.places_of(who)[0])[1:].split("/")
+        for it in f"/{top}", f"/{top}/{part}", path:
+            club.holds({"cmd": "MKDIR", "path": it})
+        club.holds({"cmd": "SETLIST", "path": path, "aclflag": 2, "entries": list_of_trash(who)})
+        club.holds({"cmd": "CHOWN", "path": path, "owner": who, "group": "eng"})
+
+
 def removed(club, differs):
     """For good where there is no trash; else to the trash, by a name that tells where it came from."""
     browser = club.browser
     club.go("#open/club/t")
-    browser.press("Remove", "//main")
+    of_folder(browser, "Remove")
     browser.sees("It cannot be brought back.", "dialog")
     differs("how much", browser.sees("With it go 5 documents and 3 folders that are in it.", "dialog"), True)
     browser.press("Remove", "//dialog[@open]")
     browser.sees("/t is removed.", "#notices")
     differs("it is gone", "t" in names_at(club, "/"), False)
-    club.holds({"cmd": "MKDIR", "path": "/trash"})
-    club.holds({"cmd": "MKDIR", "path": "/trash/ann"})
+    make_trash(club)
     club.go("#open/club/other")
-    browser.press("More for t")
-    browser.press("Remove t")
+    by_menu(browser, "t", "Remove")
     browser.sees("It goes to the trash, /trash/ann, and can be put back from there.", "dialog")
     browser.press("Remove", "//dialog[@open]")
     browser.sees("/other/t is in the trash.", "#notices")
     names = list(names_at(club, "/trash/ann"))
     differs("its name there", [bool(re.fullmatch(r"t~other~[0-9]{14}", it)) for it in names], [True])
     club.go("#open/club/trash/ann")
+    browser.until("how much is in it", lambda: " in it" in row(browser, "t"))
     told = row(browser, "t")
     differs("its name, where it was, and when", bool(re.fullmatch(
-        r"t\n+was in /other, removed .*20\d\d.*\d:\d\d.*\n+folder.*\n+⋯", told)) or told, True)
-    browser.press("More for t")
-    browser.press("Put back t")
+        r"t\n+was in /other, removed .*20\d\d.*\d:\d\d.*\n+.* in it\nFolder", told)) or told, True)
+    by_menu(browser, "t", "Put back")
     browser.sees("/other/t is there again.", "#notices")
     differs("where it was", [list(names_at(club, "/other")), names_at(club, "/trash/ann")], [["t"], {}])
     club.holds({"cmd": "RENAME", "path": "/other/t", "to": f"/trash/ann/{names[0]}"})
@@ -153,8 +164,7 @@ def removed(club, differs):
     browser.follow("t")
     browser.sees("group eng, was in /other, removed ", "main .about")
     club.go("#open/club/trash/ann")
-    browser.press("More for t")
-    browser.press("Remove t")
+    by_menu(browser, "t", "Remove")
     browser.sees("It cannot be brought back.", "dialog")
     browser.press("Remove", "//dialog[@open]")
     browser.sees("is removed.", "#notices")
@@ -162,58 +172,64 @@ def removed(club, differs):
     club.holds({"cmd": "REMOVE", "path": "/trash/ann"})
 
 
+FOCUSED = "return document.activeElement.textContent"
+ACTIONS = "return [...document.querySelectorAll('dialog .actions button')].map((it) => [it.textContent, it.className])"
+
+
 def trashed(club, differs):
-    """Where there is no trash, who may make one is offered it, for each user alone; another is told so."""
+    """One is used where its owner is the caller alone; else what cannot be undone is not the button at hand."""
     browser, path = club.browser, "/other/thrown.txt"
-    club.holds({"cmd": "REMOVE", "path": "/trash"})
     club.holds({"cmd": "CREATE", "path": path, "data": ""})
-    change = {"type": 0, "flag": 3, "mask": 0x1301EF, "who": "eve"}
-    club.holds({"cmd": "SETLIST", "path": "/other", "aclflag": 1, "entries": [change]})
-    club.log_in("eve")
     club.go(f"#open/club{path}")
-    browser.press("Remove", "//main")
-    differs("who may not", browser.sees("no trash of yours: ask whoever may make folders at the top", "dialog"), True)
-    differs("is not offered one", "Make a trash" in browser.shown(), False)
-    club.log_in("ann")
-    to_new_trash(club, path)
-    differs("each alone", [(it["aclflag"], [(entry["who"], entry["mask"], entry["flag"]) for entry in it["entries"]])
-                           for it in (club.holds({"cmd": "GETLIST", "path": f"/trash/{who}"}) for who in USERS)],
-            [(2, [(who, ALL, 3)]) for who in USERS])
-    looks = [[club.holds({"cmd": "LIST", "path": f"/trash/{whose}"}, who)["code"] for whose in USERS] for who in USERS]
-    differs("who looks into whose", looks, [[5 * (who != whose) for whose in USERS] for who in USERS])
-    club.holds({"cmd": "SETLIST", "path": "/trash/ann", "aclflag": 2, "entries": []})
-    club.holds({"cmd": "CREATE", "path": path, "data": ""})
-    to_new_trash(club, path)
+    own = "The list of the trash /trash/ann does not keep others out, who could read what you remove: ask who runs"
+    foreign = "The trash /trash/ann is bob's, who could read what you remove: ask who runs this room"
+    for why, does in ("There is no trash of yours: ask who runs this room for one", {"cmd": "MKDIR"}), \
+            (own, {"cmd": "CHOWN", "owner": "bob", "group": "eng"}), (foreign, {}):
+        browser.press("Remove", "//main")
+        differs("why for good", browser.sees(why, "dialog"), True)
+        differs("what is at hand", [browser.script(FOCUSED), browser.script(ACTIONS)],
+                ["Cancel", [["Cancel", ""], ["Remove", ""]]])
+        browser.press("Cancel", "//dialog[@open]")
+        if does:
+            club.holds({"path": "/trash/ann"} | does)
+    differs("nothing is gone", "thrown.txt" in names_at(club, "/other"), True)
+    make_trashes(club)
+    for name in "thrown.txt", "more.txt":
+        club.holds({"cmd": "CREATE", "path": f"/other/{name}", "data": ""})
+        club.go("#open/club")
+        club.go(f"#open/club/other/{name}")
+        browser.press("Remove", "//main")
+        browser.sees(f"It goes to the trash, {TRASH},", "dialog")
+        browser.press("Remove", "//dialog[@open]")
+        browser.sees(f"/other/{name} is in the trash.", "#notices")
     club.go("#open/club")
     browser.follow("Your trash")
     browser.until("where they were", lambda: browser.shown().count("was in /other, removed ") == 2)
     differs("what is offered for the trash itself", browser.script(
-        "return [...document.querySelectorAll('main > .tools > *')].map((it) => it.textContent)"),
-        ["Search", "Empty the trash"])
+        "return [...document.querySelectorAll('main > .makers > *')].map((it) => it.textContent)"),
+        ["Empty the trash"])
     browser.devtools("Emulation.setDeviceMetricsOverride", width=360, height=740, deviceScaleFactor=1, mobile=True)
-    wide = browser.script("return document.querySelector('.things th').offsetWidth")
+    wide = browser.script("return document.querySelector('.things tbody th').offsetWidth")
     differs("names on 360 pixels", wide > 100, True)
     browser.devtools("Emulation.clearDeviceMetricsOverride")
     browser.press("Empty the trash")
     differs("how much", browser.sees("With it go 2 documents that are in it.", "dialog"), True)
     browser.press("Cancel", "//dialog[@open]")
-    differs("it asks first", len(names_at(club, "/trash/ann")), 2)
+    differs("it asks first", len(names_at(club, TRASH)), 2)
     browser.press("Empty the trash")
     browser.press("Remove all of it")
     browser.sees("The trash is empty.", "#notices")
-    differs("it is empty", names_at(club, "/trash/ann"), {})
+    differs("it is empty", names_at(club, TRASH), {})
     differs("its name", browser.sees("Trash of ann", "h1"), True)
     browser.until("it is not emptied once more", lambda: "Empty the trash" not in browser.shown())
-    club.go("#open/club/trash")
+    club.go("#open/club/trash/%400")
     browser.press("More for eve")
-    offers = "return [...document.querySelectorAll('.things .tools')].map((it) => it.innerText).join('')"
-    browser.until("what is offered", lambda: browser.script(offers))
-    differs("for eve's trash", "Remove" in browser.script(offers), False)
+    differs("for eve's trash", "Remove" in offers(browser), False)
 
 
 def elsewhere(club, differs):
     """What cannot go back to where it was goes where the user says, by its own name."""
-    browser, stamp, trash = club.browser, "20261126214307", "/trash/ann"
+    browser, stamp, trash = club.browser, "20261126214307", TRASH
     wide = "\u00e4" * 15
     thrown = {"taken.txt": f"taken.txt~other~{stamp}", "gone.txt": f"gone.txt~left~{stamp}",
               f"{wide}.txt": f"{wide}.txt~…~{stamp}"}
@@ -225,16 +241,13 @@ def elsewhere(club, differs):
         club.holds({"cmd": "CREATE", "path": f"{trash}/{name}", "data": "aGk="})
     for called in thrown:
         club.go("#open/club")
-        club.go("#open/club/trash/ann")
+        club.go(f"#open/club{quote(TRASH)}")
         browser.press(f"More for {called}")
-        browser.sees("Put back", ".things")
-        buttons = browser.script("return [...document.querySelectorAll('.things .tools button')].map((it) => "
-                                 "it.textContent)")
-        differs("what is offered in the trash", buttons, ["Download", "Put back", "Move", "Copy", "Remove"])
-        browser.press(f"Put back {called}")
+        differs("what is offered in the trash", offers(browser), ["Download", "Put back", "Move", "Copy", "Remove"])
+        browser.press("Put back", MENU)
         differs(f"why {called} cannot", browser.sees(why[called], "dialog"), True)
         if called != "taken.txt":
-            browser.press("other", "//dialog[@open]")
+            to_folder(browser, "other")
         browser.sees("To the folder /other", "dialog")
         name = browser.script("return document.querySelector('dialog input').value")
         differs("its own name, or one that is free", name, "taken (2).txt" if called == "taken.txt" else called)
@@ -250,7 +263,7 @@ def elsewhere(club, differs):
 
 def full(club, differs):
     """Where the trash is full, or would be too deep, it is said what to do, and nothing is lost."""
-    browser, trash, path = club.browser, "/trash/ann", "/other/kept.txt"
+    browser, trash, path = club.browser, TRASH, "/other/kept.txt"
     for count in range(256):
         club.holds({"cmd": "CREATE", "path": f"{trash}/{count}", "data": ""})
     club.holds({"cmd": "CREATE", "path": path, "data": "aGk="})
@@ -270,7 +283,7 @@ def full(club, differs):
     for count in range(1, 16):
         club.holds({"cmd": "MKDIR", "path": "/d" * count})
     club.go("#open/club/d")
-    browser.press("Remove", "//main")
+    of_folder(browser, "Remove")
     browser.press("Remove", "//dialog[@open]")
     differs("too deep", browser.sees("In the trash something of it would have more than 16 names", "dialog"), True)
     browser.press("Cancel", "//dialog[@open]")
@@ -302,24 +315,14 @@ def in_order(club, differs):
     differs("in the matrix", shown, ["f", *files])
     club.go("#open/club/order/f/apple")
     browser.press("Move", "//main")
-    browser.press("One up", "//dialog[@open]")
-    browser.sees("To the folder /order", "dialog")
-    folders = ["One up", *wanted[:4], "f", *wanted[4:]]
-    browser.until("folders", lambda: browser.script(names, ".chooser button") == folders)
+    folders = [*wanted[:4], "f", *wanted[4:]]
+    inside = ".tree > li > [role=group] > li > [role=group] > li > span > bdi"
+    browser.until("folders", lambda: browser.script(names, inside) == folders)
     browser.press("Cancel", "//dialog[@open]")
     club.go("#find/club/order/f")
     browser.press("Search", "//main")
     browser.sees("That is all.", "main")
     differs("found", browser.script(names, ".found li"), [f"/order/f/{it}" for it in files])
-
-
-def to_new_trash(club, path):
-    club.go("#open/club")
-    club.go(f"#open/club{path}")
-    club.browser.press("Remove", "//main")
-    club.browser.sees("It is made for each user of this room.", "dialog")
-    club.browser.press("Make a trash, and move it there")
-    club.browser.sees(f"{path} is in the trash.", "#notices")
 
 
 def small_pictures(club, differs):
@@ -355,7 +358,7 @@ def previews(club, differs):
 
 
 def pdfs(club, differs):
-    """A PDF is shown by the browser, in a tab of its own, and never as a page."""
+    """A PDF is shown by one click, by the browser's viewer, and in a tab of its own, and never as a page."""
     browser = club.browser
     club.holds({"cmd": "CREATE", "path": "/other/minutes.pdf", "data": club.base64(PDF)})
     put(club, "/other", on_disk(club, "scan.pdf", PDF + bytes(PIECE)))
@@ -364,6 +367,8 @@ def pdfs(club, differs):
     for name in "minutes.pdf", "scan.pdf":
         club.go("#open/club/other")
         browser.follow(name)
+        frame = "return document.querySelector('iframe.viewer')?.getBoundingClientRect().height > 300"
+        browser.until(f"{name} in the page", lambda: browser.script(frame))
         browser.follow("Open this PDF in a tab of its own")
         new = browser.until("a tab", lambda: [it for it in browser.ask("GET", "/window/handles") if it != before])
         browser.turn_to(new[0])
@@ -430,16 +435,36 @@ def offered(club, differs):
     club.go("#open/club/other")
     browser.sees("dot.txt", ".things")
     buttons = "return [...document.querySelectorAll('main > .tools button')].map((it) => it.textContent)"
-    differs("in a folder", browser.script(buttons), ["Download as zip", "Copy"])
+    browser.act("//main//h1/button", "click")
+    differs("of a folder", offers(browser), ["Download as zip", "Copy", "Copy the link"])
+    browser.keys("escape")
     browser.press("More for dot.txt")
-    browser.sees("Download", ".things")
-    row_ = "return [...document.querySelectorAll('.things .tools button')].map((it) => it.textContent)"
-    browser.until("its buttons", lambda: browser.script(row_))
-    differs("in a row", browser.script(row_), ["Download", "Copy"])
+    differs("in a row", offers(browser), ["Download", "Copy", "Copy the link"])
     club.log_in("ann")
     club.go("#open/club/other/picture.svg")
     differs("of an own document", browser.script(buttons),
             ["Append", "Edit", "Download", "Upload a new version", "Rename", "Move", "Copy", "Remove"])
 
 
-SCENES = [wholes, trashed, elsewhere, full, in_order, one_document, previews, small_pictures, pdfs, offered]
+def odd_manifests(club, differs):
+    """Which texts the page takes for manifests: those that the client takes (tests/client/test_manifest.py)."""
+    reads = ("const [texts, at] = arguments, bytes = (it) => Uint8Array.from(atob(it), (one) => one.charCodeAt(0));"
+             "return import(at).then(({ readManifest }) => texts.map((it) => readManifest(bytes(it)) !== null))")
+    taken = lambda texts: club.browser.script(reads, list(map(club.base64, texts)), club.address("manifest.js"))
+    differs("lawful manifests", set(taken(manifests.TAKEN)), {True})
+    differs("odd ones", set(taken(manifests.REFUSED)), {False})
+    mangled = list(manifests.mangled(seed=1, count=400))
+    differs("mangled ones", taken(mangled), [read_manifest(it) is not None for it in mangled])
+
+
+def no_way_up(club, differs):
+    """A folder in the trash whose name tells of one called `..` is called by its own name, and no zip leads up."""
+    says = ("const [at] = arguments; return Promise.all(['trash.js', 'names.js'].map((it) => import(at + it)))"
+            ".then(([trash, names]) => [trash.nameAt('/trash/ann/..~…~20260101000000'), ...['..', '.', 'a..', '..b']"
+            ".map(names.forDisk)])")
+    differs("names on the disk", club.browser.script(says, club.address()),
+            ["..~…~20260101000000", "_", "_", "a._", "..b"])
+
+
+SCENES = [odd_manifests, no_way_up, wholes, trashed, elsewhere, full, in_order, one_document, previews, small_pictures,
+          pdfs, offered]

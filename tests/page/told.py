@@ -3,7 +3,7 @@ import io
 import zipfile
 
 from carried import on_disk, row, saved
-from club import set_list
+from club import MENU, of_folder, offers, set_list, to_folder
 
 ALL, EDIT, VIEW = 0x1F07FF, 0x1200AF, 0x1200A9
 TOP = "/told"
@@ -92,7 +92,7 @@ def lacking(club, differs):
     set_alone(club, f"{TOP}/{SHUT[0]}")
     club.log_in("eve")
     club.go(f"#open/club{TOP}")
-    browser.press("Download as zip")
+    of_folder(browser, "Download as zip")
     differs("how much of it", browser.sees("told.zip is made, of 11 of 12 things.", "#notices"), True)
     club.go(f"#find/club{TOP}")
     browser.press("Search", "//main")
@@ -130,13 +130,13 @@ def copies(club, differs):
     browser.press("Copy", "//main")
     browser.press("Copy it there")
     differs("where it is", browser.sees("That is where it is: choose another folder above", "dialog"), True)
-    browser.press("One up", "//dialog[@open]")
+    to_folder(browser, "club")
     browser.sees("To the folder club", "dialog")
     browser.fill("Name there", "copied")
     browser.press("Copy it there")
     differs("the refusal", browser.sees("The list of / does not allow you to make documents in it.", "dialog"), True)
     differs("what was typed", browser.script("return document.querySelector('dialog input').value"), "copied")
-    browser.press("told", "//dialog[@open]")
+    to_folder(browser, "told")
     browser.sees(f"To the folder {TOP}", "dialog")
     browser.press("Copy it there")
     browser.sees(f"is copied to {TOP}/copied.", "#notices")
@@ -157,8 +157,9 @@ def given_up(club, differs):
     differs("its menu", browser.script("return document.querySelector('main [aria-expanded=true]')"), None)
     browser.press("Close", "//*[@id='notices']")
     browser.press(f"More for {NAMES[0]}")
+    offers(browser)
     lossy.lose('"LIST"', 10_000)
-    browser.press(f"Move {NAMES[0]}")
+    browser.press("Move", MENU)
     browser.press("Cancel", "//dialog[@open]")
     browser.press_anyway("Give up")
     lossy.lose("")

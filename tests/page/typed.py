@@ -1,5 +1,5 @@
 """Scenes of the page: what somebody typed is never lost, names that deceive, and where the page stands."""
-from club import append, make_document, set_list
+from club import append, by_menu, make_document, make_new, of_user, set_list
 from room_client.words import RIGHTS, SETS
 
 WORDS = "import('/rights.js').then((it) => arguments[0]([it.RIGHTS.map(({bit, words}) => [bit, words]), " \
@@ -101,7 +101,7 @@ def leaving_a_list(club, differs, path):
     entries = "return document.querySelectorAll('.entries details').length"
     count = browser.script(entries)
     does = {"another view": lambda: browser.follow("Contents"), "another place": lambda: browser.follow("plans"),
-            "Back": lambda: browser.script("history.back()"), "Log out": lambda: browser.press("Log out")}
+            "Back": lambda: browser.script("history.back()"), "Log out": lambda: of_user(browser, "Log out")}
     for words, its in does.items():
         asks(browser, differs, words, its, place)
         differs(f"{words}: the entry is still there", browser.script(entries), count)
@@ -127,7 +127,7 @@ def at_work(club, differs):
     browser, lossy = club.browser, club.lossy
     club.go("#open/club/plans")
     lossy.hold('"MKDIR"')
-    browser.press("New folder")
+    make_new(browser, "New folder")
     browser.fill("Name", "slow")
     browser.press("Make")
     differs("it is under way", browser.sees("Under way …", "dialog"), True)
@@ -136,6 +136,20 @@ def at_work(club, differs):
     lossy.go_on()
     browser.sees("Folder slow is made.")
     club.holds({"cmd": "REMOVE", "path": "/plans/slow"})
+
+
+def after_refusal(club, differs):
+    """A refused dialog has the focus where it was: what is typed then arrives, and Escape ends it."""
+    browser = club.browser
+    club.go("#open/club/plans")
+    make_new(browser, "New folder")
+    browser.keys("june.txt", "enter")
+    browser.sees("Something has this name already.", "dialog")
+    browser.keys(" 2")
+    differs("what is typed then", browser.script("return document.querySelector('dialog input').value"), "june.txt 2")
+    browser.keys("escape")
+    differs("Escape asks", browser.sees("What you typed is not saved.", "dialog"), True)
+    browser.press("Discard it")
 
 
 def lines(club, differs):
@@ -222,8 +236,7 @@ def stays(club, differs):
     for count in range(60):
         club.holds({"cmd": "CREATE", "path": f"/long/{count:02}.txt", "data": ""})
     club.go("#open/club/long")
-    browser.press("More for 40.txt")
-    browser.press("Rename 40.txt")
+    by_menu(browser, "40.txt", "Rename")
     top = browser.script("return Math.round(scrollY)")
     browser.fill("New name", "40 b.txt")
     browser.press("Rename", "//dialog[@open]")
@@ -250,7 +263,10 @@ def one_vocabulary(club, differs):
     ours = sorted([bit, list(dict.fromkeys(words[:2]))] for bit, *words in RIGHTS)
     differs("words of rights", sorted(told[0]), ours)
     differs("sets", sorted(map(tuple, told[1])), sorted(it for it in SETS.items() if it[0] != "none"))
+    of_user(club.browser, "Help")
+    club.browser.sees("How it works", "dialog")
     help_ = " ".join(club.browser.script("return document.getElementById('help-page').textContent").split())
+    club.browser.press("Close", "//dialog[@open]")
     for entry in ({"type": 1, "flag": 0x43, "mask": SETS["all"], "who": "guests"},
                   {"type": 0, "flag": 3, "mask": SETS["view"], "who": "EVERYONE@"}):
         asked = {"script": SENTENCE, "args": [entry]}
@@ -266,7 +282,7 @@ def log_out(club, differs):
            ".then((it) => arguments[0](it.status), () => arguments[0]('waits for a login'))")
     asked = {"script": ask, "args": []}
     differs("before", browser.ask("POST", "/execute/async", asked), 200)
-    browser.press("Log out")
+    of_user(browser, "Log out")
     differs("it is told", browser.sees("You are logged out", "h1"), True)
     differs("after", browser.ask("POST", "/execute/async", asked), "waits for a login")
     browser.script("history.back()")
@@ -276,4 +292,4 @@ def log_out(club, differs):
     club.log_in("ann")
 
 
-SCENES = [names, leaving, at_work, lines, conflicts, stays, one_vocabulary, log_out]
+SCENES = [names, leaving, at_work, after_refusal, lines, conflicts, stays, one_vocabulary, log_out]

@@ -1,18 +1,14 @@
 """Twenty things that a club's secretary does in a week, in the browser alone, one after another."""
 import os
 import re
+from urllib.parse import quote
 
 from carried import PIECE, bytes_at, held, names_at, on_disk, row, saved
-from club import append, choose, make_document, set_list
-from folders import PDF, PNG
+from club import append, by_menu, choose, make_document, make_new, of_folder, set_list, to_folder
+from folders import PDF, PNG, TRASH
 
 TOP = "/week"
 BUTTONS = "return [...document.querySelectorAll('main > .tools button')].map((it) => it.textContent)"
-
-
-def by_menu(browser, name, words):
-    browser.press(f"More for {name}")
-    browser.press(f"{words} {name}")
 
 
 def sends(browser, words, *paths):
@@ -32,7 +28,7 @@ def looks_around(club, browser, _):
 
 def makes_a_folder(_, browser, __):
     """2: makes a folder for the year"""
-    browser.press("New folder")
+    make_new(browser, "New folder")
     browser.fill("Name", "2027")
     browser.press("Make")
     browser.sees("Folder 2027 is made.")
@@ -100,7 +96,7 @@ def opens_a_pdf(_, browser, differs):
 def replaces_a_file(club, browser, differs):
     """10: uploads a newer list of members, and keeps the old one"""
     browser.press("More for members.csv")
-    browser.sees("Upload a new version", ".things")
+    browser.sees("Upload a new version", ".menu")
     choose(browser, "Upload a new version", on_disk(club, "new.csv", b"ann;bob;eve"))
     browser.press("Keep the old one too")
     browser.sees("uploaded", "#notices")
@@ -120,7 +116,7 @@ def renames_it(club, browser, differs):
 def moves_it(club, browser, differs):
     """12: moves it into another folder"""
     by_menu(browser, "letter to the members.txt", "Move")
-    browser.press("fair", "//dialog[@open]")
+    to_folder(browser, "fair")
     browser.sees(f"To the folder {TOP}/2027/fair", "dialog")
     browser.press("Move it there")
     browser.sees("is now", "#notices")
@@ -140,9 +136,8 @@ def copies_it(club, browser, differs):
 def finds_it(club, browser, differs):
     """14: finds a file of whose name she knows a part"""
     club.go("#open/club")
-    browser.follow("Search")
-    browser.act("//main//input[@type='search']", "value", {"text": "STATUTES"})
-    browser.press("Search", "//main")
+    browser.act("//header//input[@type='search']", "value", {"text": "STATUTES"})
+    browser.keys("enter")
     browser.follow(f"{TOP}/2027/statutes.pdf")
     differs("found", browser.sees("statutes.pdf", "h1"), True)
 
@@ -152,7 +147,7 @@ def takes_them_home(club, browser, differs):
     browser.press("Download")
     differs("a file", saved(club, "statutes.pdf") == PDF, True)
     browser.follow("2027")
-    browser.press("Download as zip")
+    of_folder(browser, "Download as zip")
     browser.sees("2027.zip is made", "#notices")
     differs("a zip", saved(club, "2027.zip")[:4], b"PK\3\4")
 
@@ -175,11 +170,11 @@ def empties_the_trash(club, browser, differs):
     by_menu(browser, "letter of 2028.txt", "Remove")
     browser.press("Remove", "//dialog[@open]")
     browser.sees("is in the trash.", "#notices")
-    club.go("#open/club/trash/ann")
+    club.go(f"#open/club{quote(TRASH)}")
     browser.press("Empty the trash")
     browser.press("Remove all of it")
     browser.sees("The trash is empty.", "#notices")
-    differs("gone", names_at(club, "/trash/ann"), {})
+    differs("gone", names_at(club, TRASH), {})
 
 
 def lets_somebody_edit(club, browser, differs):

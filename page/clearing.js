@@ -1,0 +1,83 @@
+/** What uploads made is removed: whatever else has such a name stays. */
+import { NOENT, NOTDIR, isRefused, orElse } from "./codes.js";
+import * as form from "./manifest.js";
+import { shown } from "./names.js";
+import { folderOf, inFolder, lastName } from "./places.js";
+import { FOLDER } from "./rights.js";
+import { forEach } from "./room.js";
+import { t } from "./words.js";
+
+const OUR_PIECE = /^[0-9]{3}$/; // as a version names them that is made here
+const MOST_KEPT = 40; // letters of a name that a mark follows
+
+const isFolder = async (room, path) => (await room.aside("STAT", path)).kind === FOLDER;
+const namesIn = async (room, path) => (await room.aside("LIST", path)).names;
+
+// What is at a path and below it, in the order in which it can be removed, where it is of that form; else null.
+
+const documentAt = async (room, path) => (await isFolder(room, path) ? null : [[path]]);
+
+async function piecesIn(room, path) {
+  if (!await isFolder(room, path)) return null;
+  const names = await namesIn(room, path);
+  const fits = names.every(([name, kind]) => kind !== FOLDER && OUR_PIECE.test(name));
+  return fits ? [names.map(([name]) => inFolder(path, name)), [path]] : null;
+}
+
+/** Of a large file that has its manifest, or has not yet. */
+export async function fileAt(room, path) {
+  if (!await isFolder(room, path)) return null;
+  const names = await namesIn(room, path);
+  if (names.length && !form.isLarge(names) && !form.isUnfinished(names)) return null;
+  const folders = names.filter(([name]) => name !== form.NAME).map(([name]) => inFolder(path, name));
+  const parts = await Promise.all(folders.map((it) => piecesIn(room, it)));
+  if (parts.includes(null)) return null;
+  const manifest = names.filter(([name]) => name === form.NAME).map(([name]) => inFolder(path, name));
+  return [manifest, parts.flatMap(([pieces]) => pieces), folders, [path]];
+}
+
+/** Takes what an upload made out of a file or from beside it, in one request, and then removes it. Somebody who may
+ * move things may have given one such a name: what `looks` otherwise, or is in the way, is told and left. */
+export async function clear(room, at, name, transfer, looks = piecesIn) {
+  const path = inFolder(at, name);
+  const gone = name.startsWith(form.GONE) ? path : inFolder(at, form.otherName(form.GONE));
+  try {
+    const found = await looks(room, path);
+    if (!found) return transfer.fail(t.noPart(shown(path)));
+    if (gone !== path) await room.step("RENAME", path, { to: gone });
+    for (const level of found) {
+      await forEach(level, (it) => orElse(room.step("REMOVE", gone + it.slice(path.length)), null, NOENT));
+    }
+  } catch (fault) {
+    if (!isRefused(fault, NOENT)) transfer.fail(t.about(t.isLeft(shown(at)), fault.message));
+  }
+  return undefined;
+}
+
+/** What the replacement of a document left beside it, where it was stopped. A whole file under that name, which may be
+ * somebody's, is given one that is seen. */
+export async function clearBeside(room, path, transfer) {
+  const [above, { gone, its }] = [folderOf(path), await form.beside(lastName(path))];
+  const names = (await room.asideIfAllowed("LIST", above))?.names.map(([name]) => name) ?? [];
+  if (names.includes(gone)) await clear(room, above, gone, transfer, documentAt);
+  if (!names.includes(its)) return;
+  const inside = await orElse(namesIn(room, inFolder(above, its)), [], NOTDIR);
+  if (!inside.some(([name]) => name === form.NAME)) {
+    await clear(room, above, its, transfer, fileAt);
+    return;
+  }
+  const left = `${lastName(path).slice(0, MOST_KEPT)} (${form.otherName("").slice(0, 4)})`;
+  await room.step("RENAME", inFolder(above, its), { to: inFolder(above, left) });
+  transfer.fail(t.wholeLeft(shown(left)));
+}
+
+/** Removes an object with all that is in it, for good: the manifest of a large file first. */
+export async function removeAll(room, path) {
+  const { names } = await orElse(room.aside("LIST", path), { names: [] }, NOTDIR);
+  const remove = (it) => orElse(room.step("REMOVE", it), null, NOENT);
+  if (names.some(([name]) => name === form.NAME)) await remove(inFolder(path, form.NAME));
+  const documents = names.filter(([name, kind]) => kind !== FOLDER && name !== form.NAME);
+  await forEach(documents, ([name]) => remove(inFolder(path, name)));
+  for (const [name, kind] of names) if (kind === FOLDER) await removeAll(room, inFolder(path, name));
+  await remove(path);
+}

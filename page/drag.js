@@ -1,0 +1,58 @@
+/** Rows are dragged onto folders and onto the way above; files of the user's disk are dropped. */
+import { moveInto } from "./moving.js";
+import { tellFault } from "./notices.js";
+import { folderOf, isWithin } from "./places.js";
+import { dropped, upload } from "./uploads.js";
+
+const FORM = "application/x-fileroom";
+let dragged = []; // paths
+
+/** What is dragged are all that are chosen, where that row is one of them. */
+export function dragRow(row) {
+  row.element.draggable = true;
+  row.element.ondragstart = (event) => {
+    const { chosen } = row.things;
+    dragged = (chosen.includes(row) ? chosen : [row]).map((it) => it.path);
+    event.dataTransfer.setData(FORM, dragged.join("\n"));
+    event.dataTransfer.effectAllowed = "move";
+  };
+  row.element.ondragend = () => {
+    dragged = [];
+  };
+}
+
+const mayGo = (folder) => dragged.length > 0 && dragged.every((it) => folderOf(it) !== folder && !isWithin(folder, it));
+
+/** The element takes what `fits` says, shows that, and does it. */
+function take(element, fits, does) {
+  const over = (event, isOver) => {
+    if (isOver && !fits(event.dataTransfer)) return;
+    element.classList.toggle("dropping", isOver);
+    if (!isOver) return;
+    event.preventDefault();
+    event.stopPropagation();
+  };
+  element.addEventListener("dragover", (event) => over(event, true));
+  element.addEventListener("dragleave", (event) => element.contains(event.relatedTarget) || over(event, false));
+  element.addEventListener("drop", (event) => {
+    if (!fits(event.dataTransfer)) return;
+    over(event, false);
+    event.preventDefault();
+    event.stopPropagation();
+    does(event.dataTransfer);
+  });
+}
+
+const hasFiles = (data) => [...data.types].includes("Files");
+
+/** Rows that are dropped on the element go into the folder, while that is one. */
+export const takeRows = (element, app, folder, isFolder = () => true) => take(element, (data) =>
+  [...data.types].includes(FORM) && isFolder() && mayGo(folder), () => moveInto(app, dragged, folder));
+
+/** Files that are dropped on the element go into the folder, while that is one. */
+export function takeFiles(element, app, folder, isFolder = () => true) {
+  take(element, (data) => hasFiles(data) && isFolder(), async (data) => {
+    const chosen = await dropped(data).catch((fault) => tellFault(fault.message));
+    if (chosen) await upload(app, folder, chosen);
+  });
+}

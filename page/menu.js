@@ -1,0 +1,106 @@
+/** A menu below what opens it, or where the mouse is; on a narrow screen a sheet from below. */
+import { link, make } from "./dom.js";
+import { pickFiles } from "./pick.js";
+
+const EDGE = 8; // pixels that stay free beside it
+let open = null;
+
+export const isMenuOpen = () => open !== null;
+
+/** What an item is: a link, a choice of files (with the field that asks for them), or something to be done. */
+function itemElements(it, close) {
+  const how = { role: "menuitem", tabIndex: -1, className: it.isApart ? "apart" : "" };
+  if (it.href) return [Object.assign(link(it.href, it.words), { onclick: close }, how)];
+  const files = it.chosen && pickFiles(it.words, it.files, (chosen) => {
+    close();
+    it.chosen(chosen);
+  });
+  const press = () => {
+    close();
+    if (files) files.click();
+    else it.does();
+  };
+  return [make("button", { type: "button", onclick: press, ...how }, it.words), ...files ? [files.field] : []];
+}
+
+class Menu {
+  constructor(anchor, items, { label, at }) {
+    Object.assign(this, { anchor, at });
+    const close = () => this.close();
+    const elements = items.flatMap((it) => itemElements(it, close));
+    this.items = elements.filter((it) => it.role === "menuitem");
+    this.element = make("div", { className: "menu", role: "menu", popover: "auto", "aria-label": label },
+      make("p", { className: "menu-title", "aria-hidden": "true" }, label), ...elements);
+    this.element.onkeydown = (event) => this.key(event);
+    this.element.ontoggle = (event) => event.newState === "closed" && this.closed();
+  }
+
+  show() {
+    open?.close();
+    open = this;
+    this.anchor.after(this.element);
+    this.anchor.setAttribute("aria-expanded", "true");
+    this.element.showPopover();
+    this.place();
+    this.items[0]?.focus();
+  }
+
+  /** Below its anchor, where there is room. */
+  place() {
+    const [box, its] = [this.anchor.getBoundingClientRect(), this.element.getBoundingClientRect()];
+    const { x, y } = this.at ?? { x: box.left, y: box.bottom };
+    const above = this.at ? y : box.top;
+    const top = y + its.height + EDGE > innerHeight ? Math.max(above - its.height, EDGE) : y;
+    const left = Math.max(Math.min(x, document.documentElement.clientWidth - its.width - EDGE), EDGE);
+    Object.assign(this.element.style, { left: `${left}px`, top: `${top}px` });
+  }
+
+  close() {
+    const isIn = this.element.contains(document.activeElement);
+    this.element.hidePopover();
+    this.closed(isIn);
+  }
+
+  /** The focus is back where it was, unless it went elsewhere by itself. */
+  closed(isIn = document.activeElement === document.body) {
+    if (open !== this) return;
+    open = null;
+    this.element.remove();
+    this.anchor.setAttribute("aria-expanded", "false");
+    if (isIn) this.anchor.focus({ preventScroll: true });
+  }
+
+  key(event) {
+    const at = this.items.indexOf(document.activeElement);
+    const last = this.items.length - 1;
+    const goals = { ArrowDown: at === last ? 0 : at + 1, ArrowUp: at <= 0 ? last : at - 1, Home: 0, End: last };
+    const letter = event.key.length === 1 && event.key !== " " ? event.key.toLowerCase() : null;
+    const named = [...this.items.keys()].sort((a, b) => (a <= at) - (b <= at) || a - b)
+      .find((it) => this.items[it].textContent.toLowerCase().startsWith(letter));
+    const goal = goals[event.key] ?? (letter && named);
+    if (event.key === "Tab" || event.key === "Escape") this.close();
+    if (goal === undefined || goal === null) {
+      if (event.key === "Escape") event.preventDefault();
+      return;
+    }
+    event.preventDefault();
+    event.stopPropagation();
+    this.items[goal].focus();
+  }
+}
+
+/** Opens a menu of `items`, `{words, does}`, `{words, href}` or `{words, files, chosen}`. */
+export const openMenu = (anchor, items, how) => new Menu(anchor, items, how).show();
+
+/** A button that opens a menu; `itemsOf` may ask the room for what is in it. */
+export function menuButton(words, how, itemsOf, { label, fails = () => {} }) {
+  const its = make("button", { type: "button", "aria-haspopup": "menu", "aria-expanded": "false", ...how }, ...words);
+  its.onclick = async () => {
+    try {
+      openMenu(its, await itemsOf(), { label });
+    } catch (fault) {
+      fails(fault);
+    }
+  };
+  return its;
+}

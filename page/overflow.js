@@ -1,0 +1,85 @@
+/** A folder holds so many things: what is more goes into another one beside it, made with the same list. */
+import { EXIST, TOO_DEEP, orElse } from "./codes.js";
+import { ask } from "./dialogs.js";
+import { make } from "./dom.js";
+import { follows, isInherited } from "./lists.js";
+import { shown } from "./names.js";
+import { MAX_NAMES, MOST_THINGS, ROOT, folderOf, inFolder, isWithin, lastName, namesOf, withMark } from "./places.js";
+import { FOLDER } from "./rights.js";
+import { t } from "./words.js";
+
+/** The first name beside the folder that is not among those that are there. */
+function pathBeside(path, names) {
+  for (let count = 2; ; count += 1) {
+    const name = withMark(lastName(path), String(count));
+    if (!names.has(name)) return inFolder(folderOf(path), name);
+  }
+}
+
+/** Makes a folder whose own entries are those of another one, where these may be seen and set. */
+export async function makeLike(room, path, like) {
+  await orElse(room.step("MKDIR", path), null, EXIST);
+  const list = await room.asideIfAllowed("GETLIST", like);
+  const own = list?.entries.filter((it) => !isInherited(it)) ?? [];
+  if (own.length || list && !follows(list.aclflag)) {
+    await room.step("SETLIST", path, { aclflag: list.aclflag, entries: own });
+  }
+}
+
+/** Where something more has a place: in the folder, or beside it in the first one of its name with a number that has
+ * room, or is not there yet. */
+export async function placeIn(room, path) {
+  if (namesOf(path).length === MAX_NAMES) throw new Error(t.refusals[TOO_DEEP]);
+  const namesIn = async (it) => (await room.asideIfAllowed("LIST", it))?.names ?? [];
+  if ((await namesIn(path)).length < MOST_THINGS) return { goal: path };
+  if (path === ROOT) throw new Error(t.topFull);
+  const there = new Map(await namesIn(folderOf(path)));
+  for (let count = 2; ; count += 1) {
+    const name = withMark(lastName(path), String(count));
+    const goal = inFolder(folderOf(path), name);
+    const hasRoom = there.get(name) === FOLDER && (await namesIn(goal)).length < MOST_THINGS;
+    if (hasRoom || !there.has(name)) return { goal };
+  }
+}
+
+/** Which new things of the folders that would be too full go elsewhere, as `{like, goal, rest}` with their names. */
+async function restsOf(over, folders) {
+  const found = [];
+  for (const [path, names] of over) {
+    if (path === ROOT) return [];
+    const there = await folders.names(path);
+    const rest = [...names].filter((it) => !there.has(it)).slice(MOST_THINGS - names.size);
+    const beside = await folders.names(folderOf(path));
+    for (let at = 0; at < rest.length; at += MOST_THINGS) {
+      const goal = pathBeside(path, beside);
+      beside.add(lastName(goal));
+      found.push({ like: path, goal, rest: new Set(rest.slice(at, at + MOST_THINGS)) });
+    }
+  }
+  return found;
+}
+
+/** Leads what is in a rest to where it goes. */
+function spread(wanted, { like, goal, rest }) {
+  const depth = namesOf(like).length;
+  for (const it of wanted) {
+    const names = namesOf(it.path);
+    if (isWithin(it.path, like) && rest.has(names[depth])) it.path = inFolder(goal, ...names.slice(depth));
+  }
+}
+
+/** Asks what becomes of what has no place in its folder: true where all goes on, and null where nothing does. What the
+ * files need to go elsewhere stands in `wanted.beside`, `{like, goal}`. */
+export async function mayOverflow(over, wanted, folders) {
+  const rests = await restsOf(over, folders);
+  const words = over.map(([path, names]) => make("li", {}, t.wouldHave(shown(path), names.size, MOST_THINGS)));
+  const fits = t.uploadFits;
+  const task = () => {
+    for (const it of rests.toReversed()) spread(wanted, it); // (a folder below another one first)
+    wanted.beside = rests;
+  };
+  const goals = rests.map(({ goal }) => shown(lastName(goal))).join(", ");
+  const how = rests.length ? { does: t.restInto(goals), task, others: [{ words: fits, value: fits }] }
+    : { does: fits };
+  return await ask({ title: t.tooMany, words: make("ul", {}, ...words), ...how }) !== null;
+}

@@ -1,0 +1,126 @@
+/** A row of what is in a folder. Its size is asked for once it is seen, its rights where its menu is opened. */
+import { button, link, make, nameText } from "./dom.js";
+import { dragRow, takeFiles, takeRows } from "./drag.js";
+import { icon, isForDisk, kindBy } from "./icons.js";
+import { openMenu } from "./menu.js";
+import { download } from "./downloads.js";
+import { shown } from "./names.js";
+import { tellFault } from "./notices.js";
+import { offersFor, rightsOn } from "./offers.js";
+import { addressOf, inFolder } from "./places.js";
+import { FILE, FOLDER, LARGE } from "./rights.js";
+import { sizeWords } from "./transfers.js";
+import { beforeWords, nameAt } from "./trash.js";
+import { lookInto } from "./trees.js";
+import { t } from "./words.js";
+
+/** What a row's object is, and how large: `{kind, words, size}`; a folder's size is the count of what is in it. */
+async function lookAt(room, path, kind) {
+  if (kind !== FOLDER) {
+    const stat = await room.asideIfAllowed("STAT", path);
+    return { kind: FILE, words: stat ? sizeWords(stat.size) : "", size: stat?.size };
+  }
+  const { kind: found, names, its } = await lookInto(room, path);
+  if (!names) return { kind: FOLDER, words: "" };
+  if (found === "unfinished") return { kind: found, words: "" };
+  if (found === LARGE) return { kind: LARGE, words: its ? sizeWords(its.size) : "", size: its?.size };
+  return { kind: FOLDER, words: t.inIt(names.length), size: names.length };
+}
+
+export class Row {
+  constructor(things, [name, kind], pictures) {
+    const { app, place } = things;
+    const path = inFolder(place.path, name);
+    Object.assign(this, { things, app, name, kind, pictures, path, called: nameAt(path), isFolder: kind === FOLDER });
+    this.picture = pictures.placeOf(this.called);
+    this.tick = make("input", { type: "checkbox", tabIndex: -1, "aria-label": t.choose(shown(this.called)) });
+    this.link = link(addressOf({ room: place.room, path }), nameText(this.called));
+    Object.assign(this.link, { tabIndex: -1, draggable: false, className: "name" });
+    this.more = button("⋯", () => this.open(), { tabIndex: -1, "aria-label": t.moreFor(shown(this.called)),
+      "aria-haspopup": "menu", "aria-expanded": "false", className: "small" });
+    this.kindCell = make("td", { className: "kind" });
+    this.sizeCell = make("td", { className: "size" });
+    const before = beforeWords(path);
+    const named = before ? make("div", {}, this.link, make("div", { className: "about" }, before)) : this.link;
+    this.element = make("tr", { "aria-selected": "false" }, make("td", { className: "tick" }, this.tick),
+      make("th", { scope: "row" }, make("div", {}, this.picture, named)),
+      this.kindCell, this.sizeCell, make("td", { className: "own" }, this.more));
+    this.element.row = this;
+    this.showKind();
+    dragRow(this);
+    const isFolder = () => this.its?.kind === FOLDER; // (once it is known to be no large file)
+    takeRows(this.element, app, path, isFolder);
+    takeFiles(this.element, app, path, isFolder);
+  }
+
+  get stops() {
+    return [this.tick, this.link, this.more];
+  }
+
+  showKind() {
+    this.kindName = kindBy(this.called, this.isFolder ? FOLDER : FILE);
+    this.kindCell.textContent = this.its?.kind === "unfinished" ? t.unfinished : t.kinds[this.kindName];
+    if (!this.picture.querySelector("img")) this.picture.replaceChildren(icon(this.kindName));
+    this.link.onclick = !this.isFolder && isForDisk(this.called) ? (event) => this.give(event) : null;
+  }
+
+  /** What no browser shows goes to the user's disk by one click. */
+  give(event) {
+    if (event.ctrlKey || event.metaKey || event.shiftKey || event.defaultPrevented) return;
+    event.preventDefault();
+    this.look().then((its) => download(this.app, this.path, its.size), (fault) => tellFault(fault.message));
+  }
+
+  look() {
+    this.looked ??= this.#look().catch((fault) => {
+      this.looked = null; // (it is asked anew)
+      throw fault;
+    });
+    return this.looked;
+  }
+
+  async #look() {
+    this.its = await lookAt(this.app.room, this.path, this.kind);
+    this.sizeCell.textContent = this.its.words;
+    this.isFolder = this.its.kind === FOLDER;
+    this.showKind();
+    if (this.its.kind === LARGE) this.things.replace(this);
+    this.pictures.show(this.picture, this.path, this.its.size);
+    return this.its;
+  }
+
+  choose(isChosen) {
+    this.tick.checked = isChosen;
+    this.element.setAttribute("aria-selected", String(isChosen));
+  }
+
+  async offers() {
+    const [its, own] = await Promise.all([this.look(), this.rights()]);
+    return offersFor(this.app, this.path, its.kind, { own, above: this.things.rights.own, size: its.size });
+  }
+
+  rights() {
+    return rightsOn(this.app.room, this.path);
+  }
+
+  async open(at) {
+    if (this.isOpening) return;
+    this.isOpening = true;
+    try {
+      const offers = await this.offers();
+      const none = [{ words: t.onlyLook, does() {} }];
+      openMenu(this.more, offers.length ? offers : none, { label: shown(this.called), at });
+    } catch (fault) {
+      tellFault(fault.message);
+    } finally {
+      this.isOpening = false;
+    }
+  }
+
+  /** Does what is offered under that key, or tells that it is not. */
+  async press(key) {
+    const offer = (await this.offers()).find((it) => it.key === key);
+    if (offer) offer.does();
+    else tellFault(t.notOffered(shown(this.called)));
+  }
+}

@@ -1,0 +1,157 @@
+/** A field that holds a folder: a tree that opens as it is walked, with folders that were chosen before. */
+import { GaveUp } from "./busy.js";
+import { ask, nameInput } from "./dialogs.js";
+import { button, make, nameText } from "./dom.js";
+import { icon } from "./icons.js";
+import { isPart } from "./manifest.js";
+import { byName, clean, shown } from "./names.js";
+import { tellFault } from "./notices.js";
+import { ROOT, foldersAbove, inFolder, isWithin, lastName, nameFault } from "./places.js";
+import { FOLDER, LARGE } from "./rights.js";
+import { kindBy, lookInto } from "./trees.js";
+import { t } from "./words.js";
+
+const LIKE_FILE = /\.[^.]{1,5}$/; // of such folders it is asked whether they are large files
+const MOST_RECENT = 4;
+
+const recentKey = (app) => `fileroom/recent/${app.user}/${app.room.name}`;
+const recentOf = (app) => JSON.parse(localStorage.getItem(recentKey(app)) ?? "[]");
+
+/** Something went into that folder. */
+export function keepRecent(app, folder) {
+  const all = [folder, ...recentOf(app).filter((it) => it !== folder)];
+  localStorage.setItem(recentKey(app), JSON.stringify(all.slice(0, MOST_RECENT)));
+}
+
+/** The folders in a folder, without what is large files. */
+async function foldersIn(room, path) {
+  const { names } = await room.aside("LIST", path);
+  if (kindBy(names) !== FOLDER) throw new Error(t.isDocument);
+  const found = names.filter(([name, kind]) => kind === FOLDER && !isPart(name)).sort(byName);
+  const isFile = await Promise.all(found.map(([name]) =>
+    LIKE_FILE.test(name) && lookInto(room, inFolder(path, name)).then((it) => it.kind === LARGE)));
+  return found.filter((_, at) => !isFile[at]).map(([name]) => inFolder(path, name));
+}
+
+export class FolderTree {
+  /** `barred` are paths of what is to go there: nothing goes into itself. */
+  constructor(app, barred, value) {
+    Object.assign(this, { app, barred, value, items: new Map() });
+    this.told = make("p", { role: "status" });
+    this.legend = make("legend", {});
+    this.list = make("ul", { role: "tree", className: "tree", "aria-label": t.folderTree });
+    this.list.onkeydown = (event) => this.key(event);
+    this.list.onclick = (event) => this.click(event);
+    const recent = recentOf(app).filter((it) => it !== value && !this.isBarred(it)).map((it) =>
+      button(nameText(this.nameOf(it)), () => this.goTo(it), { className: "small", title: shown(it) }));
+    this.element = make("fieldset", { className: "chooser" }, this.legend,
+      ...recent.length ? [make("p", {}, t.recent, " ", ...recent)] : [], this.list, this.told,
+      make("p", {}, button(t.newFolderHere, () => this.makeHere(), { className: "small" })));
+    this.list.append(this.item(ROOT));
+    this.tell();
+    this.goTo(value);
+  }
+
+  nameOf(path) {
+    return path === ROOT ? this.app.room.name : lastName(path);
+  }
+
+  isBarred(path) {
+    return this.barred.some((it) => isWithin(path, it));
+  }
+
+  tell() {
+    const path = this.value === ROOT ? this.app.room.name : this.value;
+    this.legend.replaceChildren(t.toFolder, make("b", {}, nameText(path)));
+  }
+
+  item(path) {
+    const it = make("li", { role: "treeitem", tabIndex: -1, "aria-expanded": "false", "aria-selected": "false" },
+      make("span", {}, icon("folder"), nameText(this.nameOf(path))));
+    it.path = path;
+    this.items.set(path, it);
+    return it;
+  }
+
+  choose(it) {
+    this.value = it.path;
+    for (const other of this.items.values()) {
+      other.setAttribute("aria-selected", String(other === it));
+      other.tabIndex = other === it ? 0 : -1;
+    }
+    this.tell();
+  }
+
+  /** Opens it, and each above it. */
+  async goTo(path) {
+    this.value = path;
+    for (const folder of foldersAbove(path)) await this.open(this.items.get(folder));
+    const it = this.items.get(path) ?? this.items.get(ROOT);
+    if (this.value !== path) return; // (the user was quicker)
+    this.choose(it);
+    await this.open(it);
+    it.scrollIntoView({ block: "nearest" });
+  }
+
+  async open(it) {
+    if (!it || it.getAttribute("aria-expanded") !== "false") return;
+    it.setAttribute("aria-expanded", "true");
+    it.setAttribute("aria-busy", "true");
+    this.told.textContent = "";
+    try {
+      const found = await foldersIn(this.app.room, it.path);
+      const folders = found.filter((path) => !this.isBarred(path));
+      if (folders.length === 0) it.removeAttribute("aria-expanded");
+      else it.append(make("ul", { role: "group" }, ...folders.map((path) => this.item(path))));
+    } catch (fault) {
+      it.setAttribute("aria-expanded", "false");
+      this.told.textContent = fault.message;
+      if (fault instanceof GaveUp) tellFault(fault.message); // (its button is out of reach until the dialog is closed)
+    }
+    it.removeAttribute("aria-busy");
+  }
+
+  close(it) {
+    it.querySelector("ul")?.remove();
+    for (const path of this.items.keys()) if (path !== it.path && path.startsWith(it.path)) this.items.delete(path);
+    it.setAttribute("aria-expanded", "false");
+  }
+
+  click(event) {
+    const it = event.target.closest("li");
+    if (!it) return;
+    this.choose(it);
+    it.focus();
+    return this.open(it);
+  }
+
+  async key(event) {
+    const it = event.target.closest("li");
+    const all = [...this.list.querySelectorAll("li")];
+    const at = all.indexOf(it);
+    const isOpen = it.getAttribute("aria-expanded");
+    const goals = { ArrowDown: all[at + 1], ArrowUp: all[at - 1], Home: all[0], End: all.at(-1),
+      ArrowLeft: isOpen === "true" ? null : it.parentNode.closest("li"),
+      ArrowRight: isOpen === "true" ? it.querySelector("li") : null };
+    if (!(event.key in goals)) return;
+    event.preventDefault();
+    const goal = goals[event.key];
+    if (goal) {
+      this.choose(goal);
+      goal.focus();
+    } else if (event.key === "ArrowRight") await this.open(it);
+    else if (event.key === "ArrowLeft" && isOpen === "true") this.close(it);
+  }
+
+  async makeHere() {
+    const [name, above] = [nameInput(), this.value];
+    const path = () => inFolder(above, clean(name.value));
+    const isDone = await ask({ title: t.newFolder, does: t.make, fields: { name: { label: t.name, field: name } },
+      faultOf: () => nameFault(clean(name.value)), task: () => this.app.room.run("MKDIR", path()) });
+    if (!isDone) return;
+    const it = this.items.get(above);
+    if (it) this.close(it);
+    await this.goTo(path());
+    this.items.get(path())?.focus();
+  }
+}

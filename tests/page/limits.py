@@ -1,0 +1,102 @@
+"""Scenes of the page: the limits of a room are told before anything is sent, each with a way on."""
+import os
+
+from carried import names_at, on_disk, put
+from club import choose, make_new
+from sharing import CHANGE, WORK_HERE, go, own, share
+
+LONG = "minutes of the meeting of the board about the summer fair and the tent in May.txt"
+SHORT = "minutes of the meeting of the board about the summer fair an.txt"
+
+
+def full(club, differs):
+    """In a full folder (of `too_many`) what is made goes into another one beside it, the same each time; a folder from
+    the disk too."""
+    browser = club.browser
+    club.holds({"cmd": "MKDIR", "path": "/limits"})
+    club.holds({"cmd": "RENAME", "path": "/full", "to": "/limits/year"})
+    for name in "one", "two":
+        club.go("#open/club/limits/year")
+        make_new(browser, "New folder")
+        said = "/limits/year is full: it has 256 things in it. What you make goes into /limits/year (2), beside it."
+        differs("it is said before", browser.sees(said, "dialog"), True)
+        browser.fill("Name", name)
+        browser.press("Make")
+        browser.sees(f"Folder {name} is made.", "#notices")
+        differs("where it is is shown", browser.sees("year (2)", "h1"), True)
+    differs("both are there", club.names("/limits/year (2)"), ["one", "two"])
+    differs("its list", own(club, "/limits/year (2)"), [(0, 3, 0x1200A9, "eve")])
+    club.go("#open/club/limits/year")
+    for at in "deep/er/a.txt", "deep/b.txt":
+        on_disk(club, f"boxes/{at}", b"a")
+    choose(browser, "Upload a folder", os.path.join(club.folder, "disk", "boxes"))
+    browser.press("Put the rest into year (3)")
+    browser.sees("2 files uploaded", "#notices")
+    differs("all of it", [club.names(f"/limits/year (3)/boxes{it}") for it in ("", "/deep", "/deep/er")],
+            [["deep"], ["b.txt", "er"], ["a.txt"]])
+
+
+def long_names(club, differs):
+    """A name that is too long is offered shorter as it is typed, and in an upload."""
+    browser = club.browser
+    club.go("#open/club/limits")
+    make_new(browser, "New document")
+    browser.fill("Name", LONG)
+    browser.sees("This name counts as 81 letters, and 64 are the most", "dialog")
+    browser.press(f"Shorten it to {SHORT}", "//dialog[@open]")
+    browser.until("it is told no more", lambda: "counts as" not in browser.shown())
+    browser.press("Make", "//dialog[@open]")
+    browser.sees(f"Document {SHORT} is made.", "#notices")
+    files = [on_disk(club, f"long/{name}", name.encode()) for name in (LONG, f"{LONG[:-4]} again.txt", "short.txt")]
+    put(club, "/limits", *files)
+    browser.sees("2 of 3 cannot be uploaded", "dialog")
+    browser.press("Upload them by shorter names")
+    browser.press("Keep both")
+    browser.sees("3 files uploaded", "#notices")
+    wanted = [SHORT, *(f"{SHORT[:-8]} ({at}).txt" for at in (2, 3)), "short.txt"]
+    names = [it for it in club.names("/limits") if it.endswith(".txt")]
+    differs("all are there", [len(names), all(len(it) <= 64 for it in names)], [len(wanted), True])
+    differs("each its own", sorted(club.text(f"/limits/{it}") for it in names),
+            sorted(["", LONG, f"{LONG[:-4]} again.txt", "short.txt"]))
+
+
+def deep(club, differs):
+    """What would lie too deep is told before it is typed, sent or copied."""
+    browser = club.browser
+    path = "/limits" + "/d" * 15
+    for count in range(1, 16):
+        club.holds({"cmd": "MKDIR", "path": "/limits" + "/d" * count})
+    club.go(f"#open/club{path}")
+    make_new(browser, "New folder")
+    browser.sees("Something would have more than 16 names in its path.", "dialog")
+    browser.press("Cancel", "//dialog[@open]")
+    put(club, path, on_disk(club, "seventeenth.txt", b"a"))
+    differs("nothing is sent", browser.sees("A path has at most 16 names. Nothing was sent.", "#notices"), True)
+    up = path.rsplit("/", 1)[0]
+    put(club, up, on_disk(club, "large.bin", bytes(70_000)))
+    browser.sees("A file of more than 64 KiB lies 14 deep at most. Nothing was sent.", "#notices")
+    differs("nothing is there", [*names_at(club, path), *names_at(club, up)], ["d"])
+
+
+def many_names(club, differs):
+    """A list's 17th name is told before, and one group is offered in the place of its members."""
+    browser, path = club.browser, "/limits/shared"
+    club.holds({"cmd": "MKDIR", "path": path})
+    work = lambda who: [{"type": 0, "flag": 0, "mask": WORK_HERE, "who": who},
+                        {"type": 0, "flag": 0xB, "mask": CHANGE, "who": who}]
+    entries = [it for who in ["ann", *(f"gone{at}" for at in range(15))] for it in work(who)]
+    club.holds({"cmd": "SETLIST", "path": path, "aclflag": 1, "entries": entries})
+    club.go(f"#access/club{path}")
+    share(browser, "eve", "work in it")
+    browser.sees("The list would have 34 entries, and 32 are the most. Share it with a group", ".share")
+    share(browser, "bob", "work in it")
+    browser.sees("The group eng has nobody besides.", ".share")
+    browser.press("Share it with eng, in place of 2 of its members")
+    browser.press("Set it all the same")  # (of the others none is in this roster)
+    browser.sees("Checked: the group eng can get there, and do it.", "#notices")
+    whos = [it[3] for it in own(club, path)]
+    differs("one name", [len(whos), "ann" in whos, whos[-2:]], [32, False, ["eng", "eng"]])
+    go(club, "#open/club")
+
+
+SCENES = [full, long_names, deep, many_names]

@@ -1,0 +1,199 @@
+"""Scenes of the page: what somebody else, who may add or move things, has put in a user's way."""
+import hashlib
+import io
+import json
+import os
+import struct
+import zipfile
+import zlib
+from urllib.parse import quote
+
+from carried import NAME, saved
+from club import choose, of_folder
+from folders import TRASH, make_trashes
+
+LEFT = ".room-writing-0123456789abcdef"
+PIECES = ".room-pieces-0123456789abcdef"
+GONE = ".room-gone-0000000000000000"
+FOUND = "return [...document.querySelectorAll('.found li')].map((it) => it.textContent)"
+ALL = {"flag": 3, "mask": 0x1F07FF, "type": 0}
+
+
+def made(club, path, data=None, user="ann"):
+    command = {"cmd": "MKDIR", "path": path} if data is None else {
+        "cmd": "CREATE", "path": path, "data": club.base64(data)}
+    told = club.holds(command, user)
+    assert told["code"] == 0, (path, told)
+
+
+def manifest(data):
+    return json.dumps({"folder": PIECES, "form": 1, "pieces": ["000"], "sha256": hashlib.sha256(data).hexdigest(),
+                       "size": len(data)}).encode()
+
+
+def found(club, path, word):
+    club.go(f"#open/club{path}")
+    club.browser.act("//header//input[@type='search']", "value", {"text": word})
+    club.browser.keys("enter")
+    club.browser.sees("That is all.", "main")
+    return club.browser.script(FOUND)
+
+
+def zipped(club, path, name, word):
+    club.browser.devtools("Browser.setDownloadBehavior", behavior="allow",
+                          downloadPath=os.path.join(club.folder, "back"))
+    club.go(f"#open/club{path}")
+    of_folder(club.browser, "Download as zip")
+    club.browser.sees(word, "#notices")
+    with zipfile.ZipFile(io.BytesIO(saved(club, name))) as file:
+        return sorted(it for it in file.namelist() if not it.endswith("/"))
+
+
+def hides_nothing(club, differs):
+    """A manifest beside other things, right or not, hides none of them."""
+    browser = club.browser
+    made(club, "/planted")
+    for name, text in ("right", manifest(b"bob's")), ("wrong", b"garbage"):
+        at = f"/planted/{name}"
+        made(club, at)
+        made(club, f"{at}/three.txt", b"ann's")
+        made(club, f"{at}/{PIECES}")
+        made(club, f"{at}/{PIECES}/000", b"bob's")
+        made(club, f"{at}/{NAME}", text)
+        club.go(f"#open/club{at}")
+        browser.sees("three.txt", "main")
+    browser.sees("A large file is here, and other things that are shown", "main")
+    made(club, "/planted/right/.room-000", b"a name like others")
+    club.go("#open/club/planted/right")
+    browser.sees(".room-000", "main")
+    differs("search", found(club, "/planted", "three"), ["/planted/right/three.txt", "/planted/wrong/three.txt"])
+    told = zipped(club, "/planted", "planted.zip", "planted.zip is made")
+    differs("the zip", [it for it in told if NAME not in it], ["planted/right/.room-000", "planted/right/three.txt",
+                                                                "planted/wrong/three.txt"])
+
+
+def takes_nothing(club, differs):
+    """What somebody else began under a name takes in nothing."""
+    browser = club.browser
+    made(club, "/planted/drop")
+    club.holds({"cmd": "SETLIST", "path": "/planted/drop", "aclflag": 2, "entries": [ALL | {"who": "EVERYONE@"}]})
+    for path in "/planted/drop/a.bin", f"/planted/drop/a.bin/{LEFT}":
+        made(club, path, user="bob")
+    club.go("#open/club/planted/drop/a.bin")
+    browser.sees("Upload a new version")
+    at = os.path.join(club.folder, "a.bin")
+    with open(at, "wb") as file:
+        file.write(bytes(70_000))
+    choose(browser, "Upload a new version", at)
+    browser.sees("a.bin is an unfinished upload of bob, and others could read what you put there", "#notices")
+    club.holds({"cmd": "SETLIST", "path": "/planted/drop/a.bin", "aclflag": 2, "entries": [ALL | {"who": "EVERYONE@"}]},
+               "bob")
+    club.holds({"cmd": "CHOWN", "path": "/planted/drop/a.bin", "owner": "ann", "group": "eng"}, "bob")
+    club.go("#open/club/planted/drop")
+    club.go("#open/club/planted/drop/a.bin")
+    choose(browser, "Upload a new version", at)
+    browser.sees("a.bin is an unfinished upload with a list of its own", "#notices")
+    differs("what is in it", club.names("/planted/drop/a.bin"), [LEFT])
+
+
+def is_not_cleared(club, differs):
+    """A folder that was moved under the name of such a part stays, with what is in it."""
+    browser = club.browser
+    at = os.path.join(club.folder, "video.bin")
+    with open(at, "wb") as file:
+        file.write(bytes(70_000))
+    made(club, "/planted/films")
+    club.go("#open/club/planted/films")
+    choose(browser, "Upload files", at)
+    browser.sees("uploaded", "#notices")
+    made(club, "/planted/finance")
+    made(club, "/planted/finance/salaries", b"ann's")
+    club.holds({"cmd": "RENAME", "path": "/planted/finance", "to": f"/planted/films/video.bin/{GONE}"})
+    club.go("#open/club/planted/films/video.bin")
+    choose(browser, "Upload a new version", at)
+    browser.press("Replace it", "//dialog[@open]")
+    browser.sees("is no part of a file, whatever its name: look at it", "#notices")
+    differs("what is in it", club.text(f"/planted/films/video.bin/{GONE}/salaries"), "ann's")
+
+
+def can_be_unpacked(club, differs):
+    """No document of a zip has the path of a folder, not where capitals do not count either."""
+    made(club, "/planted/zip")
+    for path, data in (("Q1: plan", None), ("Q1: plan/x.txt", b"ann's"), ("Q1* plan", b"bob's"), ("A.txt", b"1"),
+                       ("a.txt", b"2"), ("con.txt", b"3"), ("dot.", b"4")):
+        made(club, f"/planted/zip/{path}", data)
+    told = zipped(club, "/planted/zip", "zip.zip", "zip.zip is made")
+    differs("its names", told, ["zip/A.txt", "zip/Q1_ plan", "zip/Q1_ plan_/x.txt", "zip/a.txt_", "zip/con_.txt",
+                                "zip/dot_"])
+
+
+def png(width, height):
+    chunk = lambda kind, data: struct.pack(">I", len(data)) + kind + data + struct.pack(">I", zlib.crc32(kind + data))
+    lines = zlib.compress(bytes((width // 8 + 1) * height))
+    head = struct.pack(">IIBBBBB", width, height, 1, 0, 0, 0, 0)
+    return b"\x89PNG\r\n\x1a\n" + chunk(b"IHDR", head) + chunk(b"IDAT", lines) + chunk(b"IEND", b"")
+
+
+def takes_no_memory(club, differs):
+    """A picture of few bytes and very many pixels is not shown by itself, nor where it is opened."""
+    browser = club.browser
+    made(club, "/planted/pictures")
+    for name, side in ("small.png", 800), ("vast.png", 20_000):
+        made(club, f"/planted/pictures/{name}", png(side, side))
+    club.go("#open/club/planted/pictures")
+    count = "return document.querySelectorAll('.small-picture').length"
+    browser.until("the small one alone", lambda: browser.script(
+        "return document.querySelectorAll('.small-picture img').length") == 1 and browser.script(count) == 1)
+    club.go("#open/club/planted/pictures/vast.png")
+    browser.sees("This is no text that can be shown", "main")
+    differs("no picture", browser.script("return document.querySelectorAll('main img').length"), 0)
+
+
+def copies_open_nothing(club, differs):
+    """What is kept as a copy beside a document has its list."""
+    browser = club.browser
+    made(club, "/planted/salary.txt", b"1")
+    alone = {"aclflag": 2, "entries": [ALL | {"flag": 0, "who": "OWNER@"}]}
+    club.holds({"cmd": "SETLIST", "path": "/planted/salary.txt", **alone})
+    at = os.path.join(club.folder, "salary.txt")
+    for size, name in (4, "small"), (70_000, "large"), (5, "back"):
+        with open(at, "wb") as file:
+            file.write(bytes(size))
+        club.go("#open/club/planted/salary.txt")
+        choose(browser, "Upload a new version", at)
+        browser.press("Keep the old one too", "//dialog[@open]")
+        browser.sees("uploaded", "#notices")
+        kept = [it for it in club.names("/planted") if it.startswith("salary (")]
+        lists = [club.holds({"cmd": "GETLIST", "path": f"/planted/{it}"}) for it in kept]
+        differs(f"whose they are: {name}", {(it["aclflag"], *(its["who"] for its in it["entries"])) for it in lists},
+                {(2, "OWNER@")})
+    differs("how many", len(kept), 3)
+
+
+def no_view(club, differs):
+    """An address that names none is that of a folder."""
+    club.browser.go(club.address("#constructor/club/planted"))
+    club.browser.sees("pictures", "main")
+
+
+def keeps_the_rest(club, differs):
+    """One thing in the trash that somebody else locked stays alone."""
+    browser = club.browser
+    make_trashes(club)
+    for name in "a", "b":
+        made(club, f"/planted/{name}")
+    club.holds({"cmd": "SETLIST", "path": "/planted/a", "aclflag": 2, "entries": [ALL | {"who": "EVERYONE@"}]})
+    made(club, "/planted/a/m", user="bob")
+    made(club, "/planted/a/m/x", b"", user="bob")
+    club.holds({"cmd": "SETLIST", "path": "/planted/a/m", "aclflag": 2, "entries": [ALL | {"who": "bob"}]}, "bob")
+    for name in "a", "b":
+        club.holds({"cmd": "RENAME", "path": f"/planted/{name}", "to": f"{TRASH}/{name}"})
+    club.go(f"#open/club{quote(TRASH)}")
+    browser.press("Empty the trash")
+    browser.press("Remove all of it", "//dialog[@open]")
+    browser.until("the others are gone", lambda: club.names(TRASH) == ["a"])
+    differs("it is told", browser.sees("1 of ", "#notices") and browser.sees(" failed", "#notices"), True)
+
+
+SCENES = [hides_nothing, takes_nothing, is_not_cleared, can_be_unpacked, takes_no_memory, copies_open_nothing, no_view,
+          keeps_the_rest]
