@@ -45,13 +45,6 @@ def machine(is_timed=False):
     atexit.register(lambda: print(f"load at the end: {load()}", flush=True))
 
 
-def of_unit():
-    """The environment with what the program's unit sets in it."""
-    with open(os.path.join(HERE, "..", "service", "fileroom@.service"), encoding="utf-8") as unit:
-        said = next(line for line in unit if line.startswith("Environment="))
-    return {**os.environ, **dict(it.split("=") for it in said.partition("=")[2].split())}
-
-
 def row(*cells):
     print(f"| {' | '.join(map(str, cells))} |", flush=True)
 

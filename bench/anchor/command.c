@@ -2,9 +2,10 @@
 #include "anchor.h"
 #include <string.h>
 
-enum { M_ACLFLAG = 1, M_CMD = 2, M_DATA = 4, M_ENTRIES = 8, M_PATH = 16 };
+enum { M_ACLFLAG = 1, M_CMD = 2, M_DATA = 4, M_ENTRIES = 8, M_PATH = 16, M_TO = 32 };
 enum { M_FLAG = 1, M_MASK = 2, M_TYPE = 4, M_WHO = 8, M_ENTRY = 15 };
-static const char *const COMMANDS[KINDS] = {"MKDIR", "CREATE", "READ", "APPEND", "STAT", "LIST", "SETLIST"};
+static const char *const COMMANDS[KINDS] = {"MKDIR", "CREATE", "READ", "APPEND", "STAT", "LIST", "SETLIST",
+                                             "RENAME"};
 static const char PRINCIPAL[] = "ABCDEFGHIJKLMNOPQRSTUVWXYZabcdefghijklmnopqrstuvwxyz0123456789._-";
 
 struct reader {
@@ -117,9 +118,9 @@ static bool is_name(struct piece it)
     return it.length && it.length <= MAX_NAME && !is(it, ".") && !is(it, "..");
 }
 
-static int read_path(struct reader *in, struct command *to)
+static void read_path(struct reader *in, struct path *to)
 {
-    struct piece all = to->path = read_string(in);
+    struct piece all = to->whole = read_string(in);
     to->depth = 0;
     need(in, all.length && all.at[0] == '/');
     for (size_t at = 1; !in->bad && all.length > 1 && at <= all.length;) {
@@ -130,14 +131,15 @@ static int read_path(struct reader *in, struct command *to)
             to->names[to->depth++] = name;
         at += name.length + 1;
     }
-    return M_PATH;
 }
 
 static int command_member(struct reader *in, struct piece name, void *to)
 {
     struct command *it = to;
     if (is(name, "path"))
-        return read_path(in, it);
+        return read_path(in, &it->path), M_PATH;
+    if (is(name, "to"))
+        return read_path(in, &it->to), M_TO;
     if (is(name, "data"))
         return it->data = read_string(in), M_DATA;
     if (is(name, "aclflag"))
@@ -162,7 +164,8 @@ bool read_command(struct piece body, struct command *to)
         to->data = (struct piece){"", 0};
     if (in.bad)
         return false;
-    due |= to->kind == CREATE || to->kind == APPEND ? M_DATA : to->kind == SETLIST ? M_ACLFLAG | M_ENTRIES : 0;
+    due |= to->kind == CREATE || to->kind == APPEND ? M_DATA : to->kind == SETLIST ? M_ACLFLAG | M_ENTRIES
+        : to->kind == RENAME ? M_TO : 0;
     return seen == due;
 }
 
@@ -186,6 +189,10 @@ void put_command(struct text *to, const struct command *it)
                  one->type, one->who);
     }
     put_text(to, it->kind == SETLIST ? "],\"path\":\"" : ",\"path\":\"");
-    put(to, it->path.at, it->path.length);
+    put(to, it->path.whole.at, it->path.whole.length);
+    if (it->kind == RENAME) {
+        put_text(to, "\",\"to\":\"");
+        put(to, it->to.whole.at, it->to.whole.length);
+    }
     put_text(to, "\"}");
 }

@@ -5,7 +5,8 @@
 typedef sqlite3_int64 number;
 static const char *const REFUSALS[] = {
     [NOENT] = "NOENT", [NOTDIR] = "NOTDIR", [ISDIR] = "ISDIR", [EXIST] = "EXIST", [INVAL] = "INVAL",
-    [ATTRNOTSUPP] = "ATTRNOTSUPP", [FBIG] = "FBIG", [FOLDER_FULL] = "FOLDER_FULL", [ROOM_FULL] = "ROOM_FULL"
+    [ATTRNOTSUPP] = "ATTRNOTSUPP", [FBIG] = "FBIG", [TOO_DEEP] = "TOO_DEEP", [FOLDER_FULL] = "FOLDER_FULL",
+    [ROOM_FULL] = "ROOM_FULL"
 };
 
 struct node {
@@ -17,6 +18,7 @@ struct asked {  // a command of a caller, and its reply
     const struct caller *caller;
     const struct command *it;
     struct text *reply;
+    const struct path *path;  // the one that is walked
 };
 
 static bool refuse(struct asked *by, int code)
@@ -86,25 +88,30 @@ static int missing(const struct caller *caller, const struct node *it, int wante
     return (denied | open) & -(denied | open);
 }
 
-// Whether the list of the object at the first names of the path allows a right.
+// The refusal for a right on the object at the first names of the path.
+static bool deny(struct asked *by, int depth, int bit)
+{
+    const struct piece *last = depth ? &by->path->names[depth - 1] : 0;
+    const char *begin = by->path->whole.at;
+    put_form(by->reply, "{\"bit\":%d,\"code\":%d,\"error\":\"ACCESS\",\"path\":\"", bit, ACCESS);
+    put(by->reply, begin, last ? (size_t)(last->at + last->length - begin) : 1);
+    put_text(by->reply, "\"}");
+    return false;
+}
+
+// Whether its list allows a right.
 static bool may(struct asked *by, const struct node *it, int depth, int wanted)
 {
     int bit = missing(by->caller, it, wanted);
-    if (!bit)
-        return true;
-    const struct piece *last = depth ? &by->it->names[depth - 1] : 0;
-    put_form(by->reply, "{\"bit\":%d,\"code\":%d,\"error\":\"ACCESS\",\"path\":\"", bit, ACCESS);
-    put(by->reply, by->it->path.at, last ? (size_t)(last->at + last->length - by->it->path.at) : 1);
-    put_text(by->reply, "\"}");
-    return false;
+    return !bit || deny(by, depth, bit);
 }
 
 // The folder that the path's last name is in. The root is in none.
 static bool walk(struct asked *by, struct node *folder)
 {
     find(folder, ask(FIND_ROOT, ""));
-    for (int depth = 0; depth < by->it->depth; depth++) {
-        if (depth && !find(folder, ask(FIND_CHILD, "np", folder->id, by->it->names[depth - 1])))
+    for (int depth = 0; depth < by->path->depth; depth++) {
+        if (depth && !find(folder, ask(FIND_CHILD, "np", folder->id, by->path->names[depth - 1])))
             return refuse(by, NOENT);
         if (!folder->kind)
             return refuse(by, NOTDIR);
@@ -117,17 +124,17 @@ static bool walk(struct asked *by, struct node *folder)
 // The object at the path, and the folder that it is in.
 static bool find_object(struct asked *by, struct node *folder, struct node *it)
 {
-    int depth = by->it->depth;
+    int depth = by->path->depth;
     if (!walk(by, folder))
         return false;
     *it = *folder;
-    return !depth || find(it, ask(FIND_CHILD, "np", folder->id, by->it->names[depth - 1])) || refuse(by, NOENT);
+    return !depth || find(it, ask(FIND_CHILD, "np", folder->id, by->path->names[depth - 1])) || refuse(by, NOENT);
 }
 
 static bool find_file(struct asked *by, struct node *it, int wanted)
 {
     struct node folder;
-    return find_object(by, &folder, it) && (!it->kind || refuse(by, ISDIR)) && may(by, it, by->it->depth, wanted);
+    return find_object(by, &folder, it) && (!it->kind || refuse(by, ISDIR)) && may(by, it, by->path->depth, wanted);
 }
 
 static void read_list(struct list *to, number id)
@@ -165,6 +172,14 @@ static void inherit(struct list *to, const struct list *above, int kind)
     }
 }
 
+// The own entries of a list, and what the list above hands down.
+static void follow(struct list *to, const struct list *was, const struct list *above, int kind)
+{
+    for (to->count = 0; to->count < was->count && !(was->entries[to->count].flag & MARK); to->count++)
+        to->entries[to->count] = was->entries[to->count];
+    inherit(to, above, kind);
+}
+
 static void add_list(number id, const struct list *it)
 {
     for (int n = 0; n < it->count; n++) {
@@ -200,9 +215,7 @@ static void renew(number id, int kind, const struct list *it)
         if ((below[n].aclflag & 3) != 1)
             continue;
         read_list(&was, below[n].id);
-        for (now.count = 0; now.count < was.count && !(was.entries[now.count].flag & MARK); now.count++)
-            now.entries[now.count] = was.entries[now.count];
-        inherit(&now, it, below[n].kind);
+        follow(&now, &was, it, below[n].kind);
         if (differs(&was, &now))
             renew(below[n].id, below[n].kind, &now);
     }
@@ -212,8 +225,8 @@ static bool set_list(struct asked *by, struct node *it)
 {
     struct list was, now = {0}, above;
     struct node folder;
-    bool follows = by->it->depth && (by->it->aclflag & 3) == 1;
-    if (!find_object(by, &folder, it) || !may(by, it, by->it->depth, WRITE_ACL))
+    bool follows = by->path->depth && (by->it->aclflag & 3) == 1;
+    if (!find_object(by, &folder, it) || !may(by, it, by->path->depth, WRITE_ACL))
         return false;
     for (int n = 0; n < by->it->list.count; n++)
         if (!follows || !(by->it->list.entries[n].flag & MARK)) {
@@ -243,14 +256,15 @@ static bool make(struct asked *by, struct node *folder, int kind)
     const struct command *it = by->it;
     struct node there;
     struct list above, list = {0};
-    if (!it->depth)
+    int depth = by->path->depth;
+    if (!depth)
         return refuse(by, EXIST);
     if (!walk(by, folder))
         return false;
-    struct piece name = it->names[it->depth - 1];
+    struct piece name = by->path->names[depth - 1];
     if (find(&there, ask(FIND_CHILD, "np", folder->id, name)))
         return refuse(by, EXIST);
-    if (!may(by, folder, it->depth - 1, kind ? ADD_FOLDER : ADD_FILE))
+    if (!may(by, folder, depth - 1, kind ? ADD_FOLDER : ADD_FILE))
         return false;
     if (!kind && it->bytes.length > MAX_BYTES)
         return refuse(by, FBIG);
@@ -266,6 +280,74 @@ static bool make(struct asked *by, struct node *folder, int kind)
     read_list(&above, folder->id);
     inherit(&list, &above, kind);
     add_list(id, &list);
+    return true;
+}
+
+// Whether the path is at or below another.
+static bool is_below(const struct path *it, const struct path *other)
+{
+    size_t length = other->whole.length;
+    return it->whole.length >= length && !memcmp(it->whole.at, other->whole.at, length)
+        && (it->whole.length == length || it->whole.at[length] == '/');
+}
+
+// How many names lead from an object to the deepest below it.
+static int depth_below(number id)
+{
+    number below[MAX_CHILDREN];
+    int count = 0, most = 0;
+    sqlite3_stmt *child = ask(CHILDREN, "n", id);
+    while (count < MAX_CHILDREN && row(child))
+        below[count++] = sqlite3_column_int64(child, 0);
+    done(child);
+    for (int n = 0; n < count; n++) {
+        int depth = 1 + depth_below(below[n]);
+        most = depth > most ? depth : most;
+    }
+    return most;
+}
+
+// Whether an object may be taken out of its folder: by either of two rights.
+static bool may_leave(struct asked *by, const struct node *folder, const struct node *it)
+{
+    return !missing(by->caller, it, DELETE) || !missing(by->caller, folder, DELETE_CHILD)
+        || deny(by, by->path->depth, DELETE);
+}
+
+// Moves an object, with the list that its new folder hands down.
+static bool move(struct asked *by, struct node *it)
+{
+    const struct path *from = by->path, *to = &by->it->to;
+    struct node old, folder, there;
+    struct list was, now, above;
+    if (!from->depth || !to->depth || is_below(to, from))
+        return refuse(by, INVAL);
+    if (!find_object(by, &old, it))
+        return false;
+    by->path = to;
+    if (!walk(by, &folder))
+        return false;
+    struct piece name = to->names[to->depth - 1];
+    if (find(&there, ask(FIND_CHILD, "np", folder.id, name)))
+        return refuse(by, EXIST);
+    by->path = from;
+    if (!may_leave(by, &old, it))
+        return false;
+    by->path = to;
+    if (!may(by, &folder, to->depth - 1, it->kind ? ADD_FOLDER : ADD_FILE))
+        return false;
+    if (to->depth > from->depth && to->depth + depth_below(it->id) > MAX_NAMES)
+        return refuse(by, TOO_DEEP);
+    if (folder.id != old.id && find_number(ask(COUNT_CHILDREN, "n", folder.id)) >= MAX_CHILDREN)
+        return refuse(by, FOLDER_FULL);
+    run(ask(MOVE_NODE, "nnp", it->id, folder.id, name));
+    if (folder.id == old.id || (it->aclflag & 3) != 1)
+        return true;
+    read_list(&above, folder.id);
+    read_list(&was, it->id);
+    follow(&now, &was, &above, it->kind);
+    if (differs(&was, &now))
+        renew(it->id, it->kind, &now);
     return true;
 }
 
@@ -321,7 +403,7 @@ static void stat(struct asked *by, struct node *it)
 
 void do_command(const struct caller *caller, const struct command *it, struct text *reply)
 {
-    struct asked by = {caller, it, reply};
+    struct asked by = {caller, it, reply, &it->path};
     struct node folder, at;
     if (it->kind == MKDIR && make(&by, &at, 1))
         put_text(reply, "{\"code\":0}");
@@ -331,11 +413,11 @@ void do_command(const struct caller *caller, const struct command *it, struct te
         read_bytes(&by, &at);
     else if (it->kind == APPEND)
         append(&by, &at);
-    else if (it->kind == STAT && find_object(&by, &folder, &at) && may(&by, &at, it->depth, READ_ATTRIBUTES))
+    else if (it->kind == STAT && find_object(&by, &folder, &at) && may(&by, &at, it->path.depth, READ_ATTRIBUTES))
         stat(&by, &at);
     else if (it->kind == LIST && find_object(&by, &folder, &at) && (at.kind || refuse(&by, NOTDIR))
-             && may(&by, &at, it->depth, READ_DATA))
+             && may(&by, &at, it->path.depth, READ_DATA))
         list_names(&by, &at);
-    else if (it->kind == SETLIST && set_list(&by, &at))
+    else if ((it->kind == SETLIST && set_list(&by, &at)) || (it->kind == RENAME && move(&by, &at)))
         put_text(reply, "{\"code\":0}");
 }

@@ -25,6 +25,7 @@ static const char *const TEXTS[QUERIES] = {
     [FIND_NEXT] = "SELECT next FROM room WHERE one = 1",
     [SET_NEXT] = "UPDATE room SET next = ?1 WHERE one = 1",
     [ADD_NODE] = "INSERT INTO node (id, parent, name, kind, owner, grp, aclflag) VALUES (?1, ?2, ?3, ?4, ?5, ?6, 1)",
+    [MOVE_NODE] = "UPDATE node SET parent = ?2, name = ?3 WHERE id = ?1",
     [FIND_BYTES] = "SELECT bytes FROM doc WHERE node = ?1",
     [FIND_SIZE] = "SELECT length(bytes) FROM doc WHERE node = ?1",
     [ADD_BYTES] = "INSERT INTO doc (node, bytes) VALUES (?1, ?2)",
