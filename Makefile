@@ -4,7 +4,7 @@ RT ?= rt
 
 .PHONY: try demo quick build test wrong growth failing full wire tables upgrade crash hostile front soak client page
 .PHONY: decisions power
-.PHONY: bench dist install uninstall service firstday standby
+.PHONY: bench dist deb install uninstall service firstday standby machine
 
 # Serves a room with sample folders, the front and the page, until Ctrl-C: with build/fileroom where `make build` made
 # it, and else with the quick build, which proves nothing. It goes again; with FOLDER=.. it is kept there.
@@ -101,6 +101,11 @@ front: build
 standby: build
 	tests/standby/run
 
+# A Debian 12 with systemd itself, booted by systemd-nspawn: what `make dist` makes is installed there, the first day
+# done, and then attacked. By hand, and not part of `make test`. Needs root, systemd-container and debootstrap.
+machine: build
+	tests/machine/run
+
 # A million requests to one served room: its memory stays, and so does the time of a request. `make test` sends 40,000.
 soak: build
 	tests/soak/run
@@ -119,8 +124,10 @@ page: build
 	tests/page/run
 
 # Times and counts the program's works; the program beside a server in C over libsqlite3; the instructions of both, and
-# as a room grows. Needs sqlite3, strace, valgrind, gcc, libsqlite3-dev and nginx.
+# as a room grows; and draws the pictures of docs/FIGURES.md. Needs sqlite3, strace, valgrind, gcc, libsqlite3-dev,
+# nginx and gnuplot.
 bench: build
+	bench/pictures
 	bench/run
 	bench/side
 	bench/instructions
@@ -131,6 +138,10 @@ bench: build
 # front, units, man pages and docs. It runs on Debian 12 without the toolchain.
 dist: build
 	RT='$(RT)' tools/dist
+
+# The same as a package of Debian 12: build/fileroom_VERSION_amd64.deb, which brings what it needs.
+deb: build
+	RT='$(RT)' tools/deb
 
 # Puts the proved program that `make build` made below PREFIX, with its man pages, the client, the page, units, the
 # backup script, and samples of roster and front: docs/RUNNING.md goes on from there. DESTDIR stands before each path,
@@ -143,6 +154,7 @@ install:
 uninstall:
 	@service/install --remove '$(DESTDIR)' '$(PREFIX)'
 
-# Installs below a folder of its own, looks at the units, kills a served room, and brings it back from a backup.
+# Installs below a folder of its own, looks at the units, kills a served room, and brings it back from a backup; kills
+# `fileroom-admin` at each of its steps (`make test` at one in four).
 service: build
 	tests/service/run
