@@ -1,9 +1,9 @@
 """Parts of the gate: commands that run one after another or beside each other, with their times and counts.
 
-A part is a command. Its last line may be 'N passed, M failed'; without that it counts as one. It may also be 'skipped:
-WHY', where the machine lacks what the part needs: it then counts nothing, and the table says so. A part has failed
-where it ends with another status than 0, counts a failure or nothing at all, takes longer than it may, or leaves a
-process or, in the folder for its temporary files, a file.
+A part is a command. Its last line may be 'N passed, M failed'; without that it counts as one. It has failed where it
+ends with another status than 0, counts a failure or nothing at all, takes longer than it may, or leaves a process or,
+in the folder for its temporary files, a file; and where it could not try something, since the machine lacks what that
+needs: it then prints a line 'NAME: NOT TRIED: WHAT', or ends with 'skipped: WHY'.
 """
 import os
 import re
@@ -18,7 +18,7 @@ import time
 from served import end_with_parent
 
 COUNTS = re.compile(r"(\d+) passed, (\d+) failed")
-SKIPPED = re.compile(r"skipped: (.+)")
+NOT_TRIED = re.compile(r"(?:skipped|\w+: NOT TRIED): (.+)")
 GRACE = 20  # seconds to end in order
 MOMENT = 5  # seconds for what ends with a part to see that it has ended, where other work comes first
 TICKS = os.sysconf("SC_CLK_TCK")
@@ -108,7 +108,7 @@ class Part:
         self.child = self.folder = None
         self.is_ended = False
         self.lines, self.why, self.rest, self.is_open = [], [], b"", False
-        self.skipped = ""
+        self.not_tried = []
         self.passed = self.failed = 0
         self.seconds = self.ended = 0.0
 
@@ -117,6 +117,7 @@ class Part:
         env = {**os.environ, **self.env}
         if self.own_folder:
             self.folder = env["TMPDIR"] = tempfile.mkdtemp(prefix=f"gate-{self.name.replace(' ', '-')}-")
+            os.chmod(self.folder, 0o711)  # (a part may have another user at work below it)
         how = {"stdin": subprocess.DEVNULL, "stdout": subprocess.PIPE, "stderr": subprocess.STDOUT}
         how |= {"start_new_session": True, "preexec_fn": lambda: end_with_parent(signal.SIGTERM)}
         try:
@@ -136,6 +137,9 @@ class Part:
     def line(self, text):
         self.lines = [*self.lines[-20:], text]
         self.log.line(text, self.name if self.own_folder else "")
+        untried = NOT_TRIED.fullmatch(text)
+        if untried:
+            self.not_tried.append(untried[1])
         if self.watch:
             self.watch.line(text)
 
@@ -211,10 +215,9 @@ class Part:
                 self.why.append(f"{self.failed} failed{f': {self.watch.failed}' if self.watch else ''}")
             elif not self.passed:
                 self.why.append("it showed nothing")
-        elif lines and not self.child.returncode and SKIPPED.fullmatch(lines[-1]):
-            self.skipped = SKIPPED.fullmatch(lines[-1])[1]
-        elif not self.child.returncode:
+        elif not self.child.returncode and not self.not_tried:
             self.passed = 1
+        self.why += [f"not tried: {it}" for it in self.not_tried]
         if self.child.returncode:
             self.why.append(f"it ended with status {self.child.returncode}")
         if self.says is not None and lines != [self.says]:
@@ -225,8 +228,6 @@ class Part:
             return "not run"
         if self.why:
             return f"FAILED: {self.why[0][:300]}"
-        if self.skipped:
-            return f"SKIPPED: {self.skipped}"
         if self.watch:
             return self.watch.showed()
         lines = [it for it in self.lines if it.strip() and not COUNTS.fullmatch(it)]

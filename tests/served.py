@@ -163,9 +163,9 @@ def has_file(server, name):
     return False
 
 
-def wait_for_port(port, server):
+def wait_for_port(port, server, longest=WAIT):
     """Waits until this server, and no other, listens on a port. False where it ended before."""
-    end = time.monotonic() + WAIT
+    end = time.monotonic() + longest
     while time.monotonic() < end:
         if server.poll() is not None:
             return False
@@ -316,6 +316,7 @@ class Line:
 
 class Room:
     """A room in a folder, with a server that can be started, killed and started again."""
+    longest = WAIT  # seconds until it listens
 
     def __init__(self, folder, roster=ROSTER, owner="ann", group="eng", made=True):
         self.db = os.path.join(folder, "room.db")
@@ -347,7 +348,7 @@ class Room:
         sys.exit(f"{SCRIPT}: serve ended at once with status {self.server.returncode}")
 
     def listens(self):
-        return wait_for_port(self.port, self.server)
+        return wait_for_port(self.port, self.server, self.longest)
 
     def line(self):
         return Line(self.port)

@@ -1,17 +1,20 @@
 // Loaded before the C library: fails calls on a program's input and output. FAIL_READ and FAIL_WRITE say how, by
 // three words STEP KIND AT: a call takes at most STEP bytes (0: all that it asks for); and KIND is a, for a call that
-// fails once AT bytes were taken, n, for an AT-th call that takes none, or -. A failure says that the device is broken.
+// fails once AT bytes were taken, n, for an AT-th call that takes none, or -. A failure says that the device is broken;
+// a call after one that failed, or that took none, ends the process with status TRIED_AGAIN.
 long __read(int fd, void *to, unsigned long length);
 long __write(int fd, const void *from, unsigned long length);
 int *__errno_location(void);
 char *getenv(const char *name);
 long strtol(const char *text, char **end, int base);
 
-enum { IN, OUT, BROKEN = 5 };
+void _exit(int status) __attribute__((noreturn));
+
+enum { IN, OUT, BROKEN = 5, TRIED_AGAIN = 77 };
 
 static struct plan {
     long step, at, calls, bytes;
-    char kind;
+    char kind, is_over;
 } plans[2];
 
 __attribute__((constructor)) static void begin(void) {
@@ -29,14 +32,15 @@ __attribute__((constructor)) static void begin(void) {
 // How many of these bytes the call may have, -1 where it is to fail.
 static long allowed(struct plan *it, long length) {
     long left = it->at - it->bytes;
+    if (it->is_over)
+        _exit(TRIED_AGAIN);
     it->calls++;
     if (it->step && length > it->step)
         length = it->step;
-    if (it->kind == 'n' && it->calls == it->at)
-        return 0;
-    if (it->kind != 'a')
-        return length;
-    return left <= 0 ? -1 : length > left ? left : length;
+    it->is_over = it->kind == 'n' ? it->calls == it->at : it->kind == 'a' && left <= 0;
+    if (it->is_over)
+        return it->kind == 'n' ? 0 : -1;
+    return it->kind == 'a' && length > left ? left : length;
 }
 
 static long counted(struct plan *it, long taken) {
