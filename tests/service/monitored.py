@@ -7,7 +7,7 @@ import sys
 import time
 from unittest import mock
 
-from admin import SERVICE, Machine, Served
+from machines import SERVICE, Machine, Served
 from moving import backed_up
 from nginx import Front, login
 from served import HERE, Room, bytes_of, text_of

@@ -5,7 +5,7 @@ import os
 import subprocess
 import tarfile
 
-from admin import SERVICE, Machine, Served, fits
+from machines import SERVICE, Machine, Served, fits
 from served import bytes_of, text_of
 
 

@@ -9,7 +9,8 @@ import threading
 import time
 
 import admin
-from admin import SERVICE, STAND_INS, Machine, Served, fits, stops
+from admin import stops
+from machines import SERVICE, STAND_INS, Machine, Served, fits
 from served import HERE, text_of
 
 CLIENT = os.path.join(HERE, "..", "client", "room")
