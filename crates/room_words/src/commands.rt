@@ -11,9 +11,13 @@ use std::alloc::{AllocError, Global};
 /// What `--version` tells; docs/CHANGES.md says what each version changed.
 const VERSION: &str = "0.3.0";
 
-const AFTER_HELP: &str = "A value that begins with - is written behind --.
+const AFTER_HELP: &str = "Put -- before a value that begins with -.
 
-Exit statuses: 0 done, or help was shown; 1 a fault, told in a line; 2 other words.";
+Exit status: 0 success or help; 1 error (one line on standard error); 2 wrong usage.";
+
+const AFTER_HELP_OF_CHECK: &str = "It waits for a message on standard input. For example:
+
+  fileroom check <examples/deny_stands_first.http";
 
 static KINDS: [&str; 2] = ["access", "lists"];
 
@@ -145,9 +149,9 @@ fn report<'a>(alloc: Global, kind: ValueParser<'a>) -> Result<Command<'a>, Alloc
 fn check<'a>(alloc: Global) -> Command<'a>
     ensures { IsCommand (new_app (codes "check")) result }
 {
-    Command::new(alloc, "check").about(
-        "Answers questions about access lists, from standard input to standard output",
-    )
+    Command::new(alloc, "check")
+        .about("Answers questions about access lists, from standard input to standard output")
+        .after_help(AFTER_HELP_OF_CHECK)
 }
 
 fn selftest<'a>(alloc: Global) -> Command<'a>
