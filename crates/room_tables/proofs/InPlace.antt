@@ -15,7 +15,7 @@ use Rattle.sqlite_value.specs.declared.value.Value.TheVariants.{Int}
 use Rattle.sqlite_value.specs.declared.keys.Collation.TheVariants.{Binary}
 use Rattle.sqlite_value.specs.Order.{Row, column}
 use Rattle.sqlite_value.proofs.OrderLemmas.{value_cmp-Int}
-use Rattle.sqlite_trees.specs.Tree.{rowid, put_row}
+use Rattle.sqlite_trees.specs.Tree.{Trees, rowid, put_row}
 use Rattle.sqlite_trees.specs.View.{is_int}
 use Rattle.sqlite_trees.proofs.ListLemmas.{all-permutation}
 use Rattle.sqlite_sql.specs.declared.ops.BinaryOp.TheVariants.{Compare}
@@ -393,15 +393,23 @@ five_are : (rows : List Row) → AllByRecursion HasFive rows → map five_column
 five_are [] all = refl
 five_are (r ∷ rows) all = ap₂ ◌∷◌ all.0 (five_are rows all.1)
 
+-- the rows of a list are five columns each
+five_listed : (db : Trees) (id : ℕ) → map five_columns (entry_rows db id) ≡ entry_rows db id
+five_listed db id =
+    let shown = map shown_entry (filter (has 1 id) (db 3)) in
+    let cmp = key_cmp 0 entry_keys in
+    five_are (entry_rows db id) (all-permutation HasFive shown (sort_by cmp shown)
+    (IsPermutation-sym _ _ (IsPermutation-sort_by cmp (key_cmp_total entry_keys 0) shown))
+    (have_five (filter (has 1 id) (db 3))))
+
+pub rows_stored : (db : Trees) (id : ℕ) (rows : List Row) (es : List EntryModel)
+    → rows ≡ entry_rows db id → map five_columns rows ≡ placed 0 es → entry_rows db id ≡ placed 0 es
+rows_stored db id rows es is are = sym (five_listed db id) ∙ ap (map five_columns) (sym is) ∙ are
+
 -- entries that were read at the places 0, 1, 2, .. are the object's list
 pub lists_shown : (old new : State) (id : ℕ) (rows : List Row) (es : List EntryModel) → IsRoomDatabase old.now
     → map five_columns rows ≡ placed 0 es → AllByRecursion IsReadBack es
     → Shown list_entries_text (Int (pos id) ∷ []) old new rows → Lists old.now id es old.now
 lists_shown old new id rows es room are back h =
-    let shown = map shown_entry (filter (has 1 id) (old.now.trees 3)) in
-    let cmp = key_cmp 0 entry_keys in
-    let five = five_are (entry_rows old.now.trees id) (all-permutation HasFive shown (sort_by cmp shown)
-    (IsPermutation-sym _ _ (IsPermutation-sort_by cmp (key_cmp_total entry_keys 0) shown))
-    (have_five (filter (has 1 id) (old.now.trees 3)))) in
-    lists_stored old.now id es room (sym five ∙ ap (map five_columns)
-    (sym (asks_entries old new id rows room (typed_from rows 0 es are) h)) ∙ are) back
+    lists_stored old.now id es room
+    (rows_stored old.now.trees id rows es (asks_entries old new id rows room (typed_from rows 0 es are) h) are) back

@@ -165,7 +165,7 @@ lists_none old new id count room h =
       schema = it.schema ∙ sym room.schema;
       mine = rw (eq-eqb id id refl) at (rows id);
       back = tt;
-      others = λ q apart. ap (map entry_of) (rw (ne_eqb q id apart) at (rows q));
+      others = λ q apart. rw (ne_eqb q id apart) at (rows q);
       nodes = o.node (omega arith);
       documents = λ q. ap (λ l. documents_in l q) (o.doc (omega arith));
       next = ap next_in (o.room (omega arith));
@@ -236,7 +236,7 @@ relisted before old new id es fs was schema sound o back it = record {
   schema = schema ∙ sym was.room.schema ∙ was.schema;
   mine = it.mine;
   back = back;
-  others = λ q apart. ap (λ l. map entry_of (in_order l)) (it.others q apart) ∙ was.others q apart;
+  others = λ q apart. ap in_order (it.others q apart) ∙ was.others q apart;
   nodes = o.node (omega arith) ∙ was.nodes;
   documents = λ q. ap (λ l. documents_in l q) (o.doc (omega arith)) ∙ was.documents q;
   next = ap next_in (o.room (omega arith)) ∙ was.next;
@@ -269,5 +269,5 @@ pub lists_records : (before : Database) (id : ℕ) (es : List EntryModel) (db : 
     }
 lists_records before id es db it = same_records _ _ (λ q. ap (λ l. nodes_in l q) it.nodes) (λ q. elim (cases_eq q id) [
   | inl same ↦ rw (eq-eqb q id same, same) (ap (map entry_of) it.mine ∙ read_back 0 es it.back)
-  | inr apart ↦ rw (ne_eqb q id apart) (it.others q apart)
+  | inr apart ↦ rw (ne_eqb q id apart) (ap (map entry_of) (it.others q apart))
 ]) it.documents it.next it.sessions it.slots

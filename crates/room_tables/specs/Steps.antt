@@ -64,13 +64,13 @@ MayBecome changes db trees = IsRoomDatabase db → records_of trees ≡ apply_ch
 abbrev pub StaysRoom : Database → Trees → Type 0
 StaysRoom db trees = IsRoomOfVersion2 db → IsRoomOfVersion2 (record { schema = db.schema; trees = trees })
 
--- the object's entries are these, and all else is as it was
+-- the object's entries are these, and all else is as it was, the rows of the others' entries too
 pub record Lists (before : Database) (id : ℕ) (entries : List EntryModel) (db : Database) : Type 0 where
   pub room : IsRoomDatabase db
   pub schema : db.schema ≡ before.schema
   pub mine : entry_rows db.trees id ≡ placed 0 entries
   pub back : AllByRecursion IsReadBack entries
-  pub others : (q : ℕ) → q ≢ id → (records_of db.trees).objects.entries q ≡ (records_of before.trees).objects.entries q
+  pub others : (q : ℕ) → q ≢ id → entry_rows db.trees q ≡ entry_rows before.trees q
   pub nodes : db.trees 1 ≡ before.trees 1
   pub documents : (q : ℕ) → (records_of db.trees).objects.document q ≡ (records_of before.trees).objects.document q
   pub next : (records_of db.trees).objects.next ≡ (records_of before.trees).objects.next
