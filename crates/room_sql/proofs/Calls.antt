@@ -1,11 +1,7 @@
 -- The frames of calls of the shelf.
-use Rattle.std.proofs.Common.{◌≡◌, ◌≢◌, ◌≤◌, ℕ, List, None, Some, Result, Ok}
+use Rattle.std.proofs.Common.{◌≡◌, ◌≢◌, ◌≤◌, ℕ, None, Some, Result, Ok}
 use Rattle.std.proofs.Common.{Err, IfOk, OnOk, OnErr, inl, inr, refl, sym, ap, subst, arith}
-use Rattle.std.proofs.Common.{◌==◌, true, [], length, map, IsTrue, IsPermutation}
-use Rattle.std.proofs.lemmas.Bool.Decides.{nat_tests}
-use Rattle.std.proofs.lemmas.List.{length-map, nil_from_length}
-use Rattle.std.proofs.lemmas.List.Sorted.{length_permutation}
-use Rattle.sqlite_value.specs.Order.{Row}
+use Rattle.std.proofs.Common.{IsTrue}
 use Rattle.sqlite_trees.specs.declared.store.Store.{Ghosts}
 use Rattle.sqlite_trees.specs.Tree.{Trees}
 use Rattle.sqlite.specs.Effect.{Database}
@@ -15,23 +11,24 @@ use Rattle.sqlite.specs.declared.error.Error.{Error}
 use Rattle.room_records.specs.declared.shelf.ShelfFault.{ShelfFault}
 use Rattle.room_records.specs.declared.shelf.ShelfFault.TheVariants.{Store}
 use Rattle.room_records.specs.Shelf.{View, ShelfCall, ShelfRead, FailureCounted, fault_in}
-use Rattle.room_tables.specs.Rows.{records_of, shown_node}
+use Rattle.room_tables.specs.Rows.{records_of}
 use Rattle.room_tables.specs.Layout.{IsRoomOfVersion2, AreOfRoom}
 use Rattle.room_tables.specs.Steps.{StaysRoom}
-use Rattle.room_sql.specs.declared.node_facts.NodeFacts.{NodeFacts}
-use Rattle.room_sql.specs.NodeFacts.{IsTrueOf, KnowsNothing}
+use Rattle.room_sql.specs.declared.facts.Facts.{Facts}
+use Rattle.room_sql.specs.Facts.{AreTrueOf, KnowsNothing}
+use Rattle.room_sql.specs.ReadLists.{AreStored}
 use Rattle.room_sql.specs.Frames.{QueryFrame}
 use Rattle.room_sql.proofs.Frames.{was_clean}
 
 module _ {S : Type 0} (store : Ghosts S) where
   -- what contracts see of the shelf with this connection, count of failures and knowledge
-  abbrev pub view_of : Held S → ℕ → NodeFacts → View
+  abbrev pub view_of : Held S → ℕ → Facts → View
   view_of conn failures known = record {
     records = records_of (state store conn).now.trees;
     failures = failures;
     is_intact = HasCleanDisk (state store conn);
     is_available = HasCleanDisk (state store conn) × IsTrue (state store conn).is_open;
-    is_laid_out = IsRoomOfVersion2 (state store conn).now × IsTrueOf known ((state store conn).now.trees 1);
+    is_laid_out = IsRoomOfVersion2 (state store conn).now × AreTrueOf known (state store conn).now.trees;
     crash_may_leave = λ left. HasCleanDisk (state store conn)
         × ((trees : Trees) × (state store conn).may_leave trees × (left ≡ records_of trees));
     leaves_laid_out = (trees : Trees) → (state store conn).may_leave trees → AreOfRoom trees;
@@ -47,10 +44,10 @@ module _ {S : Type 0} (store : Ghosts S) where
   ]
 
   -- a query that answered, after which the shelf knows something that is true
-  pub read_ok : {T : Type 0} {failures : ℕ} {known after : NodeFacts} {x : T} (old new : Held S)
+  pub read_ok : {T : Type 0} {failures : ℕ} {known after : Facts} {x : T} (old new : Held S)
       → QueryFrame {T = T} (state store old) (state store new) (Ok x)
       → (HasCleanDisk (state store new) → IsRoomOfVersion2 (state store old).now
-      → IsTrueOf known ((state store old).now.trees 1) → IsTrueOf after ((state store old).now.trees 1))
+      → AreTrueOf known (state store old).now.trees → AreTrueOf after (state store old).now.trees)
       → ShelfRead (view_of old failures known) (view_of new failures after) None
   read_ok {after = after} old new frame true_of = record {
     call = record {
@@ -58,7 +55,7 @@ module _ {S : Type 0} (store : Ghosts S) where
       was_available = λ there. (frame.clean there.0, frame.was_open there.0 there.1);
       laid_out = λ there laid. (
         rw (frame.answered there.0).1 laid.0,
-        subst (λ (d : Database). IsTrueOf after (d.trees 1)) (sym (frame.answered there.0).1)
+        subst (λ (d : Database). AreTrueOf after d.trees) (sym (frame.answered there.0).1)
             (true_of there.0 laid.0 laid.1),
       );
       left_laid_out = λ clean there laid. left old new frame.crash clean;
@@ -77,7 +74,7 @@ module _ {S : Type 0} (store : Ghosts S) where
   }
 
   -- a query that failed, or whose rows cannot be read, after which the shelf knows nothing
-  pub read_err : {T : Type 0} {failures more : ℕ} {known after : NodeFacts} {r : Result T Error} {fault : ShelfFault}
+  pub read_err : {T : Type 0} {failures more : ℕ} {known after : Facts} {r : Result T Error} {fault : ShelfFault}
       (old new : Held S) → QueryFrame (state store old) (state store new) r
       → (IsTrue (state store old).is_open → (state store old).now ≡ (state store old).committed)
       → KnowsNothing after → failures ≤ more → (fault ≢ Store → more ≡ failures)
@@ -89,7 +86,7 @@ module _ {S : Type 0} (store : Ghosts S) where
       was_available = λ there. (frame.clean there.0, frame.was_open there.0 there.1);
       laid_out = λ there laid. (
         rw (kept there) laid.0,
-        nothing ((state store new).now.trees 1),
+        nothing (state store new).now.trees,
       );
       left_laid_out = λ clean there laid. left old new frame.crash clean;
       alive = λ clean was. tt;
@@ -111,8 +108,9 @@ module _ {S : Type 0} (store : Ghosts S) where
       kept there = frame.same there.0 there.1 (settled (frame.was_open there.0 there.1))
 
   -- a commit that failed, after which the shelf knows nothing
-  pub commit_err : {failures more : ℕ} {known after : NodeFacts} {fault : ShelfFault} (old new : Held S)
-      → Survives (state store old) (state store new) (StaysRoom (state store old).now)
+  pub commit_err : {failures more : ℕ} {known after : Facts} {fault : ShelfFault} (old new : Held S)
+      → Survives (state store old) (state store new)
+      (λ trees. AreStored known.lists (state store old).now.trees → StaysRoom (state store old).now trees)
       → (HasCleanDisk (state store new) → IsTrue (state store new).is_open → IsTrue (state store old).is_open)
       → (HasCleanDisk (state store new) → IsTrue (state store new).is_open
       → (state store new).now ≡ (state store old).now)
@@ -124,11 +122,11 @@ module _ {S : Type 0} (store : Ghosts S) where
     was_available = λ there. (was_clean survives there.0, was_open there.0 there.1);
     laid_out = λ there laid. (
       rw (kept there.0 there.1) laid.0,
-      nothing ((state store new).now.trees 1),
+      nothing (state store new).now.trees,
     );
     left_laid_out = λ clean there laid leaves trees may. elim (survives.crash clean trees may) [
       | inl was ↦ leaves trees was
-      | inr made ↦ ((state store old).now.schema, made laid.0)
+      | inr made ↦ ((state store old).now.schema, made laid.1.lists laid.0)
     ];
     alive = λ clean was. tt;
     never_falls = never;
@@ -139,18 +137,34 @@ module _ {S : Type 0} (store : Ghosts S) where
 
 -- a query that answered, and a result by whose fault the shelf forgets all that it knows
 module _ {S : Type 0} (store : Ghosts S) where
-  pub read_told : {T U : Type 0} {failures more : ℕ} {known mid after : NodeFacts} {query : Result U Error} {x : U}
+  pub read_told : {T U : Type 0} {failures more : ℕ} {known mid after : Facts} {query : Result U Error} {x : U}
       (result : Result T ShelfFault) (old new : Held S) → query ≡ Ok x
       → QueryFrame (state store old) (state store new) query
       → (IsTrue (state store old).is_open → (state store old).now ≡ (state store old).committed)
       → (HasCleanDisk (state store new) → IsRoomOfVersion2 (state store old).now
-      → IsTrueOf known ((state store old).now.trees 1) → IsTrueOf mid ((state store old).now.trees 1))
+      → AreTrueOf known (state store old).now.trees → AreTrueOf mid (state store old).now.trees)
       → OnOk result (after ≡ mid) → OnErr result (KnowsNothing after) → failures ≤ more
       → (result ≢ Err Store → more ≡ failures) → (result ≡ Err Store → FailureCounted failures more)
       → ShelfRead (view_of store old failures known) (view_of store new more after) (fault_in result)
   read_told (Ok value) old new ok frame settled true_of kept nothing never quiet counted =
       rw (kept, quiet (λ is. absurd (let bad = is in cc))) (read_ok store old new (rw ok at frame) true_of)
   read_told (Err fault) old new ok frame settled true_of kept nothing never quiet counted =
+      read_err store old new frame settled nothing never (λ other. quiet (λ is. other (let e = is in cc)))
+      (λ is. counted (ap Err is))
+
+-- a query whose answer is handed on
+module _ {S : Type 0} (store : Ghosts S) where
+  pub read_asked : {T : Type 0} {failures more : ℕ} {known after : Facts} (result : Result T ShelfFault)
+      (old new : Held S) (query : Result T Error) → IfOk result (λ value. query ≡ Ok value)
+      → QueryFrame (state store old) (state store new) query
+      → (IsTrue (state store old).is_open → (state store old).now ≡ (state store old).committed)
+      → OnOk result (after ≡ known) → OnErr result (KnowsNothing after) → failures ≤ more
+      → (result ≢ Err Store → more ≡ failures) → (result ≡ Err Store → FailureCounted failures more)
+      → ShelfRead (view_of store old failures known) (view_of store new more after) (fault_in result)
+  read_asked (Ok value) old new query ok frame settled kept nothing never quiet counted =
+      rw (kept, quiet (λ is. absurd (let bad = is in cc)))
+      (read_ok store old new (rw ok at frame) (λ clean room true_of. true_of))
+  read_asked (Err fault) old new query ok frame settled kept nothing never quiet counted =
       read_err store old new frame settled nothing never (λ other. quiet (λ is. other (let e = is in cc)))
       (λ is. counted (ap Err is))
 

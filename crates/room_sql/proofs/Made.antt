@@ -1,6 +1,7 @@
 -- What the statements of a change make of a database.
 use Rattle.std.specs.declared.alloc.Global.{Global}
 use Rattle.std.proofs.Common.{Vec, ◌≡◌, ℕ, suc, true, pos, IsTrue, List, [], ◌∷◌, Ok, inl, inr, refl, arith}
+use Rattle.std.proofs.Common.{◌∙◌, ap, filter}
 use Rattle.sqlite_value.specs.declared.value.Value.TheVariants.{Int, Text}
 use Rattle.sqlite_value.specs.Order.{Row}
 use Rattle.sqlite_trees.specs.declared.store.Store.{Ghosts}
@@ -14,7 +15,7 @@ use Rattle.room_records.specs.declared.change.Change.TheVariants.{PutNode, PutEn
 use Rattle.room_records.specs.declared.change.Change.TheVariants.{DropSlots}
 use Rattle.room_tables.proofs.Texts.{change_node_text, add_node_text, change_doc_text, add_doc_text, put_session_text}
 use Rattle.room_tables.proofs.Texts.{change_slot_text, add_slot_text, drop_slots_text, change_next_text, add_next_text}
-use Rattle.room_tables.specs.Rows.{has, name_of_text}
+use Rattle.room_tables.specs.Rows.{has, name_of_text, in_order}
 use Rattle.room_tables.specs.Layout.{IsRoomDatabase}
 use Rattle.room_tables.specs.Steps.{Lists, flag_of}
 use Rattle.room_tables.proofs.Each.{above}
@@ -33,6 +34,10 @@ use Rattle.room_sql.specs.Frames.{RunsOr}
 use Rattle.room_sql.specs.NodeRows.{MakesChange}
 use Rattle.room_sql.proofs.NodeRows.{one_more}
 
+-- the rows of an object's entries, in order, of those of the table
+abbrev listed : ℕ → List Row → List Row
+listed q rows = in_order (filter (has 1 q) rows)
+
 pub new_node_made : (node : Node) (name : List ℕ) (a b : State) (count : ℕ) → name_of_text name ≡ node.name
     → IsRoomDatabase a.now → ExecutesInside 0 add_node_text (params_of_node node name) a b (Ok count)
     → MakesChange (PutNode node) a b
@@ -40,6 +45,8 @@ new_node_made node name a b count named room ran = record {
   steps = steps_add_node a b node name count room named ran;
   nodes = one_more node.id node.parent (row_of_node node name) _ _ refl
       (node_added a b node name count (λ r. has 0 node.id r ≡ true) room ran).put;
+  entries = λ q. ap (listed q)
+      ((node_added a b node name count (λ r. has 0 node.id r ≡ true) room ran).put.others.entry (omega arith));
 }
 
 pub entries_made : (id : ℕ) (entries : Vec EntryModel Global) (es : List EntryModel) (a b : State) → es ≡ entries.items
@@ -47,6 +54,7 @@ pub entries_made : (id : ℕ) (entries : Vec EntryModel Global) (es : List Entry
 entries_made id entries es a b is was_open it = record {
   steps = lists_steps a b id entries es is was_open it;
   nodes = it.nodes;
+  entries = it.others;
 }
 
 pub new_doc_made : (id : ℕ) (bytes : Vec ℕ Global) (a b : State) (count : ℕ) → IsRoomDatabase a.now
@@ -54,6 +62,7 @@ pub new_doc_made : (id : ℕ) (bytes : Vec ℕ Global) (a b : State) (count : �
 new_doc_made id bytes a b count room ran = record {
   steps = steps_new_doc a b id bytes count room ran;
   nodes = doc_new_leaves_nodes a b id bytes.items count room ran;
+  entries = tt;
 }
 
 -- the values of a session's row
@@ -66,6 +75,7 @@ session_made row a b count room ran = record {
   steps = steps_session a b row count room ran;
   nodes = (puts_session room.layout a b row.sid row.owner row.slots (flag_of row.is_open) count room.schema
       room.keyed.session ran.0).put.others.node (omega arith);
+  entries = tt;
 }
 
 pub slots_dropped : (sid : List ℕ) (a b : State) (count : ℕ) → IsRoomDatabase a.now
@@ -74,6 +84,7 @@ slots_dropped sid a b count room ran = record {
   steps = steps_drop_slots a b sid count room ran;
   nodes = (drops_slots room.layout a b sid count room.schema room.keyed.slots ran.0).others.node
       (omega (arith, above room.layout));
+  entries = tt;
 }
 
 -- ---- an UPDATE, and an INSERT where that changed none
@@ -87,6 +98,8 @@ module _ {S : Type 0} (store : Ghosts S) where
     steps = steps_change_node _ _ node name one.0 room named one.1;
     nodes = one_more node.id node.parent (row_of_node node name) _ _ refl
         (node_changed _ _ node name (suc one.0) room one.1).put;
+    entries = λ q. ap (listed q)
+        ((node_changed _ _ node name (suc one.0) room one.1).put.others.entry (omega arith));
   }
   node_made node name a b named room (inr on) =
       let mid = state store on.0 in
@@ -95,6 +108,8 @@ module _ {S : Type 0} (store : Ghosts S) where
         steps = steps_change_or_add _ mid _ node name on.1 room named on.2 on.3;
         nodes = λ none. rw it.0 at (one_more node.id node.parent (row_of_node node name) mid.now.trees _ refl
             it.1.put (rw it.0 none));
+        entries = λ q. ap (listed q) (it.1.put.others.entry (omega arith)
+            ∙ (node_changed _ mid node name 0 room on.2).leaves.others.entry (omega arith));
       }
 
   pub doc_made : (id : ℕ) (bytes : Vec ℕ Global) (a b : Held S) → IsRoomDatabase (state store a).now
@@ -103,10 +118,12 @@ module _ {S : Type 0} (store : Ghosts S) where
   doc_made id bytes a b room (inl one) = record {
     steps = steps_change_doc _ _ id bytes one.0 room one.1;
     nodes = doc_change_leaves_nodes _ _ id bytes.items one.0 room one.1;
+    entries = tt;
   }
   doc_made id bytes a b room (inr on) = record {
     steps = steps_add_doc _ (state store on.0) _ id bytes on.1 room on.2 on.3;
     nodes = doc_add_leaves_nodes _ (state store on.0) _ id bytes.items on.1 room on.2 on.3;
+    entries = tt;
   }
 
   pub slot_made : (row : SlotRow) (a b : Held S) → IsRoomDatabase (state store a).now
@@ -115,10 +132,12 @@ module _ {S : Type 0} (store : Ghosts S) where
   slot_made row a b room (inl one) = record {
     steps = steps_change_slot _ _ row one.0 room one.1;
     nodes = change_leaves_nodes _ _ row one.0 room one.1;
+    entries = tt;
   }
   slot_made row a b room (inr on) = record {
     steps = steps_add_slot _ (state store on.0) _ row on.1 room on.2 on.3;
     nodes = add_leaves_nodes _ (state store on.0) _ row on.1 room on.2 on.3;
+    entries = tt;
   }
 
   pub next_set : (n : ℕ) (a b : Held S) → IsRoomDatabase (state store a).now

@@ -1,5 +1,5 @@
 -- What changes do to the rows of nodes.
-use Rattle.std.proofs.Common.{◌≡◌, ◌∙◌, ◌+◌, ◌<◌, ◌==◌, ℕ, pos, Bool, true, false, List, [], ◌∷◌, ◌++◌, length, filter}
+use Rattle.std.proofs.Common.{◌≡◌, ◌∙◌, ◌+◌, ◌<◌, ◌==◌, ℕ, pos, Bool, true, false, List, ◌∷◌, length, filter}
 use Rattle.std.proofs.Common.{Option, None, Some, inl, inr, refl, sym, ap, subst, is_eq, eq-eqb, arith, get_or, drop}
 use Rattle.std.proofs.Common.{if◌then◌else◌}
 use Rattle.std.proofs.lemmas.Bool.{cases_Bool, cases_eq}
@@ -13,14 +13,13 @@ use Rattle.sqlite_trees.specs.Tree.{Trees, without_rowid, has_rowid}
 use Rattle.sqlite_keyed.proofs.ListLemmas.{IsPermutation-filter}
 use Rattle.sqlite_rules.specs.Lists.{Has}
 use Rattle.sqlite_rules.proofs.ListLemmas.{has_kept}
-use Rattle.room_records.specs.declared.change.Change.{Change}
 use Rattle.room_tables.specs.Tables.{Layout}
 use Rattle.room_tables.specs.Rows.{has}
 use Rattle.room_tables.specs.Layout.{parent_value}
 use Rattle.room_tables.proofs.Upserts.{Put}
 use Rattle.room_tables.proofs.Filters.{put_is_one_more, put_passed_over, others_left_on, not_both}
 use Rattle.room_tables.proofs.Values.{int_has, has_is}
-use Rattle.room_sql.specs.NodeRows.{HasNone, HasOneMore, is_parent, After, AfterAll}
+use Rattle.room_sql.specs.NodeRows.{HasNone, HasOneMore, is_parent}
 
 -- ---- a node where no row has its number
 

@@ -1,12 +1,14 @@
--- What changes do to the rows of nodes. It speaks of rows, and so needs no rule of the records.
-use Rattle.std.specs.Prelude.{◌≡◌, ◌+◌, ℕ, Bool, true, false, ◌==◌, List, [], ◌∷◌, length, filter, Option, None, Some}
+-- What changes do to the rows of nodes and of entries. It speaks of rows, and so needs no rule of the records.
+use Rattle.std.specs.Prelude.{◌≡◌, ◌+◌, ℕ, Bool, true, false, ◌==◌, ◌≢◌, List, [], ◌∷◌, length, filter, Option}
+use Rattle.std.specs.Prelude.{None, Some}
 use Rattle.std.specs.Prelude.{if◌then◌else◌}
 use Rattle.sqlite_value.specs.Order.{Row}
+use Rattle.sqlite_trees.specs.Tree.{Trees}
 use Rattle.sqlite.specs.State.{State}
 use Rattle.room_records.specs.declared.change.Change.{Change}
-use Rattle.room_records.specs.declared.change.Change.TheVariants.{PutNode, DropNode}
+use Rattle.room_records.specs.declared.change.Change.TheVariants.{PutNode, DropNode, PutEntries}
 use Rattle.room_records.specs.Changes.{apply_change}
-use Rattle.room_tables.specs.Rows.{has}
+use Rattle.room_tables.specs.Rows.{has, entry_rows}
 use Rattle.room_tables.specs.Steps.{Steps}
 use Rattle.room_sql.specs.declared.new_object.NewObject.{NewObject}
 use Rattle.room_sql.specs.NewObject.{is_new, after_change}
@@ -40,10 +42,18 @@ After (PutNode node) old new = HasNone node.id old → HasOneMore node.parent ol
 After (DropNode id) old new = Unit {0}
 After _ old new = new ≡ old
 
--- what a change makes of a database, inside a transaction: of its records, and of its rows of nodes
+-- A node that is put leaves the rows of all entries, and entries that are put leave those of other objects. Of other
+-- changes nothing is said
+abbrev pub LeavesEntries : Change → Trees → Trees → Type 0
+LeavesEntries (PutNode node) old new = (q : ℕ) → entry_rows new q ≡ entry_rows old q
+LeavesEntries (PutEntries id entries) old new = (q : ℕ) → q ≢ id → entry_rows new q ≡ entry_rows old q
+LeavesEntries _ old new = Unit {0}
+
+-- what a change makes of a database, inside a transaction: of its records, and of its rows of nodes and entries
 pub record MakesChange (change : Change) (old new : State) : Type 0 where
   pub steps : Steps old new (apply_change change)
   pub nodes : After change (old.now.trees 1) (new.now.trees 1)
+  pub entries : LeavesEntries change old.now.trees new.now.trees
 
 -- a node that a commit takes as new had no row
 abbrev pub IsNewIfKnown : NewObject → Change → List Row → Type 0

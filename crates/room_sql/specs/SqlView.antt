@@ -8,7 +8,7 @@ use Rattle.room_records.specs.Shelf.{View}
 use Rattle.room_tables.specs.Layout.{IsRoomOfVersion2, AreOfRoom}
 use Rattle.room_tables.specs.Rows.{records_of}
 use Rattle.room_sql.specs.declared.sql_shelf.SqlShelf.{SqlShelf}
-use Rattle.room_sql.specs.NodeFacts.{IsTrueOf}
+use Rattle.room_sql.specs.Facts.{AreTrueOf}
 
 -- The records are the rows of the tables, and the store is intact while its disk has returned what was written.
 -- It is laid out as a room of version 2; that says also that what the shelf remembers is true of its rows
@@ -19,7 +19,7 @@ sql_view store shelf = record {
   is_intact = HasCleanDisk (state store shelf.conn);
   is_available = HasCleanDisk (state store shelf.conn) × IsTrue (state store shelf.conn).is_open;
   is_laid_out = IsRoomOfVersion2 (state store shelf.conn).now
-      × IsTrueOf shelf.known ((state store shelf.conn).now.trees 1);
+      × AreTrueOf shelf.known (state store shelf.conn).now.trees;
   crash_may_leave = λ left. HasCleanDisk (state store shelf.conn)
       × ((trees : Trees) × (state store shelf.conn).may_leave trees × (left ≡ records_of trees));
   leaves_laid_out = (trees : Trees) → (state store shelf.conn).may_leave trees → AreOfRoom trees;

@@ -1,11 +1,14 @@
 //! A room in the tables of a database.
 #![tactic(auto)]
 
+mod commits;
 mod deciding;
+mod facts;
 mod names;
 mod new_object;
 mod node_facts;
 mod open;
+mod read_lists;
 mod reads;
 mod rows;
 mod sql_shelf;

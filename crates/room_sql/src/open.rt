@@ -13,7 +13,7 @@ ghost use Rattle.room_tables.specs.Versions.{find_version_text, TellsVersion};
 ghost use Rattle.room_sql.specs.Taken.{IsTaken, MayBeTaken, IsAsBefore, HasItsVersion, HasAnotherVersion};
 ghost use Rattle.room_tables.specs.Fresh.{IsFresh, IsFreshRoom, StandsBeside, MayBeMade};
 ghost use Rattle.room_sql.specs.Frames.{QueryFrame};
-ghost use Rattle.room_sql.specs.NodeFacts.{KnowsNothing};
+ghost use Rattle.room_sql.specs.Facts.{KnowsNothing};
 
 use crate::sql_shelf::SqlShelf;
 use crate::tables::make;

@@ -1,7 +1,7 @@
 //! Rows of the tables, read as values of a room. A row that is no value of its type is an error.
 
 ghost use Rattle.std.specs.Prelude.{◌≡◌, ◌≢◌, ◌==◌, ◌<◌, ◌-◌, ◌^◌, ℕ, pos, [], ◌∷◌, Some, None, map, slice_get};
-ghost use Rattle.std.specs.Prelude.{unwrap_or, option_map, IfOk, IfErr, string_bytes};
+ghost use Rattle.std.specs.Prelude.{unwrap_or, option_map, IfOk, IfErr, string_bytes, true};
 ghost use Rattle.std.specs.List.{AllByRecursion, filter_map};
 ghost use Rattle.sqlite_value.specs.Order.{column};
 ghost use Rattle.sqlite_value.specs.declared.value.Value.TheVariants.{Int, Text};
@@ -171,15 +171,34 @@ pub(crate) fn entry_of(alloc: Global, row: &Row) -> Result<Entry, Error>
     Entry::new(allow, flags, mask, who).ok_or(bad_value())
 }
 
-pub(crate) fn all_entries(alloc: Global, rows: &[Row]) -> Result<Vec<Entry>, Error>
-    ensures value { IfOk result (λ entries. entries.items ≡ map entry_of rows.now) }
+/// A list that was read, and whether its places are 0, 1, 2, ..
+#[derive(Drop)]
+pub(crate) struct StoredList {
+    pub(crate) entries: Vec<Entry>,
+    pub(crate) is_placed: bool,
+}
+
+/// Whether this place is the next one, of rows whose places were 0, 1, 2, .. before.
+fn is_next(is_placed: bool, place: u32, count: usize) -> bool
+    ensures { result ≡ true → (is_placed ≡ true) × (place ≡ count) }
+{
+    is_placed && place as usize == count
+}
+
+pub(crate) fn all_entries(alloc: Global, rows: &[Row]) -> Result<StoredList, Error>
+    ensures value { IfOk result (λ list. list.entries.items ≡ map entry_of rows.now) }
     ensures typed { IfOk result (λ _. AllByRecursion HasEntryColumns rows.now) }
+    ensures shown { IfOk result (λ list. list.is_placed ≡ true
+        → map five_columns rows.now ≡ placed 0 list.entries.items) }
+    ensures back { IfOk result (λ list. AllByRecursion IsReadBack list.entries.items) }
 {
     let mut entries = Vec::new(alloc);
+    let mut is_placed = true;
     for row in rows {
+        is_placed = is_next(is_placed, number_at(row, 0)?, entries.len());
         entries.push(entry_of(alloc, row)?)?;
     }
-    Ok(entries)
+    Ok(StoredList { entries, is_placed })
 }
 
 /// The entries of rows at the places 0, 1, 2, ..
@@ -187,14 +206,12 @@ pub(crate) fn placed_entries(alloc: Global, rows: &[Row]) -> Result<Vec<Entry>, 
     ensures shown { IfOk result (λ entries. map five_columns rows.now ≡ placed 0 entries.items) }
     ensures back { IfOk result (λ entries. AllByRecursion IsReadBack entries.items) }
 {
-    let mut entries = Vec::new(alloc);
-    for row in rows {
-        if number_at(row, 0)? as usize != entries.len() {
-            return Err(bad_value());
-        }
-        entries.push(entry_of(alloc, row)?)?;
+    let list = all_entries(alloc, rows)?;
+    if list.is_placed {
+        Ok(list.entries)
+    } else {
+        Err(bad_value())
     }
-    Ok(entries)
 }
 
 pub(crate) fn all_nodes(alloc: Global, rows: &[Row]) -> Result<Vec<Node>, Error>

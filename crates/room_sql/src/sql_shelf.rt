@@ -6,15 +6,15 @@ ghost use Rattle.sqlite.specs.Held.{state};
 ghost use Rattle.room_records.specs.Shelf.{FailureCounted};
 ghost use Rattle.room_records.specs.declared.shelf.ShelfFault.TheVariants.{Store};
 ghost use Rattle.room_sql.specs.Faults.{IsFaultOf};
-ghost use Rattle.room_sql.specs.NodeFacts.{KnowsNothing};
+ghost use Rattle.room_sql.specs.Facts.{KnowsNothing};
 ghost use Rattle.room_sql.specs.Resting.{rests_prop};
 
-use crate::node_facts::NodeFacts;
+use crate::facts::Facts;
 use crate::rows::{
     all_entries, all_names, all_nodes, first_node, one_count, one_doc, one_kept, one_node,
     one_number, one_seq, one_session, one_size,
 };
-use crate::{deciding, reads, writes};
+use crate::{commits, deciding, reads};
 use room_acl::{Decision, Entry, Kind, Mask, Standing, Subject};
 use room_records::{Change, FileName, Node, SessionRow, Shelf, ShelfFault, Sid, copy_names};
 use room_slots::Kept;
@@ -24,8 +24,10 @@ use std::alloc::Global;
 /// A shelf whose records are the rows of the six tables in its connection's database, and nothing beside them.
 /// The connection is outside a transaction between calls. It remembers, while the connection is open, how many children
 /// up to 256 folders have, and the names of up to 256 in each of as many, by the sizes of the types 6.3 MB at worst.
-/// Any fault makes it forget all. Where memory is refused for names that would be remembered, the call is answered
-/// still; where it is refused for the copy that is the answer, the call answers `Memory`, and nothing is forgotten.
+/// Until the next commit it keeps the lists that were read, up to 65,536 entries, so that the commit need not read
+/// those again that it changes. Any fault makes it forget all. Where memory is refused for what would be remembered,
+/// the call is answered still; where it is refused for the copy that is the answer, the call answers `Memory`, and
+/// nothing is forgotten.
 ///
 /// A commit that puts the next number and then the node below it takes that node as new: it fails where a row has that
 /// number.
@@ -34,9 +36,9 @@ pub struct SqlShelf<S: Alter> {
     alloc: Global,
     conn: Connection<S>,
     failures: u64,
-    known: NodeFacts,
+    known: Facts,
     ghost outside: { conn.in_transaction ≡ false },
-    ghost there: { known.has_answered ≡ true → HasCleanDisk (state S.Store conn)
+    ghost there: { known.nodes.has_answered ≡ true → HasCleanDisk (state S.Store conn)
         → (state S.Store conn).is_open ≡ true },
     ghost rests: { IsTrue (state S.Store conn).is_open
         → (state S.Store conn).now.trees ≡ (state S.Store conn).committed.trees } by { rests_prop _ _ _ },
@@ -53,7 +55,7 @@ impl<S: Alter> SqlShelf<S> {
             alloc,
             conn,
             failures: 0,
-            known: NodeFacts::nothing(alloc),
+            known: Facts::nothing(alloc),
         }
     }
 
@@ -74,13 +76,13 @@ impl<S: Alter> SqlShelf<S> {
 
 /// What an error is to the shelf: a want of memory is told, and any other error is counted as a failure of the store.
 /// The count stays at 2^64 - 1. What was known is known no longer.
-fn fault(failures: &mut u64, known: &mut NodeFacts, error: Error) -> ShelfFault
+fn fault(failures: &mut u64, known: &mut Facts, error: Error) -> ShelfFault
     ensures exact { IsFaultOf error result failures.old failures.new }
     ensures counted { result ≡ ShelfFault.Store → FailureCounted failures.old failures.new }
     ensures never_falls { failures.old ≤ failures.new }
     ensures quiet { result ≢ ShelfFault.Store → failures.new ≡ failures.old }
     ensures forgotten { KnowsNothing known.new }
-    ensures unanswered { known.new.has_answered ≡ false }
+    ensures unanswered { known.new.nodes.has_answered ≡ false }
 {
     known.forget();
     match error {
@@ -96,7 +98,7 @@ fn fault(failures: &mut u64, known: &mut NodeFacts, error: Error) -> ShelfFault
 /// knowledge these are.
 fn or_fault<T>(
     failures: &mut u64,
-    known: &mut NodeFacts,
+    known: &mut Facts,
     answer: Result<T, Error>,
 ) -> Result<T, ShelfFault>
     ensures ok { IfOk result (λ value. answer ≡ Ok value) }
@@ -107,7 +109,7 @@ fn or_fault<T>(
     ensures never_falls { failures.old ≤ failures.new }
     ensures quiet { result ≢ Err Store → failures.new ≡ failures.old }
     ensures forgotten { OnErr result (KnowsNothing known.new) }
-    ensures unanswered { OnErr result (known.new.has_answered ≡ false) }
+    ensures unanswered { OnErr result (known.new.nodes.has_answered ≡ false) }
 {
     match answer {
         Ok(value) => Ok(value),
@@ -163,7 +165,7 @@ impl<S: Alter> Shelf for SqlShelf<S> {
 
     /// The name and the kind of a row are all that it reads: another column of no value of its type is no fault here.
     fn names(&mut self, parent: u32) -> Result<Vec<(FileName, Kind)>, ShelfFault> {
-        if let Some(names) = self.known.names_in(parent) {
+        if let Some(names) = self.known.nodes.names_in(parent) {
             return Ok(copy_names(self.alloc, names.names().as_slice())?);
         }
         let _outside = self.conn.is_autocommit();
@@ -172,12 +174,12 @@ impl<S: Alter> Shelf for SqlShelf<S> {
         let rows = or_fault(&mut self.failures, &mut self.known, rows)?;
         let found = all_names(self.alloc, rows.as_slice());
         let names = or_fault(&mut self.failures, &mut self.known, found)?;
-        self.known.keep_names(parent, &names);
+        self.known.nodes.keep_names(parent, &names);
         Ok(names)
     }
 
     fn child_count(&mut self, parent: u32) -> Result<u64, ShelfFault> {
-        if let Some(count) = self.known.count_in(parent) {
+        if let Some(count) = self.known.nodes.count_in(parent) {
             return Ok(count);
         }
         let _outside = self.conn.is_autocommit();
@@ -186,7 +188,7 @@ impl<S: Alter> Shelf for SqlShelf<S> {
         let rows = or_fault(&mut self.failures, &mut self.known, rows)?;
         let found = one_count(rows.as_slice());
         let count = or_fault(&mut self.failures, &mut self.known, found)?;
-        self.known.keep_count(parent, count);
+        self.known.nodes.keep_count(parent, count);
         Ok(count)
     }
 
@@ -196,7 +198,9 @@ impl<S: Alter> Shelf for SqlShelf<S> {
         let _rests = self.conn.is_autocommit();
         let rows = or_fault(&mut self.failures, &mut self.known, rows)?;
         let found = all_entries(self.alloc, rows.as_slice());
-        or_fault(&mut self.failures, &mut self.known, found)
+        let list = or_fault(&mut self.failures, &mut self.known, found)?;
+        self.known.lists.keep(id, &list);
+        Ok(list.entries)
     }
 
     fn decide_at(
@@ -287,7 +291,7 @@ impl<S: Alter> Shelf for SqlShelf<S> {
             ((state S.Store self.new.conn).now.schema ≡ (state S.Store self.old.conn).now.schema) }
     {
         let _outside = self.conn.is_autocommit();
-        let done = writes::commit(&mut self.conn, changes);
+        let done = commits::commit(&mut self.conn, &mut self.known.lists, changes);
         let _rests = self.conn.is_autocommit();
         // The database is sound.
         let _live = self.conn.schema();

@@ -1,14 +1,13 @@
-//! The changes, each inside a transaction.
+//! The statements of the changes, inside a transaction.
 
 ghost use Rattle.std.specs.Prelude.{◌≡◌, ◌+◌, ◌^◌, ◌<◌, ◌≤◌, ℕ, List, [], ◌∷◌, ◌++◌, length, map, take, drop, min};
-ghost use Rattle.std.specs.Prelude.{Ok, IfOk, OnOk, OnErr, true, false, IsTrue};
+ghost use Rattle.std.specs.Prelude.{Ok, IfOk, OnOk, true};
 ghost use Rattle.std.specs.List.{AllByRecursion};
-ghost use Rattle.sqlite.specs.State.{HasCleanDisk, ExecutesInside, Survives};
+ghost use Rattle.sqlite.specs.State.{HasCleanDisk, ExecutesInside};
 ghost use Rattle.sqlite.specs.Held.{state};
 ghost use Rattle.sqlite.specs.Values.{bound};
 ghost use Rattle.sqlite.specs.Effect.{Database, IsDatabase};
 ghost use Rattle.room_acl.specs.Entries.{EntryModel};
-ghost use Rattle.room_records.specs.Changes.{apply_changes};
 ghost use Rattle.room_records.specs.declared.change.Change.TheVariants.{PutNode, DropNode, PutEntries, PutDoc};
 ghost use Rattle.room_records.specs.declared.change.Change.TheVariants.{PutSession, PutSlot, DropSlots, PutNext};
 ghost use Rattle.room_tables.specs.Tables.{Upgraded, room_schema};
@@ -17,22 +16,20 @@ ghost use Rattle.room_tables.specs.Layout.{IsRoomDatabase};
 ghost use Rattle.room_tables.specs.Beside.{Fills};
 ghost use Rattle.room_tables.specs.Fresh.{StandForNode, StandForEntries};
 ghost use Rattle.room_tables.specs.Rows.{records_of, five_columns};
-ghost use Rattle.room_tables.specs.Steps.{Steps, SeesSound, Lists, MayBecome, StaysRoom, IsReadBack, placed};
-ghost use Rattle.room_sql.specs.NewObject.{after_change, NoEntriesIfKnown};
-ghost use Rattle.room_sql.specs.Frames.{RunsOr, InsideFrame, CommitFrame};
-ghost use Rattle.room_sql.specs.NodeRows.{HasNone, IsNewIfKnown, MakesChange, AfterAll};
-ghost use Rattle.room_sql.specs.declared.new_object.NewObject.TheVariants.{Unknown};
+ghost use Rattle.room_tables.specs.Steps.{SeesSound, Lists, IsReadBack, placed};
+ghost use Rattle.room_sql.specs.Frames.{RunsOr, InsideFrame};
+ghost use Rattle.room_sql.specs.NodeRows.{HasNone, MakesChange};
+ghost use Rattle.room_sql.specs.ReadLists.{IsStored};
 
-use crate::new_object::NewObject;
 use crate::rows::placed_entries;
 use crate::values::{
     entry_row, flag_number, group_text, is_same, kept_number, kept_reply, kept_request,
     kind_number, list_flags, name_text, node_number, owner_text, parent_value,
 };
 use room_acl::Entry;
-use room_records::{Change, Node, SessionRow, Sid, SlotRow};
+use room_records::{Node, SessionRow, Sid, SlotRow};
 use sqlite::types::{ToSql, ValueRef};
-use sqlite::{Alter, Connection, Error, ErrorCode, Row, Transaction, params};
+use sqlite::{Alter, Error, ErrorCode, Row, Transaction, params};
 
 /// Runs one statement.
 pub(crate) fn run<S: Alter>(
@@ -82,7 +79,7 @@ fn run_or<S: Alter>(
 }
 
 /// Replaces the row of the node's number, and adds it where there was none. Entries and document stay.
-fn put_node<S: Alter>(tx: &mut Transaction<'_, S>, node: &Node) -> Result<(), Error>
+pub(crate) fn put_node<S: Alter>(tx: &mut Transaction<'_, S>, node: &Node) -> Result<(), Error>
     ensures frame { InsideFrame S.Store tx.old tx.new result }
     ensures ok { HasCleanDisk (state S.Store tx.new.conn.now)
         → OnOk result (IsRoomDatabase (state S.Store tx.old.conn.now).now →
@@ -134,7 +131,7 @@ pub(crate) fn put_new_node<S: Alter>(tx: &mut Transaction<'_, S>, node: &Node) -
 }
 
 /// Takes the node away, and its entries and document by ON DELETE CASCADE.
-fn drop_node<S: Alter>(tx: &mut Transaction<'_, S>, id: u32) -> Result<(), Error>
+pub(crate) fn drop_node<S: Alter>(tx: &mut Transaction<'_, S>, id: u32) -> Result<(), Error>
     ensures frame { InsideFrame S.Store tx.old tx.new result }
     ensures ok { HasCleanDisk (state S.Store tx.new.conn.now)
         → OnOk result (IsRoomDatabase (state S.Store tx.old.conn.now).now →
@@ -550,7 +547,7 @@ fn list_rows<S: Alter>(tx: &mut Transaction<'_, S>, id: u32) -> Result<Vec<Row>,
 
 /// Makes these the object's entries, in place where the stored rows are entries at the places 0, 1, 2, .., and else by
 /// other rows: so too where memory was refused to read the stored ones by.
-fn put_entries<S: Alter>(
+pub(crate) fn put_entries<S: Alter>(
     tx: &mut Transaction<'_, S>,
     id: u32,
     entries: &Vec<Entry>,
@@ -566,6 +563,23 @@ fn put_entries<S: Alter>(
         Ok(stored) => change_list(tx, id, stored.as_slice(), entries.as_slice()),
         Err(_) => replace_list(tx, id, entries.as_slice()),
     }
+}
+
+/// Makes these the object's entries, whose stored ones are known.
+pub(crate) fn put_kept<S: Alter>(
+    tx: &mut Transaction<'_, S>,
+    id: u32,
+    stored: &[Entry],
+    entries: &Vec<Entry>,
+) -> Result<(), Error>
+    requires { HasCleanDisk (state S.Store tx.old.conn.now) → tx.old.conn.now.in_transaction ≡ true }
+    ensures frame { InsideFrame S.Store tx.old tx.new result }
+    ensures ok { HasCleanDisk (state S.Store tx.new.conn.now)
+        → OnOk result (IsRoomDatabase (state S.Store tx.old.conn.now).now →
+        IsStored id stored.now (state S.Store tx.old.conn.now).now.trees →
+        MakesChange (PutEntries id entries.now) (state S.Store tx.old.conn.now) (state S.Store tx.new.conn.now)) }
+{
+    change_list(tx, id, stored, entries.as_slice())
 }
 
 /// Puts the entries of an object that was just added, and has none. Their places are 0, 1, 2, ..
@@ -589,7 +603,11 @@ pub(crate) fn put_new_entries<S: Alter>(
 
 /// Replaces the document, and adds it where there was none. An upsert costs more than the one statement that it comes
 /// to.
-fn put_doc<S: Alter>(tx: &mut Transaction<'_, S>, id: u32, bytes: &Vec<u8>) -> Result<(), Error>
+pub(crate) fn put_doc<S: Alter>(
+    tx: &mut Transaction<'_, S>,
+    id: u32,
+    bytes: &Vec<u8>,
+) -> Result<(), Error>
     ensures frame { InsideFrame S.Store tx.old tx.new result }
     ensures ok { HasCleanDisk (state S.Store tx.new.conn.now)
         → OnOk result (IsRoomDatabase (state S.Store tx.old.conn.now).now →
@@ -604,7 +622,11 @@ fn put_doc<S: Alter>(tx: &mut Transaction<'_, S>, id: u32, bytes: &Vec<u8>) -> R
 }
 
 /// Adds the document of an object that was just added, and has none.
-fn put_new_doc<S: Alter>(tx: &mut Transaction<'_, S>, id: u32, bytes: &Vec<u8>) -> Result<(), Error>
+pub(crate) fn put_new_doc<S: Alter>(
+    tx: &mut Transaction<'_, S>,
+    id: u32,
+    bytes: &Vec<u8>,
+) -> Result<(), Error>
     ensures frame { InsideFrame S.Store tx.old tx.new result }
     ensures ok { HasCleanDisk (state S.Store tx.new.conn.now)
         → OnOk result (IsRoomDatabase (state S.Store tx.old.conn.now).now →
@@ -618,7 +640,10 @@ fn put_new_doc<S: Alter>(tx: &mut Transaction<'_, S>, id: u32, bytes: &Vec<u8>) 
 }
 
 /// Adds or replaces the row of a session name. What its slots keep stays.
-fn put_session<S: Alter>(tx: &mut Transaction<'_, S>, row: &SessionRow) -> Result<(), Error>
+pub(crate) fn put_session<S: Alter>(
+    tx: &mut Transaction<'_, S>,
+    row: &SessionRow,
+) -> Result<(), Error>
     ensures frame { InsideFrame S.Store tx.old tx.new result }
     ensures ok { HasCleanDisk (state S.Store tx.new.conn.now)
         → OnOk result (IsRoomDatabase (state S.Store tx.old.conn.now).now →
@@ -637,7 +662,7 @@ fn put_session<S: Alter>(tx: &mut Transaction<'_, S>, row: &SessionRow) -> Resul
 }
 
 /// Replaces what a slot keeps, and adds it where there was none.
-fn put_slot<S: Alter>(tx: &mut Transaction<'_, S>, row: &SlotRow) -> Result<(), Error>
+pub(crate) fn put_slot<S: Alter>(tx: &mut Transaction<'_, S>, row: &SlotRow) -> Result<(), Error>
     ensures frame { InsideFrame S.Store tx.old tx.new result }
     ensures ok { HasCleanDisk (state S.Store tx.new.conn.now)
         → OnOk result (IsRoomDatabase (state S.Store tx.old.conn.now).now →
@@ -657,7 +682,7 @@ fn put_slot<S: Alter>(tx: &mut Transaction<'_, S>, row: &SlotRow) -> Result<(), 
 }
 
 /// Takes away what all slots of a session keep.
-fn drop_slots<S: Alter>(tx: &mut Transaction<'_, S>, sid: &Sid) -> Result<(), Error>
+pub(crate) fn drop_slots<S: Alter>(tx: &mut Transaction<'_, S>, sid: &Sid) -> Result<(), Error>
     ensures frame { InsideFrame S.Store tx.old tx.new result }
     ensures ok { HasCleanDisk (state S.Store tx.new.conn.now)
         → OnOk result (IsRoomDatabase (state S.Store tx.old.conn.now).now →
@@ -687,82 +712,4 @@ pub(crate) fn put_next<S: Alter>(tx: &mut Transaction<'_, S>, next: u32) -> Resu
         "INSERT INTO room (one, version, next) VALUES (1, 2, ?1)",
         params![next],
     )
-}
-
-/// Makes a change. Where what is known of the object leaves no row to be sought, rows are added alone.
-fn apply<S: Alter>(
-    tx: &mut Transaction<'_, S>,
-    object: NewObject,
-    change: &Change,
-) -> Result<(), Error>
-    requires { HasCleanDisk (state S.Store tx.old.conn.now) → tx.old.conn.now.in_transaction ≡ true }
-    ensures frame { InsideFrame S.Store tx.old tx.new result }
-    ensures ok { HasCleanDisk (state S.Store tx.new.conn.now)
-        → OnOk result (IsRoomDatabase (state S.Store tx.old.conn.now).now → SeesSound (state S.Store tx.old.conn.now) →
-        NoEntriesIfKnown object (state S.Store tx.old.conn.now).now.trees →
-        MakesChange change.now (state S.Store tx.old.conn.now) (state S.Store tx.new.conn.now)
-        × IsNewIfKnown object change.now ((state S.Store tx.old.conn.now).now.trees 1)
-        × NoEntriesIfKnown (after_change object change.now) (state S.Store tx.new.conn.now).now.trees) }
-{
-    match change {
-        Change::PutNode(node) if object.is_new(node.id) => put_new_node(tx, node),
-        Change::PutNode(node) => put_node(tx, node),
-        Change::DropNode(id) => drop_node(tx, *id),
-        Change::PutEntries(id, entries) if object.lacks_entries(*id) => put_new_entries(
-            tx, *id, entries,
-        ),
-        Change::PutEntries(id, entries) => put_entries(tx, *id, entries),
-        Change::PutDoc(id, bytes) if object.lacks_doc(*id) => put_new_doc(tx, *id, bytes),
-        Change::PutDoc(id, bytes) => put_doc(tx, *id, bytes),
-        Change::PutSession(row) => put_session(tx, row),
-        Change::PutSlot(row) => put_slot(tx, row),
-        Change::DropSlots(sid) => drop_slots(tx, sid),
-        Change::PutNext(next) => put_next(tx, *next),
-    }
-}
-
-fn apply_all<S: Alter>(tx: &mut Transaction<'_, S>, changes: &[Change]) -> Result<(), Error>
-    requires inside { tx.old.conn.now.in_transaction ≡ true }
-    requires sound { SeesSound (state S.Store tx.old.conn.now) }
-    ensures frame { InsideFrame S.Store tx.old tx.new result }
-    ensures ok { HasCleanDisk (state S.Store tx.new.conn.now)
-        → OnOk result (IsRoomDatabase (state S.Store tx.old.conn.now).now →
-        Steps (state S.Store tx.old.conn.now) (state S.Store tx.new.conn.now) (apply_changes changes.now)) }
-    ensures nodes { HasCleanDisk (state S.Store tx.new.conn.now)
-        → OnOk result (IsRoomDatabase (state S.Store tx.old.conn.now).now → AfterAll Unknown changes.now
-        ((state S.Store tx.old.conn.now).now.trees 1) ((state S.Store tx.new.conn.now).now.trees 1)) }
-{
-    let mut known = NewObject::Unknown;
-    for change in changes {
-        apply(tx, known, change)?;
-        known = known.after(change);
-    }
-    Ok(())
-}
-
-/// All changes in order, or none, also over a crash.
-pub(crate) fn commit<S: Alter>(conn: &mut Connection<S>, changes: &[Change]) -> Result<(), Error>
-    requires { conn.old.in_transaction ≡ false }
-    ensures frame { CommitFrame S.Store (MayBecome changes.now) conn.old conn.new result }
-    ensures ok { HasCleanDisk (state S.Store conn.new)
-        → OnOk result (IsTrue (state S.Store conn.new).is_open × (IsRoomDatabase (state S.Store conn.old).now →
-        IsRoomDatabase (state S.Store conn.new).now
-        × MayBecome changes.now (state S.Store conn.old).now (state S.Store conn.new).now.trees)) }
-    ensures nodes { HasCleanDisk (state S.Store conn.new) → OnOk result (IsRoomDatabase (state S.Store conn.old).now
-        → AfterAll Unknown changes.now ((state S.Store conn.old).now.trees 1) ((state S.Store conn.new).now.trees 1)) }
-    ensures version { HasCleanDisk (state S.Store conn.new) → OnOk result (IsRoomDatabase (state S.Store conn.old).now
-        → IsVersion 2 (version_rows (state S.Store conn.old).now.trees) →
-        IsVersion 2 (version_rows (state S.Store conn.new).now.trees)) }
-    ensures schema { HasCleanDisk (state S.Store conn.new) → OnOk result (IsRoomDatabase (state S.Store conn.old).now
-        → (state S.Store conn.new).now.schema ≡ (state S.Store conn.old).now.schema) }
-    ensures stays { Survives (state S.Store conn.old) (state S.Store conn.new)
-        (StaysRoom (state S.Store conn.old).now) }
-    ensures err { HasCleanDisk (state S.Store conn.new) → IsTrue (state S.Store conn.new).is_open
-        → OnErr result ((state S.Store conn.new).now ≡ (state S.Store conn.old).committed) }
-{
-    // The database is sound.
-    let _live = conn.schema();
-    let mut tx = conn.transaction();
-    apply_all(&mut tx, changes)?;
-    tx.commit()
 }

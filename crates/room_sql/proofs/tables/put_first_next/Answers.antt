@@ -6,7 +6,7 @@ use Rattle.room_sql.proofs.tables.put_first_next.Goals as goal
 pub returns-clause-ok : goal.returns-clause-ok
 returns-clause-ok g c clean = ok_then c.run.result (c.run.ensures.done clean) (λ ran room.
     let it = first_sets_next _ _ c.args.next ran.0 room (rw c.params-to_sql.ensures at ran.1) in
-    (record { steps = it.steps; nodes = it.nodes }, it.version, it.sound))
+    (record { steps = it.steps; nodes = it.nodes; entries = tt }, it.version, it.sound))
 
 pub returns-clause-spares : goal.returns-clause-spares
 returns-clause-spares g c clean =

@@ -1,3 +1,5 @@
+use Rattle.room_sql.specs.Facts.{AreTrueOf}
+use Rattle.sqlite.specs.Held.{state}
 use Rattle.std.proofs.Common.{◌≡◌, ◌∙◌, Err, sym, subst, not, ap, rules}
 use Rattle.std.proofs.lemmas.List.{length-map}
 use Rattle.room_records.specs.Shelf.{IsChildCount}
@@ -9,7 +11,8 @@ use Rattle.room_sql.proofs.sql_shelf.SqlShelfShelf.child_count.Goals as goal
 -- the count that is remembered is that of the rows
 pub returns-in-Some-clause-value : goal.returns-in-Some-clause-value
 returns-in-Some-clause-value g c available laid_out =
-    subst (IsChildCount _ c.args.parent) (sym (c.in-Some.ensures.true_of _ laid_out.1 ∙ sym (length-map _ shown_node)))
+    subst (IsChildCount _ c.args.parent)
+    (sym (c.in-Some.ensures.true_of _ laid_out.1.nodes ∙ sym (length-map _ shown_node)))
     (count_children _ c.args.parent laid_out.0.room)
 
 pub returns-in_err-rows-clause-frame : goal.returns-in_err-rows-clause-frame
@@ -47,6 +50,11 @@ returns-clause-frame g c =
     (rw c.in_ok-rows.ensures.ok at c.count_rows-rows.ensures.frame)
     (λ clean room true_of.
     let rows = rw c.in_ok-rows.ensures.ok at (c.count_rows-rows.ensures.rows clean room.room) in
-    c.keep_count.ensures _ (rw (c.in_ok-count.ensures.kept, c.in_ok-rows.ensures.kept) true_of)
-    ((rw c.in_ok-count.ensures.ok at c.one_count-found.ensures.value) _ (c.as_slice.ensures.value ∙ rows)
-    ∙ length-map _ shown_node)))
+    let was : AreTrueOf c.or_fault-2.new.known (state g.S.Store c.args.self.now.conn).now.trees =
+    rw (c.in_ok-count.ensures.kept, c.in_ok-rows.ensures.kept) true_of in
+    record {
+      nodes = c.keep_count.ensures _ was.nodes
+          ((rw c.in_ok-count.ensures.ok at c.one_count-found.ensures.value) _ (c.as_slice.ensures.value ∙ rows)
+          ∙ length-map _ shown_node);
+      lists = was.lists;
+    }))

@@ -7,7 +7,8 @@ use Rattle.room_sql.proofs.sql_shelf.SqlShelfShelf.commit.Goals as goal
 pub returns-clause-untouched : goal.returns-clause-untouched
 returns-clause-untouched g c = λ clean laid_out.
     untouched_by c.args.changes.now _ _
-    (((rw c.in_ok-or_fault.ensures.ok at (c.commit-done.ensures.ok clean)).1 laid_out.0.room).1 laid_out.0.room)
+    (((rw c.in_ok-or_fault.ensures.ok at (c.commit-done.ensures.ok clean)).1 laid_out.0.room laid_out.1.lists).1
+    laid_out.0.room)
 
 pub returns-in_err-or_fault-clause-frame : goal.returns-in_err-or_fault-clause-frame
 returns-in_err-or_fault-clause-frame g c =

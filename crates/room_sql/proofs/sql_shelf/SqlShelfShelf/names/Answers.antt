@@ -1,3 +1,5 @@
+use Rattle.room_sql.specs.Facts.{AreTrueOf}
+use Rattle.sqlite.specs.Held.{state}
 use Rattle.std.proofs.Common.{◌≡◌, ◌∙◌, Err, sym, subst, not, ap, rules}
 use Rattle.std.specs.List.{filter_map}
 use Rattle.room_records.specs.Shelf.{AreNames}
@@ -9,7 +11,7 @@ use Rattle.room_sql.proofs.sql_shelf.SqlShelfShelf.names.Goals as goal
 -- the names that are remembered are those of the rows
 pub returns-in-Some-clause-value : goal.returns-in-Some-clause-value
 returns-in-Some-clause-value g c available laid_out =
-    let it = c.in-Some.ensures.true_of _ laid_out.1 in
+    let it = c.in-Some.ensures.true_of _ laid_out.1.nodes in
     subst (AreNames _ c.args.parent)
     (sym (c.in_ok-copy_names.ensures ∙ c.as_slice.ensures.value ∙ c.names.ensures ∙ it.2))
     (are_names _ c.args.parent it.0 laid_out.0.room it.1)
@@ -49,9 +51,14 @@ returns-clause-frame g c =
     (rw c.in_ok-rows.ensures.ok at c.name_rows-rows.ensures.frame)
     (λ clean room true_of.
     let rows = rw c.in_ok-rows.ensures.ok at (c.name_rows-rows.ensures.rows clean room.room) in
-    c.keep_names.ensures _ (rw (c.in_ok-names.ensures.kept, c.in_ok-rows.ensures.kept) true_of) (
-      _,
-      rows,
-      (rw c.in_ok-names.ensures.ok at c.all_names-found.ensures.value)
-          ∙ ap (filter_map listed_of) c.as_slice-2.ensures.value,
-    )))
+    let was : AreTrueOf c.or_fault-2.new.known (state g.S.Store c.args.self.now.conn).now.trees =
+    rw (c.in_ok-names.ensures.kept, c.in_ok-rows.ensures.kept) true_of in
+    record {
+      nodes = c.keep_names.ensures _ was.nodes (
+        _,
+        rows,
+        (rw c.in_ok-names.ensures.ok at c.all_names-found.ensures.value)
+            ∙ ap (filter_map listed_of) c.as_slice-2.ensures.value,
+      );
+      lists = was.lists;
+    }))

@@ -9,7 +9,8 @@ use Rattle.room_sql.specs.declared.new_object.NewObject.TheVariants.{Unknown}
 use Rattle.room_sql.specs.NewObject.{NoEntriesIfKnown}
 use Rattle.room_sql.specs.Frames.{InsideFrame}
 use Rattle.room_sql.specs.NodeRows.{AfterAll}
-use Rattle.room_sql.proofs.writes.apply_all.Given as goal
+use Rattle.room_sql.specs.ReadLists.{AreStored}
+use Rattle.room_sql.proofs.commits.apply_all.Given as goal
 
 abbrev pub invariant-loop-change : goal.invariant-loop-change
 invariant-loop-change g l =
@@ -17,9 +18,10 @@ invariant-loop-change g l =
     let now = state g.S.Store l.tx.conn.now in
     record {
       frame : InsideFrame g.S.Store {T = Unit {0}} l.fn.tx l.tx (Ok tt);
-      done : HasCleanDisk now → IsRoomDatabase old.now
-          → Steps old now (apply_changes (take l.change-index l.changes)) × NoEntriesIfKnown l.known now.now.trees;
-      nodes : HasCleanDisk now → IsRoomDatabase old.now → (last : List Row)
+      done : HasCleanDisk now → IsRoomDatabase old.now → AreStored l.fn.lists old.now.trees
+          → Steps old now (apply_changes (take l.change-index l.changes)) × NoEntriesIfKnown l.known now.now.trees
+          × AreStored l.lists now.now.trees;
+      nodes : HasCleanDisk now → IsRoomDatabase old.now → AreStored l.fn.lists old.now.trees → (last : List Row)
           → AfterAll l.known (drop l.change-index l.changes) (now.now.trees 1) last
           → AfterAll Unknown l.changes (old.now.trees 1) last;
     }

@@ -1,6 +1,6 @@
 use Rattle.room_sql.proofs.NewObjects.{no_entries_after_next}
 use Rattle.room_sql.proofs.Frames.{ok_then}
-use Rattle.room_sql.proofs.writes.apply.Goals as goal
+use Rattle.room_sql.proofs.commits.apply.Goals as goal
 
 pub returns-in-PutNext-clause-ok : goal.returns-in-PutNext-clause-ok
 returns-in-PutNext-clause-ok g c clean =

@@ -1,0 +1,11 @@
+use Rattle.std.proofs.Common.{◌∙◌, ap, not, refl}
+use Rattle.room_sql.proofs.Calls.{read_asked}
+use Rattle.room_sql.proofs.sql_shelf.SqlShelfShelf.decide_at.Goals as goal
+
+pub returns-clause-frame : goal.returns-clause-frame
+returns-clause-frame g c =
+    read_asked g.S.Store c.or_fault.result c.args.self.now.conn c.decide_entries-found.new.conn
+    c.decide_entries-found.result c.or_fault.ensures.ok c.decide_entries-found.ensures.frame
+    (c.is_autocommit-outside.ensures.settled (c.is_autocommit-outside.ensures.value ∙ ap not c.args.self.now.outside))
+    c.or_fault.ensures.kept c.or_fault.ensures.forgotten c.or_fault.ensures.never_falls c.or_fault.ensures.quiet
+    c.or_fault.ensures.counted
