@@ -19,7 +19,7 @@ use Rattle.room_cache.specs.Known.{IsTrueOf}
 use Rattle.room_cache.specs.Cached.{cached_view}
 use Rattle.room_tables.specs.Tables.{has_room, has_first_room}
 use Rattle.room_sql.specs.declared.sql_shelf.SqlShelf.{SqlShelf}
-use Rattle.room_sql.specs.NodeFacts.{KnowsNothing}
+use Rattle.room_sql.specs.Facts.{KnowsNothing}
 use Rattle.room_sql.specs.Taken.{IsTaken, MayBeTaken}
 use Rattle.room_sql.specs.SqlView.{sql_view}
 use Rattle.room_sql.proofs.Frames.{was_clean}

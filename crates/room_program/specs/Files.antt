@@ -14,7 +14,7 @@ use Rattle.room_cache.specs.Known.{IsTrueOf}
 use Rattle.room_tables.specs.Tables.{schema_0, has_a_table, has_room, has_first_room}
 use Rattle.room_tables.specs.Fresh.{IsFresh, IsFreshRoom, StandsBeside, MayBeMade}
 use Rattle.room_sql.specs.declared.sql_shelf.SqlShelf.{SqlShelf}
-use Rattle.room_sql.specs.NodeFacts.{KnowsNothing}
+use Rattle.room_sql.specs.Facts.{KnowsNothing}
 use Rattle.room_sql.specs.Taken as adoption
 use Rattle.room_roster.specs.Rosters.{IsRosterText}
 use Rattle.room_program.specs.declared.fault.Fault.{Fault}

@@ -1,5 +1,14 @@
-use Rattle.std.proofs.Common.{inr}
+use Rattle.std.proofs.Common.{inr, refl}
+use Rattle.room_program.proofs.Again.{adopted_as}
 use Rattle.room_program.proofs.opening.adopt.Goals as goal
+
+pub returns-in-Ok : goal.returns-in-Ok
+returns-in-Ok g c =
+    let e = c.in-Ok.ensures in (
+      adopted_as g.S.Store c.args.connection c.in-Ok.shelf c.new.result c.new.ensures.inner e.tables e.taken e.kept
+          e.known c.new.ensures.true_of,
+      refl,
+    )
 
 pub returns-in-Err-NotARoom-default : goal.returns-in-Err-NotARoom-default
 returns-in-Err-NotARoom-default g c =
