@@ -1,4 +1,5 @@
 """`fileroom-admin check`: what is wrong with a machine, each finding with its remedy."""
+import contextlib
 import datetime
 import glob
 import grp
@@ -21,6 +22,8 @@ ROOM_LEFT = 1 << 30  # bytes that a disk should have free, or a tenth of it
 DAYS_LEFT = 21  # of a certificate
 TRIED_DAYS = 9  # since a backup was tried
 FULL = 3 / 4  # of a unit's memory: a room's file that is larger is told
+OF_LISTS = 2.5  # so much memory its start takes where long lists fill it
+NUMBERS, USED = 1_000_000, 750_000  # of objects: a room's, and from how many on it is told
 OTHERS = stat.S_IRWXG | stat.S_IRWXO
 CLEAR = 8080  # the front's port without TLS
 LISTENS = "0A"  # a state, in /proc/net/tcp
@@ -201,6 +204,19 @@ class Findings:
         if told and size > int(told[1]) * FULL:
             self.add(f"{room}: its file has {size >> 20} MiB, its unit {int(told[1]) >> 20} MiB of memory to hold it",
                      "give the machine more memory; docs/RUNNING.md, Memory, has other ways")
+        elif told and size * OF_LISTS > int(told[1]):
+            self.note(f"{room}: if long lists fill its file of {size >> 20} MiB, its start takes more than the "
+                      f"{int(told[1]) >> 20} MiB of memory of its unit", "docs/RUNNING.md, Memory, has more")
+
+    def numbers(self, room):
+        """(The program counts them, and `fileroom-backup` writes down the count.)"""
+        folder = self.places.backups(room)
+        names = [it for it in (os.listdir(folder) if os.path.isdir(folder) else []) if it.endswith("Z")]
+        used = count_in(os.path.join(folder, max(names), "numbers")) if names else 0
+        if used > USED:
+            self.add(f"{room}: of the {NUMBERS:,} numbers that it has for objects, {used:,} are used",
+                     f"make a new room before they end, and copy what you need; fileroom-admin log {room} shows who "
+                     "makes so many")
 
     def owner(self, path):
         if not self.places.is_machine:
@@ -259,6 +275,17 @@ def runs_other(unit, pause):
     return bool(installed and pid) and sum_in(f"/proc/{pid[1]}/exe") not in (None, installed)
 
 
+def count_in(path):
+    """The number in a file of somebody else's, or 0."""
+    with contextlib.suppress(OSError, ValueError), open(path, "rb", opener=unlinked) as file:
+        return int(file.read(9))
+    return 0
+
+
+def unlinked(path, flags):
+    return os.open(path, flags | os.O_NOFOLLOW | os.O_NONBLOCK)
+
+
 def template_of(unit):
     return re.sub(r"@.*\.", "@.", unit)
 
@@ -275,6 +302,7 @@ def look(it, hours):
         if it.is_here(room):
             it.part(it.backup, room, hours)
             it.part(it.trial, room)
+            it.part(it.numbers, room)
     if not places.rooms() or any(map(it.is_here, places.rooms())):
         it.part(it.backup_of_front, hours)
     for folder in places.at("var/lib/fileroom"), places.backups().rstrip("/"):
