@@ -20,8 +20,8 @@ def parser():
     add_rooms(words)
     add_users(words)
     add_groups(words)
-    trash = words.add_parser("trash", help="ROOM: makes the trash of each user who has none")
-    trash.add_argument("ROOM")
+    add_command(words, "trash", "makes the trash of each user who has none; of USER also where it is open to others",
+                "ROOM", many="USER")
     log = add_command(words, "log", "who changed what in a room, and when, as the front's log has it", "ROOM")
     log.add_argument("--user", help="what this user asked for")
     log.add_argument("--path", help="what was done there, and below it")
@@ -122,7 +122,7 @@ DOES = {
     "user passwd": passwd,
     "group add": lambda it, given: it.group_change(given.ROOM, given.GROUP, given.USER, True),
     "group remove": lambda it, given: it.group_change(given.ROOM, given.GROUP, given.USER, False),
-    "trash": lambda it, given: it.trash(given.ROOM),
+    "trash": lambda it, given: it.trash(given.ROOM, given.USER),
     "tls": lambda it, given: it.tls(given.CERT, given.KEY),
     "front": lambda it, given: it.front(),
 }

@@ -274,10 +274,12 @@ class People:
         if len(faults) > 3:
             self.say(f"and {len(faults) - 3} others have none")
 
-    def trash(self, room):
-        """For each user of a room one that is theirs alone."""
-        users, done, faults = self.users(room), 0, []
-        with Trashes(self.places.socket(room), users) as trashes:
+    def trash(self, room, some=()):
+        """For each user of a room one that is theirs alone; `some` are looked at also where they had one before."""
+        for user in some:
+            self.need_user(room, user)
+        users, done, faults = some or self.users(room), 0, []
+        with Trashes(self.places.socket(room), self.users(room), is_anew=bool(some)) as trashes:
             for user in users:
                 try:
                     done += trashes.settle(user)

@@ -1,5 +1,7 @@
 """The trash of each user: a folder of the room that is theirs alone (docs/FILES.md). The room is asked for it by its
 socket, which takes the name of any user from root."""
+import base64
+import contextlib
 import http.client
 import json
 import os
@@ -25,6 +27,9 @@ def entry(who, mask, flag=0):
 
 
 FOR_ALL = [entry(OWNER, ALL), entry(EVERYONE, VIEW)]  # of folders in which the trashes are
+FOR_OWNER = [entry(OWNER, ALL)]
+# in such a folder: a document of the room's owner, with a line for each user whose trash was found to be theirs alone
+SETTLED = "@settled"  # (no user has that name)
 
 
 def entries_of(user):
@@ -107,12 +112,14 @@ class Session:
 
 
 class Trashes:
-    """Those of one room. `users` are its roster's, with their groups."""
+    """Those of one room. `users` are its roster's, with their groups. A session takes a row of the room for good: so
+    who was found to have a trash is not asked again, but where `is_anew`."""
 
-    def __init__(self, path, users):
+    def __init__(self, path, users, is_anew=False):
         if not os.path.exists(path):
             raise Fault("the room is not served")
-        self.path, self.users, self.sessions, self.names = path, users, {}, {}
+        self.path, self.users, self.is_anew = path, users, is_anew
+        self.sessions, self.names, self.settled, self.known = {}, {}, {}, {}
 
     def __enter__(self):
         its = self.root()
@@ -122,6 +129,9 @@ class Trashes:
         return self
 
     def __exit__(self, *_):
+        for part, users in self.settled.items():
+            with contextlib.suppress(Fault):  # (then they are asked again)
+                self.write_down(part, users)
         for it in self.sessions.values():
             it.end()
 
@@ -186,11 +196,44 @@ class Trashes:
         if path not in self.names:
             self.need_folder(path)
 
+    def written_down(self, part):
+        """Who was found to have a trash. What somebody else owns, or may write, is put aside."""
+        if SETTLED not in self.children(part):
+            return set()
+        mine, path = self.by(self.owner), f"{part}/{SETTLED}"
+        its, its_list, text = (mine.ask(cmd, path) for cmd in ("STAT", "GETLIST", "READ"))
+        if (its.get("owner"), its_list.get("aclflag"), its_list.get("entries")) == (self.owner, PROTECTED, FOR_OWNER):
+            return set(base64.b64decode(text.get("data", "")).decode(errors="replace").split())
+        self.put_aside(path)
+        del self.children(part)[SETTLED]
+        return set()
+
+    def write_down(self, part, users):
+        known = self.known[part]
+        if users <= known:
+            return
+        mine, path = self.by(self.owner), f"{part}/{SETTLED}"
+        text = "".join(f"{it}\n" for it in sorted((users | known) & {*self.users}))
+        data = base64.b64encode(text.encode()).decode()
+        if SETTLED in self.children(part):
+            mine.need("WRITE", path, data=data)
+        else:
+            mine.need("CREATE", path, data=data)
+            mine.need("SETLIST", path, aclflag=PROTECTED, entries=FOR_OWNER)
+
     def settle(self, user):
         """Whether there was something to do, so that the user has one."""
-        part, old = part_of(user), f"{TOP}/{user}"
-        path = f"{part}/{user}"
+        part = part_of(user)
         self.need_part(part)
+        if part not in self.known:
+            self.known[part] = self.written_down(part)
+        is_there = FOLDER in (self.children(part).get(user), self.children(TOP).get(user))
+        is_new = not (is_there and user in self.known[part] and not self.is_anew) and self.make(part, user)
+        self.settled.setdefault(part, set()).add(user)
+        return is_new
+
+    def make(self, part, user):
+        old, path = f"{TOP}/{user}", f"{part}/{user}"
         kind = self.children(part).get(user)
         if kind == FOLDER:
             return self.adopt(path, user)
