@@ -96,8 +96,6 @@ class Change:
     def words(self):
         if self.file:
             return f"{'+'.join(sorted(self.cmds))} of the large file {self.file} ({self.parts} requests)"
-        if not self.text:
-            return "in pieces, whose text the front did not keep"
         if not self.path:
             return f"in an odd form: {self.text[:200]}"
         more = {"RENAME": lambda: f" -> {self.asked.get('to')}",
