@@ -243,7 +243,8 @@ def put(room: Room, asked) -> None:
     for name, path in zip(names, targets(to, names)):
         if asked.recursive and os.path.isdir(name):
             tree = local.tree_here(name, room.say)
-            trees.make_folders(room, path, [it for it in tree.kinds if tree.kinds[it] == FOLDER], faults.take)
+            folders = [it for it in tree.kinds if tree.kinds[it] == FOLDER]
+            trees.tell_owners(room, trees.make_folders(room, path, folders, faults.take))
             pairs += [(tree.places[it], trees.join(path, it), name) for it in tree.kinds if tree.kinds[it] == FILE]
         else:
             pairs.append((name, path))

@@ -17,6 +17,7 @@ from .words import FILE, FOLDER, neat, shown
 
 OF_ONE = Refused, LocalFault, NotWhole, OtherVersion  # faults of one file, behind which others can go on
 BATCH = 64  # files that are in memory at once
+MOST_TOLD = 3  # folders of others
 
 
 @dataclass
@@ -219,16 +220,33 @@ def fetch_large(room: Room, path: str, size: int) -> bytes | Fault:
         bar.end()
 
 
-def make_folders(room: Room, top: str, paths: Sequence[str], take: Callable[[Fault], None]) -> None:
-    """Makes each folder that is not there yet, the upper ones first; `take` hears of one that cannot be made."""
+def make_folders(room: Room, top: str, paths: Sequence[str], take: Callable[[Fault], None]) -> list[str]:
+    """Makes each folder that is not there yet, the upper ones first; `take` hears of one that cannot be made. Answers
+    those that were there."""
+    were_there = []
     for path in ["", *paths]:
+        at = join(top, path) if path else top
         try:
-            room.ask({"cmd": "MKDIR", "path": join(top, path) if path else top}, is_step=True)
+            room.ask({"cmd": "MKDIR", "path": at}, is_step=True)
         except Refused as fault:
-            if not path and not files.refused_as(fault, "EXIST"):
+            if files.refused_as(fault, "EXIST"):
+                were_there.append(at)
+            elif not path:
                 raise
-            if not files.refused_as(fault, "EXIST"):
+            else:
                 take(stop_on(fault))
+    return were_there
+
+
+def tell_owners(room: Room, paths: Sequence[str]) -> None:
+    """Of folders that were there, those that are somebody else's. (Whoever may add could have made one under the name
+    that somebody is about to put.)"""
+    replies = zip(paths, room.ask_all({"cmd": "STAT", "path": it} for it in paths))
+    others = [(path, it["owner"]) for path, it in replies if it.get("owner") not in (None, room.settings.user)]
+    for path, owner in others[:MOST_TOLD]:
+        room.say(f"{shown(path)} was there already: it is {shown(owner)}'s, who can read what comes into it")
+    if others[MOST_TOLD:]:
+        room.say(f"and {len(others) - MOST_TOLD} more folders are somebody else's")
 
 
 def sums_of(room: Room, top: str, tree: RoomTree, paths: Sequence[str]) -> dict[str, str]:
