@@ -16,7 +16,7 @@ from served import PROGRAM, first_answer, message, text_of
 from standby import AS_USER, BRICK, DB, NAME, ROSTER, TOP, kept_words, look_at_tables
 
 NEEDED = ("pcs", "pacemakerd", "corosync", "crm_mon", "nginx", "openssl", "sshd", "ssh-keygen", "setpriv",
-          "modprobe", "fuser")
+          "modprobe", "fuser", "curl", "logrotate")
 SECTION = "A standby"
 INSTALLED = ("client", "front", "page", "service")  # what `make install` takes from
 BOARD = "fence_ipmilan ip=.. username=.. password_script=/etc/fileroom/fence-password"
@@ -353,7 +353,7 @@ def backed_up(cluster, load, tally):
         told = it.status("fileroom-admin", "check")[1].splitlines()
         told[:1] = [told[0][:20]]  # (the certificate is of two days)
         tally.differs(f"fileroom-admin check on {it.name}", told,
-                      ["the certificate ends", "    fileroom-admin tls, with a new one"])
+                      ["the certificate expi", "    fileroom-admin tls, with a new one"])
 
 
 FINDINGS = {
