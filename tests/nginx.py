@@ -58,6 +58,10 @@ class Front:
     def fields(self, user, more=()):
         return ["host: 127.0.0.1", *more] + ([login(user, self.users[user])] if user else [])
 
+    def settle(self):
+        """Until nginx has written the lines of what it answered: as one process it does so before it answers more."""
+        self.once(None, "GET", "/health")
+
     def once(self, user, method, target, body=b"", more=(), source="127.0.0.1"):
         """The answer to one message over a connection of its own, or None where there was none."""
         line = None

@@ -4,6 +4,7 @@ import contextlib
 import http.client
 import http.server
 import io
+import itertools
 import json
 import os
 import subprocess
@@ -11,6 +12,7 @@ import sys
 import tempfile
 import threading
 import traceback
+import types
 import unittest
 from unittest import mock
 
@@ -99,6 +101,15 @@ class Desk(unittest.TestCase):
         self.assertEqual(self.does(*words, **how), (status, "", f"room: {want}\n"))
 
 
+@contextlib.contextmanager
+def clock_of_looks():
+    """A second goes by with each look at the clock, and nobody pauses: so patience ends by tries, however slow this
+    machine is."""
+    clock = types.SimpleNamespace(monotonic=itertools.count().__next__, sleep=lambda _: None)
+    with mock.patch("room_client.slots.time", clock):
+        yield
+
+
 def status_of(words):
     """Of the command in a child: nothing goes on behind it."""
     try:
@@ -119,7 +130,8 @@ def end(child):
 
 class Front(http.server.BaseHTTPRequestHandler):
     """As the front of docs/RUNNING.md: it asks for a password, and sets room-user. `server.faults` says what it does
-    with the next requests: pass, lose (the answer), cut (the answer), drop (the request), or a status of its own."""
+    with the next requests: pass, lose (the answer), cut (the answer), drop (the request), hold (until `server.held` is
+    set, and then pass), or a status of its own."""
 
     protocol_version = "HTTP/1.1"
 
@@ -149,6 +161,8 @@ class Front(http.server.BaseHTTPRequestHandler):
         return name if kind == "Basic" and PASSWORDS.get(name) == password else None
 
     def pass_on(self, user, body, fault):
+        if fault == "hold":
+            self.server.held.wait()
         try:
             room = http.client.HTTPConnection("127.0.0.1", self.server.room.port, timeout=20)
             room.request(self.command, self.path.removeprefix(PREFIX), body, {"room-user": user, "connection": "close"})
@@ -159,7 +173,7 @@ class Front(http.server.BaseHTTPRequestHandler):
         finally:
             room.close()
         self.server.passed += 1
-        if fault == "pass":
+        if fault in ("pass", "hold"):
             return self.answer(status, text)
         self.close_connection = True
         if fault == "cut":
@@ -185,10 +199,11 @@ class FrontServer(http.server.ThreadingHTTPServer):
 def serve_front(desk):
     """A front of the desk's room, until the test ends, and the URL behind it."""
     server = FrontServer(("127.0.0.1", 0), Front)
-    server.room, server.faults, server.passed = desk.served, [], 0
+    server.room, server.faults, server.passed, server.held = desk.served, [], 0, threading.Event()
     thread = threading.Thread(target=server.serve_forever, kwargs={"poll_interval": 0.02}, daemon=True)
     thread.start()
     desk.addCleanup(thread.join)
     desk.addCleanup(server.server_close)
     desk.addCleanup(server.shutdown)
+    desk.addCleanup(server.held.set)
     return server, f"http://127.0.0.1:{server.server_address[1]}{PREFIX}"

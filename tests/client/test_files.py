@@ -461,18 +461,17 @@ class Slots(Behind):
         self.addCleanup(os.kill, self.served.server.pid, signal.SIGCONT)
         child = self.start("put", "in", "/d/a")
         self.wait_for("front.json", "")
-        time.sleep(0.5)
         child.send_signal(signal.SIGINT)
-        self.assertEqual(child.wait(20), 130)
+        self.assertEqual(child.wait(120), 130)
         os.kill(self.served.server.pid, signal.SIGCONT)
         self.assertEqual(self.does("put", "in", "/d/a")[0], 0)
+        self.front.faults[:] = 25 * ["pass"] + 99 * ["hold"]  # (it is at its pieces by then)
         child = self.start("put", "in", "/d/a")
         self.wait_for("front.json.3", "CREATE")
-        os.kill(self.served.server.pid, signal.SIGSTOP)
-        time.sleep(0.5)
         child.send_signal(signal.SIGINT)
-        out, err = child.communicate(timeout=20)
-        os.kill(self.served.server.pid, signal.SIGCONT)
+        out, err = child.communicate(timeout=120)
+        del self.front.faults[:]
+        self.front.held.set()
         self.assertEqual((child.returncode, out), (130, b""))
         self.assertIn(b"room: stopped: of what was under way it is not known whether it was done", err)
         said = "room: what was under way at /d/a was stopped: give it again\n"
@@ -481,7 +480,7 @@ class Slots(Behind):
 
     def wait_for(self, name, text):
         """Until the child has written it into such a file."""
-        end = time.monotonic() + 20
+        end = time.monotonic() + 120
         while time.monotonic() < end:
             with contextlib.suppress(OSError), open(self.path(name)) as file:
                 if text in file.read():

@@ -9,7 +9,7 @@ import time
 from dataclasses import replace
 from unittest import mock
 
-from desk import Desk, PASSWORDS, serve_front
+from desk import Desk, PASSWORDS, clock_of_looks, serve_front
 from room_client import NoAnswer, Refused, SessionLost
 from room_client.line import Line
 from room_client.state import State
@@ -51,7 +51,7 @@ class Lost(Desk):
         self.front.faults[:] = ["lose"] + [504] * 50
         line = r"\(it answered 504; is the room served\?\); .*not known: it is kept, and sent again before your next"
         with self.assertRaisesRegex(NoAnswer, line):
-            with self.behind(patience=0.3) as room:
+            with clock_of_looks(), self.behind(patience=100) as room:
                 room.append("/log", b"piece")
         del self.front.faults[:]
         said = []
@@ -62,7 +62,7 @@ class Lost(Desk):
     def test_a_pending_read_is_finished_without_a_word(self):
         self.front.faults[:] = ["pass", "lose"] + [504] * 50
         with self.assertRaises(NoAnswer):
-            with self.behind(patience=0.3) as room:
+            with clock_of_looks(), self.behind() as room:
                 room.children("/")
         del self.front.faults[:]
         said = []
@@ -355,7 +355,7 @@ class Gone(Desk):
         child.stdin = None
         self.wait_for_pending()
         child.send_signal(signal.SIGINT)
-        out, err = child.communicate(timeout=30)
+        out, err = child.communicate(timeout=120)
         self.assertEqual((child.returncode, out), (130, b""))
         self.assertEqual(err.decode(), "room: APPEND /a: whether it was done is not known: it is kept, and sent again "
                          "before your next command, or by: room session finish\n")
@@ -365,7 +365,7 @@ class Gone(Desk):
 
     def wait_for_pending(self):
         """Until the request is on record, and some time for its way."""
-        end = time.monotonic() + 30
+        end = time.monotonic() + 120
         while time.monotonic() < end:
             with open(self.path("ann.json")) as file:
                 if "APPEND" in file.read():

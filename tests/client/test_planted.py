@@ -78,6 +78,25 @@ class Planted(Behind):
                 self.refuses("put", name, f"/{name}", want=f"ISDIR (3) at /{name}: it is a folder with a list of its "
                              "own, by which others could read what you put there, and no file yet: take another name")
 
+    def test_whose_a_folder_is_that_was_there(self):
+        os.makedirs(self.path("photos/2026"))
+        for name in "photos/a.txt", "photos/2026/b.txt":
+            self.file(name, b"a")
+        with self.room(user="bob") as bob:
+            bob.mkdir("/photos")
+        want = "/photos/2026/b.txt: 1 bytes\n/photos/a.txt: 1 bytes\n"
+        told = "room: /photos was there already: it is bob's, who can read what comes into it\n"
+        for own in "/own", "/own":
+            self.assertEqual(self.does("put", "-r", "photos", own), (0, want.replace("/photos", own), ""))
+        self.assertEqual(self.does("put", "-r", "photos", "/photos"), (0, want, told))
+        with self.room(user="bob") as bob:
+            for it in "/photos/x", "/photos/y", "/photos/z":
+                bob.mkdir(it)
+        for it in "x", "y", "z":
+            os.mkdir(self.path(f"photos/{it}"))
+        err = self.does("put", "-r", "photos", "/photos")[2].splitlines()
+        self.assertEqual((len(err), err[-1]), (4, "room: and 1 more folders are somebody else's"))
+
     def test_whose_a_new_version_is(self):
         with self.room(user="bob") as bob:
             for name in "one", "two":

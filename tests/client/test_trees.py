@@ -7,7 +7,7 @@ import sys
 import tempfile
 from unittest import mock
 
-from desk import COMMAND, Desk
+from desk import COMMAND, Desk, clock_of_looks
 from room_client import files, trash, trees
 from room_client.manifest import PIECE
 from room_client.slots import Slot
@@ -84,7 +84,8 @@ class Trees(Behind):
         for to, at, passed in ("/b", "/b/a", 2), ("/c", "/c", 1):
             self.front.faults[:] = ["pass"] * passed + ["lose"] + [504] * 99
             path = "/a" if to == "/b" else "/b/a"
-            self.assertEqual(self.does("mv", path, to, flags=["--patience", "0.2"])[0], 3)
+            with clock_of_looks():
+                self.assertEqual(self.does("mv", path, to)[0], 3)
             del self.front.faults[:]
             status, out, err = self.does("mv", path, to)
             self.assertEqual((status, out), (0, f"{path} is now {at}\n"), err)
@@ -387,7 +388,8 @@ class Trash(Behind):
     def test_restored_once_though_its_answer_was_lost(self):
         self.prints("rm", "/d/e/a.txt", want="/d/e/a.txt: in /trash/ann\n")
         self.front.faults[:] = ["pass"] * 3 + ["lose"] + [504] * 99
-        status, _, err = self.does("trash", "restore", "a.txt", flags=["--patience", "0.2"])
+        with clock_of_looks():
+            status, _, err = self.does("trash", "restore", "a.txt")
         self.assertEqual(status, 3, err)
         del self.front.faults[:]
         status, out, err = self.does("trash", "restore", "a.txt")
@@ -469,8 +471,8 @@ class Trash(Behind):
 
     def test_done_once_though_its_answer_was_lost(self):
         self.front.faults[:] = ["pass"] * 5 + ["lose"] + [504] * 99
-        words = ["--patience", "0.2"]
-        status, _, err = self.does("rm", "/d/e/a.txt", flags=words)
+        with clock_of_looks():
+            status, _, err = self.does("rm", "/d/e/a.txt")
         self.assertEqual(status, 3, err)
         del self.front.faults[:]
         status, out, err = self.does("rm", "/d/e/a.txt")

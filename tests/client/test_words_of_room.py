@@ -6,7 +6,7 @@ import shutil
 import subprocess
 import unittest
 
-from desk import COMMAND, HERE
+from desk import COMMAND, HERE, clock_of_looks
 from test_files import Behind
 from room_client import command, faults
 
@@ -95,7 +95,8 @@ class PathsOfRoom(Behind):
 
     def test_what_is_pending_stays(self):
         self.front.faults[:] = ["lose"] + [504] * 99
-        self.assertEqual(self.does("mkdir", "/new", flags=["--patience", "0.2"])[0], 3)
+        with clock_of_looks():
+            self.assertEqual(self.does("mkdir", "/new")[0], 3)
         del self.front.faults[:]
         self.assertEqual(self.completes(*self.line, ROOM_COMPLETE="/pl"), ([], ""))
         self.assertIn("finished what was pending: MKDIR /new", self.does("session", "finish")[2])

@@ -5,6 +5,8 @@ Each answer is the right one, once; while the room runs nobody is told that it d
 """
 import collections
 import contextlib
+import os
+import signal
 import threading
 import time
 
@@ -55,7 +57,7 @@ def users():
     return [f"guest{it}" for it in range(CROWD)]
 
 
-def tried(front, room, tally):
+def tried(front, served, room, tally):
     counted = Counted(front, room)
     reader = Caller(counted.sender("ann", "127.0.0.1"), "c" * 32)
     tally.differs("OPEN of ann", reader.open().body, b'{"code":0,"slots":1}')
@@ -66,9 +68,14 @@ def tried(front, room, tally):
              for at, it in enumerate(users())]
     threads = [tally.thread(f"guest {it.number}", it.play) for it in crowd]
     begin = time.monotonic()
-    for task in threading.Thread.start, threading.Thread.join:
-        for it in threads:
-            task(it)
+    os.kill(served.server.pid, signal.SIGSTOP)  # (so that all come at once, however fast it is)
+    for it in threads:
+        it.start()
+    while not counted.found[429] and time.monotonic() < begin + LONGEST / 2:
+        time.sleep(0.05)
+    os.kill(served.server.pid, signal.SIGCONT)
+    for it in threads:
+        it.join()
     took = time.monotonic() - begin
     tally.differs(f"answers to {CROWD} at once: {dict(counted.found)}", set(counted.found) <= {200, 429, SLOW}, True)
     tally.differs("some are told to come again", counted.found[429] > 0, True)

@@ -10,7 +10,7 @@ from hostile import status
 from served import end_with_parent
 
 SLOW, SECONDS = 300, 5  # connections of each kind, and how long they stay
-SOON = 2  # seconds in which others are answered beside them
+SOON = 4  # seconds in which others are answered beside them, of whom a slow head holds nobody for five
 
 
 def has(tool, package, what):

@@ -1,10 +1,11 @@
 """What strangers cost: each request is counted before it is answered, no log grows by it past the limits, and a guess
 takes as little time for a name that is there as for another."""
+import ctypes
 import os
 import threading
 import time
 
-from hostile import OPENS_AT_ONCE, OPEN_AT_ONCE, at_once, status
+from hostile import OPENS_AT_ONCE, OPEN_AT_ONCE, at_once, in_pieces, status, until_too_many
 from nginx import Front, login
 from served import Line, message, text_of
 
@@ -17,7 +18,7 @@ LINE = 700  # bytes of a log's line, at most
 OPEN = {"method": "POST", "target": "/rooms/plans/v1/sessions/" + 32 * "0"}
 PLACES = {}, OPEN  # (the front counts an OPEN behind the password, where it comes that far)
 GUESSES = 14  # at once of one name: fewer than the front lets pass
-ROUNDS = 9
+ROUNDS, MOST_ROUNDS = 9, 90  # (a busy machine adds to what one takes, so the least of many counts)
 
 
 def statuses(front, fields, count, source="127.0.0.1", method="GET", target="/whoami"):
@@ -68,11 +69,15 @@ def are_counted(tally, what, found, answer, begin):
     tally.differs(f"{what}: {found.count(answer)} pass", BURST <= found.count(answer) <= most, True)
 
 
-def too_long(front, tally):
-    """(nginx closes the connection with the answer.)"""
-    begin, right = time.monotonic(), login("u02", front.users["u02"])
-    found = [status(said_long(front, OPEN["target"], 131073, "127.1.9.1", right)) for _ in range(BURST + 50)]
-    are_counted(tally, "a body that is too long, with a login", found, 413, begin)
+def no_body(front, tally):
+    """Bodies that are too long, or whose length no field tells. (nginx closes the connection with the answer.)"""
+    right = login("u02", front.users["u02"])
+    for what, answer, once in (
+            ("too long", 413, lambda _: said_long(front, OPEN["target"], 131073, "127.1.9.1", right)),
+            ("of no length", 411, lambda _: in_pieces(front, "u02", OPEN["target"], "127.1.9.2"))):
+        begin = time.monotonic()
+        found = until_too_many(once)
+        are_counted(tally, f"a body that is {what}, with a login", found, answer, begin)
 
 
 def no_such_room(front, tally):
@@ -97,12 +102,13 @@ def without_end(front, tally):
     for net, how in enumerate(PLACES):
         for at, (what, (answer, fields)) in enumerate(floods(front).items()):
             flood(front, tally, f"{what}, {how}", answer, fields, f"127.1.{net}.{at + 1}", **how)
-    too_long(front, tally)
+    no_body(front, tally)
     statuses(front, front.fields(None), MANY, method="TRACE")
     for head in b"\x16\x03\x01", b"GET / HTTP/9.9\r\n\r\n", b"GET /" + b"a" * 9000, b"GET / HTTP/1.1\r\n\r\n":
         line = Line(front.port)
         line.ask(head + b"\r\n\r\n")
         line.close()
+    front.settle()
     tally.differs("bytes of log", logged(front) - before, 0)
     no_such_room(front, tally)  # (by a login: its lines are told)
     wrong_and(front, tally)
@@ -110,8 +116,9 @@ def without_end(front, tally):
 
 
 def wrong_and(front, tally):
-    """A guess waits also where its body is too long, or its target is a place of the front's own."""
-    for at, (target, length) in enumerate((("/whoami", 999999), ("/rooms/plans/x", 131073), ("/opens", 0))):
+    """A guess waits also where its body is too long or of no length, or its target is a place of the front's own."""
+    for at, (target, length) in enumerate((("/whoami", 999999), ("/rooms/plans/x", 131073), ("/opens", 0), (
+            "/rooms/plans/x", None))):
         found = at_once(2 * OPEN_AT_ONCE, lambda _: status(
             said_long(front, target, length, f"127.0.2.{at + 1}", login("u01", "no"))))
         tally.differs(f"a guess at {target}", set(found), {401, 429})
@@ -119,10 +126,11 @@ def wrong_and(front, tally):
 
 
 def said_long(front, target, length, source, its_login):
-    """The answer to who says that a body of this length comes."""
+    """The answer to who says that a body of this length comes, or one in pieces."""
     line = Line(front.port, source)
     head = message(None, "POST", target, fields=front.fields(None, [its_login]))
-    got = line.ask(head.replace(b"content-length: 0", f"content-length: {length}".encode()))
+    told = "transfer-encoding: chunked" if length is None else f"content-length: {length}"
+    got = line.ask(head.replace(b"content-length: 0", told.encode()))
     line.close()
     return got
 
@@ -133,6 +141,7 @@ def who_is_let_in(front, tally):
     before = len(text_of(path).splitlines())
     fields = front.fields("u01", [f"user-agent: {ODD}", 'referer: http://a.b/"x'])
     found = statuses(front, fields, MANY, "127.0.3.1", target="/" + "%41" * 900)
+    front.settle()
     told = text_of(path).splitlines()[before:]
     tally.differs("of those let in", set(found), {404, 429})
     tally.differs("a line each", len(told), found.count(404))
@@ -156,12 +165,27 @@ def beside_guesses(front, user, password, source):
     return took
 
 
+def seconds_of_hashes(front, user):
+    """What so many guesses of a user's password take to be hashed here, at this moment."""
+    lines = dict(it.split(":") for it in text_of(os.path.join(front.folder, "users")).splitlines())
+    crypt, took = ctypes.CDLL("libcrypt.so.1").crypt, []
+    for _ in range(ROUNDS):
+        begin = time.monotonic()
+        for _ in range(GUESSES):
+            crypt(b"x" * 256, lines[user].encode())
+        took.append(time.monotonic() - begin)
+    return min(took)
+
+
 def guesses_tell_no_name(front, tally):
     """Guesses of a name whose password was drawn hold others no longer than those of one that is not there; of one that
     was chosen, as long as its hash takes, however long they are."""
-    for user, length, most in ("u01", LONG * 3 // 4, 0.003), ("u01", 256, 0.003), ("chosen", 256, 0.06):
-        there, none = ([beside_guesses(front, it, "x" * length, f"{net}.{length % 251}.{at + 1}")
-                        for at in range(ROUNDS)] for it, net in ((user, f"127.{len(user)}"), ("zed", "127.9")))
+    hashes = 4 * seconds_of_hashes(front, "chosen")
+    for user, length, most in ("u01", LONG * 3 // 4, 0.003), ("u01", 256, 0.003), ("chosen", 256, 0.003 + hashes):
+        there, none = [], []
+        while len(none) < ROUNDS or min(there) - min(none) >= most and len(none) < MOST_ROUNDS:
+            for took, it, net in (there, user, f"127.{len(user)}"), (none, "zed", "127.9"):
+                took.append(beside_guesses(front, it, "x" * length, f"{net}.{length % 251}.{len(took) + 1}"))
         told = f"{GUESSES} guesses of {length} letters for {user}: {min(there):.4f} and {min(none):.4f} s"
         tally.differs(told, min(there) - min(none) < most, True)
 

@@ -1,6 +1,7 @@
 """`fileroom-admin` below a root of its own: each change whole or not at all, also where it stops at any step, and the
 next call at one of its own; and `check` tells each thing that is put wrong.
 """
+import base64
 import io
 import json
 import os
@@ -177,6 +178,7 @@ def trashes(machine, tally):
     for path in "/trash/@1", "/trash/@1/kim":
         it.holds("eve", "MKDIR", path)
         it.holds("eve", "SETLIST", path, aclflag=2, entries=[of("EVERYONE@")])
+    it.holds("eve", "CREATE", "/trash/@1/@settled", data=base64.b64encode(b"kim\n").decode())
     it.holds("eve", "CHOWN", "/trash/@1/kim", owner="kim", group="kim")
     it.meanwhile = lambda: [it.holds("eve", "SETLIST", path, aclflag=2, entries=[of("EVERYONE@")])
                             for path in ("/trash", "/trash/@1", "/trash/bob")]
@@ -198,17 +200,20 @@ def trashes(machine, tally):
     machine.write("etc/fileroom/plans.toml", text_of(machine.at("etc/fileroom/plans.toml")) + "zed = []\n")
     it.room.kill()
     it.room.start()
-    for entries, flags in (None, 0), ([of("OWNER@"), of("kim", flag=0x43)], 2), ([of("kim")], 1):
+    for entries, flags, *some in (None, 0), ([of("OWNER@"), of("kim", flag=0x43)], 2, "kim"), (
+            [of("kim")], 1, "kim", "lou"):
         if entries:  # (a group of that name; and what the folder above may hand down)
             it.holds("kim", "SETLIST", want["kim"], aclflag=flags, entries=entries)
         for since in 1, 0:
-            tally.differs("one that was left, or is open, and again", machine.does("trash", "plans"),
-                          (0, f"plans: 6 of 6 users have a trash ({since} new)\n", ""))
+            tally.differs("one that was left, or is open, and again", machine.does("trash", "plans", *some),
+                          (0, f"plans: {len(some) or 6} of {len(some) or 6} users have a trash ({since} new)\n", ""))
     tally.differs("zed's", it.holds("ann", "LIST", "/trash/@3/zed")["code"], 5)
+    not_asked_again(machine, it, tally)
     status, said, faults = machine.does("user", "add", "plans", "may", "eng")
     tally.differs("a new user's", (status, faults, "no trash" in said), (0, "", False))
     tally.differs("may's", (it.holds("ann", "LIST", "/trash/@7/may")["code"],
-                            it.holds("ann", "LIST", "/trash/@7")["names"]), (5, [["may", "folder"]]))
+                            it.holds("ann", "LIST", "/trash/@7")["names"]),
+                  (5, [["@settled", "file"], ["may", "folder"]]))
     it.end(machine)
     machine.does("user", "remove", "plans", "may")
     shutil.rmtree(room)
@@ -216,6 +221,25 @@ def trashes(machine, tally):
     machine.write("etc/fileroom/plans.toml", saved)
     machine.does("front")
     machine.told()
+
+
+def not_asked_again(machine, it, tally):
+    """A session takes a row for good: who was found to have a trash opens none by the next call, but where named."""
+    every = {b"ann", b"bob", b"eve", b"kim", b"lou", b"zed"}
+    for what, some, want in ("again", [], {b"ann"}), ("those who are named", ["kim", "zed"], {b"ann", b"kim", b"zed"}):
+        it.askers.clear()
+        machine.does("trash", "plans", *some)
+        tally.differs(f"who is asked: {what}", it.askers, want)
+    it.holds("ann", "SETLIST", "/trash/@1/@settled", aclflag=2, entries=[
+        {"type": 0, "flag": 0, "mask": 0x1F07FF, "who": "EVERYONE@"}])
+    it.askers.clear()
+    machine.does("trash", "plans")
+    tally.differs("what others may write down is not believed", it.askers, {b"ann", b"kim"})
+    told = machine.does("trash", "plans", "nobody")
+    tally.differs("of somebody else", (told[0], "nobody is no user" in told[2]), (1, True))
+    it.askers.clear()
+    machine.does("trash", "plans", *(it.decode() for it in sorted(every)))
+    tally.differs("all by name", it.askers, every)
 
 
 def faults_undo(machine, tally):
@@ -438,6 +462,8 @@ def looked_at(machine, tally):
         "rooms.json and /etc/fileroom": lambda: machine.write("etc/nginx/fileroom/rooms.json", "[]\n"),
         "plans: its file has": lambda: machine.shows(
             f"fileroom@plans MemoryMax={4 * size_of_room(machine) // 3 - 1}\n"),
+        "plans: of the 1,000,000 numbers that it has for objects, 750,001 are used": lambda: machine.write(
+            "var/backups/fileroom/plans/2999-01-01T00-00-00Z/numbers", "750001\n"),
         ("768", "lack the group fileroom-front"): lambda: machine.write("etc/nginx/nginx.conf", NGINX),
     }
     path = machine.env["PATH"]
@@ -492,10 +518,23 @@ def open_to_many(machine, tally):
 def passed_by(machine, tally):
     """What is near a finding, and is none; and what is just over."""
     now = time.time()
-    for most in -(-4 * size_of_room(machine) // 3), "infinity":
+    size = size_of_room(machine)
+    for most, is_noted in (-(-4 * size // 3), True), (-(-5 * size // 2) - 1, True), (-(-5 * size // 2), False), (
+            "infinity", False):
         machine.shows(f"fileroom@plans MemoryMax={most}\n")
-        tally.differs(f"a file of three quarters of {most}", machine.does("check"), (0, NOTHING, ""))
+        status, told, faults = machine.does("check")
+        tally.differs(f"a file of {size} bytes, and a limit of {most}: a note", told.startswith(
+            "note: plans: if long lists fill its file of 0 MiB, its start takes more"), is_noted)
+        tally.differs("which is no finding", (status, told[-len(NOTHING):], faults), (0, NOTHING, ""))
     machine.shows("")
+    numbers = "var/backups/fileroom/plans/2999-01-01T00-00-00Z/numbers"
+    for text in "750000\n", "x", "":
+        machine.write(numbers, text)
+        tally.differs(f"numbers {text!r}", machine.does("check"), (0, NOTHING, ""))
+    os.remove(machine.at(numbers))
+    os.symlink("/dev/zero", machine.at(numbers))
+    tally.differs("a link is not followed", machine.does("check"), (0, NOTHING, ""))
+    os.remove(machine.at(numbers))
     club, front = machine.at("var/backups/fileroom/club"), machine.at("var/backups/fileroom-front/2999-01-01.tar.gz")
     for hours, more, found in (25, [], 0), (27, [], 1), (27, ["--backup-hours", "28"], 0):
         made = time.strftime("%Y-%m-%dT%H-%M-%SZ", time.gmtime(now - hours * 3600))

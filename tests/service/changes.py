@@ -4,7 +4,6 @@ import json
 import os
 import subprocess
 import sys
-import time
 
 from nginx import Front
 from served import HERE, Line, Room, bytes_of, message
@@ -49,7 +48,7 @@ class Asked:
 
     def new(self):
         """What the log has since the last time, without times and addresses."""
-        time.sleep(0.2)
+        self.front.settle()
         status, lines, faults = self.tells()
         seen, self.seen = getattr(self, "seen", 0), len(lines)
         return (status, faults, ["  ".join(it) for it in lines[seen:]])
@@ -89,15 +88,14 @@ def each_command(asked, tally):
     told(asked, tally, "looks, and what is no command")
 
 
-def pieces(asked, body):
-    """A command whose length no field tells, in pieces of a byte: six on the way, so that a large one fills nginx's
-    buffer."""
+def in_pieces(asked, body):
+    """A command whose length no field tells, so that of a long one nginx could not keep the text."""
     line = Line(asked.front.port)
     fields = asked.front.fields("ann", ["transfer-encoding: chunked"])
-    head = message(None, "POST", f"/rooms/plans/v1/sessions/{SID}/slots/0/{asked.numbers['ann']}", fields=fields)
-    cut = b"".join(b"1\r\n%c\r\n" % it for it in body)
-    line.ask(head.replace(b"content-length: 0\r\n", b"") + cut + b"0\r\n\r\n")
+    head = message(None, "POST", f"/rooms/plans/v1/sessions/{SID}/slots/0/{asked.numbers['ann'] + 1}", fields=fields)
+    got = line.ask(head.replace(b"content-length: 0\r\n", b"") + b"%x\r\n%s\r\n0\r\n\r\n" % (len(body), body))
     line.close()
+    return got.status
 
 
 def odd_forms(asked, tally):
@@ -113,10 +111,8 @@ def odd_forms(asked, tally):
     for body, want in forms.items():
         code = asked.sends(body)
         told(asked, tally, f"{body}: {code}", f"ann  done  {want}")
-    for size, want in (8, "CREATE /o8"), (40000, "in pieces, whose text the front did not keep"):
-        asked.numbers["ann"] += 1
-        pieces(asked, b'{"cmd":"CREATE","data":"%s","path":"/o%d"}' % (b"A" * size, size))
-        told(asked, tally, f"{size} bytes in pieces", f"ann  done  {want}")
+    tally.differs("in pieces", in_pieces(asked, b'{"cmd":"MKDIR","path":"/o8"}'), 411)
+    told(asked, tally, "what no room was asked")
     head, end = b'{"cmd":"MKDIR",', '"path":"/h\u00e9"}'.encode()
     cut = head + b" " * (KEPT - 1 - len(head) - end.index(b"\xc3")) + end  # (within the letter)
     tally.differs("a letter that is cut", asked.sends(cut), 0)
@@ -182,11 +178,11 @@ def out_of_a_file(asked, tally):
 def filters(asked, tally):
     """By user, path, and time; and a line that cannot be read is told."""
     asked.sends({"cmd": "MKDIR", "path": "/a/f"})
-    time.sleep(0.2)
+    asked.front.settle()
     tally.differs("--user", [it for it in asked.tells("--user", "bob")[1]], [["bob", "refused  MKDIR /a/x"]])
     at = [it.split()[2:4] for it in map("  ".join, asked.tells("--path", "/a/c")[1])]
     tally.differs("--path", [it[0] for it in at if it[0] != "in"], ["RENAME", "SETLIST", "CHOWN"])
-    tally.differs("what it may be too", [it for it in at if it[0] == "in"], [["in", "pieces,"], *2 * [["in", "an"]]])
+    tally.differs("what it may be too", [it for it in at if it[0] == "in"], 2 * [["in", "an"]])
     tally.differs("--since", [len(asked.tells("--since", it)[1]) > 0 for it in ("1h", "2020-01-01", "2999-01-01")],
                   [True, True, False])
     tally.differs("no time", asked.tells("--since", "soon")[0], 1)

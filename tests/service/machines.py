@@ -9,6 +9,7 @@ import ctypes
 import hashlib
 import json
 import os
+import re
 import select
 import shutil
 import socket
@@ -156,6 +157,7 @@ class Served:
         self.room.roster = machine.at("etc/fileroom/plans.toml")
         self.room.env, self.room.port, self.numbers = None, free_port(), {}
         self.meanwhile, self.one_by_one = lambda: None, threading.Lock()  # what happens behind each request
+        self.askers = set()  # who asked by the socket
         self.room.start()
         os.makedirs(machine.at("run/fileroom"))
         self.path = machine.at("run/fileroom/plans.sock")
@@ -174,13 +176,13 @@ class Served:
                     self.pump(line, to)
                 self.meanwhile()
 
-    @staticmethod
-    def pump(line, to):
+    def pump(self, line, to):
         while True:
             for one in select.select([line, to], [], [])[0]:
                 data = one.recv(1 << 16)
                 if not data:
                     return
+                self.askers.update(re.findall(rb"\r\nroom-user: (\S+)\r\n", data))
                 (to if one is line else line).sendall(data)
 
     def holds(self, user, cmd, path, **more):

@@ -16,8 +16,8 @@ SAMPLE = r"fileroom_[a-z_]+(\{[a-z]+=\"[^\"]*\"(,[a-z]+=\"[^\"]*\")*\})? -?[0-9.
 HOUR = 3600
 
 
-def stamp(seconds_ago):
-    return time.strftime("%Y-%m-%dT%H-%M-%SZ", time.gmtime(time.time() - seconds_ago))
+def stamp(seconds_ago, now):
+    return time.strftime("%Y-%m-%dT%H-%M-%SZ", time.gmtime(now - seconds_ago))
 
 
 def numbers(machine, *words):
@@ -28,8 +28,8 @@ def numbers(machine, *words):
 
 def of_a_machine(machine, tally):
     """Each number is what is there."""
-    folder = machine.at("var/backups/fileroom/plans")
-    latest, before = (os.path.join(folder, stamp(it * HOUR)) for it in (5, 53))
+    folder, now = machine.at("var/backups/fileroom/plans"), time.time()
+    latest, before = (os.path.join(folder, stamp(it * HOUR, now)) for it in (5, 53))
     os.rename(backed_up(machine), latest)
     os.mkdir(before)
     with open(os.path.join(before, "room.db"), "wb") as file:
