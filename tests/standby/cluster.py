@@ -38,6 +38,7 @@ settings.default_request_timeout = 300
 from pcs import app
 sys.exit(app.main(sys.argv[1:]))
 """
+LISTENS = "import socket, sys; socket.create_connection((sys.argv[1], 2224), 5)"  # (systemd does not wait for that)
 PLACED = re.compile(r"\*\*On (each|the first) machine")
 
 
@@ -143,6 +144,9 @@ class Cluster:
         for it in self.machines:
             until(it.is_started, TAKEN, f"{it.name} is started")
             self.prepare(it)
+        for it in self.machines:
+            until(lambda it=it: it.status("python3", "-c", LISTENS, it.address)[0] == 0, TAKEN,
+                  f"pcsd of {it.name} listens")
         first = self.machines[0]
         first.run("mkdir", "-p", CERT)
         for name, path in ("fullchain.pem", self.cert), ("privkey.pem", key):

@@ -93,7 +93,9 @@ def look_at_tables(machine, load, tally, name):
     kept = sh("sqlite3", copy, "SELECT sid, slot, seq FROM kept ORDER BY sid, slot").split()
     want = [f"{sid}|{slot}|{it[0]}" for (sid, slot), it in sorted(load.model.slots.items())]
     tally.differs(f"{name}: the last number of each slot", kept, want)
-    held = sh("sqlite3", copy, "SELECT hex(bytes) FROM doc").split("\n")[:-1]
+    # (but what fileroom-admin keeps in a trash)
+    held = sh("sqlite3", copy, "SELECT hex(bytes) FROM doc JOIN node ON id = node WHERE name <> '@settled'")
+    held = held.split("\n")[:-1]
     want = sorted(it.hex().upper() for it in load.documents())
     tally.differs(f"{name}: the documents", sorted(held), want)
 
