@@ -565,7 +565,7 @@ def disks(machine, tally):
     unshare = ["unshare", "--mount", *([] if os.geteuid() == 0 else ["--map-root-user"])]
     if subprocess.run([*unshare, "mount", "-t", "tmpfs", "small", machine.tools], capture_output=True).returncode:
         return ["a disk of its own (unshare)"]
-    for folder in "var/lib/fileroom", "var/backups/fileroom":
+    for folder in "var/lib/fileroom", "var/backups/fileroom", "var/lib/fileroom/plans":
         for filled, status in ("6500K", 0), ("7400K", 1):
             within = [*unshare, "bash", "-c", SMALL, "bash", machine.at(folder), filled]
             found = machine.does("check", within=within)

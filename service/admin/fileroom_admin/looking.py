@@ -305,7 +305,7 @@ def look(it, hours):
             it.part(it.numbers, room)
     if not places.rooms() or any(map(it.is_here, places.rooms())):
         it.part(it.backup_of_front, hours)
-    for folder in places.at("var/lib/fileroom"), places.backups().rstrip("/"):
+    for folder in places.disks():
         it.part(it.disk, folder)
 
 

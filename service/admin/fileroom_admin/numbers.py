@@ -94,7 +94,7 @@ class Numbers:
                 self.add("answer_seconds", seconds[int(share * (len(seconds) - 1))], room=room, quantile=str(share))
 
     def machine(self, findings):
-        for folder in self.places.at("var/lib/fileroom"), self.places.backups().rstrip("/"), self.places.at("var/log"):
+        for folder in *self.places.disks(), self.places.at("var/log"):
             if os.path.isdir(folder):
                 self.add("disk_free_bytes", shutil.disk_usage(folder).free, folder=folder)
         if " ssl" in read(self.places.at(LISTEN), ""):

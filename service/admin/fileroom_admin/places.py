@@ -86,6 +86,11 @@ class Places:
     def backups(self, room=""):
         return self.at(os.path.join("var/backups/fileroom", room))
 
+    def disks(self):
+        """The folders of all rooms and of all backups, and those of a room that are on a disk of their own."""
+        each = [it for room in self.rooms() for it in (self.state(room), self.backups(room))]
+        return [self.at("var/lib/fileroom"), self.backups().rstrip("/"), *filter(os.path.ismount, each)]
+
     def front(self, name):
         return self.at(f"etc/nginx/fileroom/{name}")
 
