@@ -1,4 +1,5 @@
 """The slots of a session: each sends one request after another over a connection of its own, until it is answered."""
+import contextlib
 import json
 import random
 import threading
@@ -228,17 +229,18 @@ class Crew:
         for slot in slots:
             slot.is_stopped = False
         threads = [threading.Thread(target=self.work, args=(slot,)) for slot in slots]
-        for thread in threads:
-            thread.start()
         try:
             for thread in threads:
+                thread.start()
+            for thread in threads:
                 thread.join()
-        except BaseException as fault:  # (stopped at the keyboard)
+        except BaseException as fault:  # (stopped at the keyboard, perhaps before all have begun)
             self.faults.append(fault)
             for slot in slots:
                 slot.stop()
             for thread in threads:
-                thread.join()
+                with contextlib.suppress(RuntimeError):
+                    thread.join()
             slots[0].say("stopped: of what was under way it is not known whether it was done; your next command finds "
                          "that out first")
             raise

@@ -9,10 +9,11 @@ import subprocess
 import sys
 import threading
 import time
+import types
 from unittest import mock
 
 from desk import COMMAND, Desk, PASSWORDS, serve_front
-from room_client import files, manifest
+from room_client import files, manifest, slots
 from room_client.faults import OtherVersion
 from room_client.files import Upload
 from room_client.line import Line
@@ -477,6 +478,15 @@ class Slots(Behind):
         said = "room: what was under way at /d/a was stopped: give it again\n"
         self.assertEqual(self.does("session", "finish"), (0, "", said))
         self.prints("get", "/d/a", "out", want=f"{40 * PIECE} bytes to out\n")
+
+    def test_stopped_while_it_begins(self):
+        """A stop at the keyboard is told also where some slots have not begun."""
+        said = []
+        slot = types.SimpleNamespace(stop=lambda: None, say=said.append)
+        begins = mock.patch.object(threading.Thread, "start", side_effect=[None, KeyboardInterrupt])
+        with begins, self.assertRaises(KeyboardInterrupt):
+            slots.Crew([{}, {}], said.append).run([slot, slot])
+        self.assertEqual([it.partition(":")[0] for it in said], ["stopped"])
 
     def wait_for(self, name, text):
         """Until the child has written it into such a file."""
