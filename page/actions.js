@@ -6,27 +6,24 @@ import { faultLine, make } from "./dom.js";
 import { writeCopy } from "./files.js";
 import { clean, shown } from "./names.js";
 import { makeLike, placeIn } from "./overflow.js";
-import { folderOf, inFolder, lastName, nameFault, pathFault, withMark } from "./places.js";
+import { besideIt, folderOf, inFolder, lastName, nameFault, pathFault } from "./places.js";
 import { t } from "./words.js";
 
 const tooLong = (bytes) => bytes.length > MOST_BYTES ? t.tooLong(bytes.length) : "";
 
 /** Asks for the name of what is made in a folder, or beside that where it is full; `does` makes it, at its path. */
-async function makeNew(app, folder, { title, words, fields = {}, faultOf = () => "", does, told }) {
+async function makeNew(app, folder, { title, words, fields = [], faultOf = () => "", does, told }) {
   const [name, full] = [nameInput(), faultLine()];
-  const place = placeIn(app.room, folder).then(({ goal }) => {
+  const place = placeIn(app.room, folder);
+  place.then((goal) => {
     if (goal !== folder) full.textContent = t.isFull(shown(folder), shown(goal));
-    return goal;
-  });
-  place.catch((fault) => {
-    full.textContent = fault.message;
-  });
+  }).catch((fault) => { full.textContent = fault.message; });
   const task = async () => {
     if (await place !== folder) await makeLike(app.room, await place, folder);
     await does(inFolder(await place, clean(name.value)));
   };
-  const isDone = await ask({ title, does: t.make, task, fields: { name: { label: t.name, field: name }, ...fields },
-    words: [make("p", {}, words), full], faultOf: () => nameFault(clean(name.value)) || faultOf() });
+  const isDone = await ask({ title, does: t.make, task, fields: [[t.name, name], ...fields],
+    words: [make("p", words), full], faultOf: () => nameFault(clean(name.value)) || faultOf() });
   if (!isDone) return;
   const to = await place;
   await app.done(told(shown(clean(name.value))), to === folder ? null : { from: folder, to });
@@ -38,7 +35,7 @@ export const makeFolder = (app, folder) => makeNew(app, folder, { title: t.newFo
 export function makeDocument(app, folder) {
   const text = area();
   return makeNew(app, folder, { title: t.newDocument, words: t.yoursDocument, told: t.documentMade,
-    fields: { text: { label: t.text, field: text } }, faultOf: () => tooLong(fromText(text.value)),
+    fields: [[t.text, text]], faultOf: () => tooLong(fromText(text.value)),
     does: (path) => app.room.run("CREATE", path, { data: toBase64(fromText(text.value)) }) });
 }
 
@@ -48,25 +45,21 @@ function asLines(text, before) {
   return `${before === "" || before.endsWith("\n") ? "" : end}${text.replaceAll("\n", end)}${end}`;
 }
 
-/** What is there is read before anything is typed, so that what is typed is kept by the request that adds it. Of what
- * the user may not read, or what is no text, nobody can tell. */
+/** (It is read before anything is typed, so that what is typed is kept by the request that adds it.) */
 export async function append(app, path) {
   const before = await app.attempt(t.appendTo(shown(path)), async () =>
     toText(fromBase64((await app.room.asideIfAllowed("READ", path, { keep: false }))?.data ?? "")) ?? "");
   if (before === null) return;
   const text = area("", 6);
-  const isDone = await ask({ title: t.appendTo(shown(lastName(path))), does: t.append,
-    words: make("p", {}, t.onOwnLine),
-    fields: { text: { label: t.text, field: text } }, faultOf: () => tooLong(fromText(text.value)),
+  const isDone = await ask({ title: t.appendTo(shown(lastName(path))), does: t.append, words: make("p", t.onOwnLine),
+    fields: [[t.text, text]], faultOf: () => tooLong(fromText(text.value)),
     task: () => app.room.run("APPEND", path, { data: toBase64(fromText(asLines(text.value, before))) }) });
   if (isDone) await app.done(t.appended);
 }
 
-/** Makes a document beside that one, of the first name that is free. Its path. */
 async function createBeside(app, path, bytes) {
   for (let count = 1; ; count += 1) {
-    const words = t.copyOf(app.user) + (count > 1 ? ` ${count}` : "");
-    const to = inFolder(folderOf(path), withMark(lastName(path), words));
+    const to = besideIt(path, t.copyOf(app.user) + (count > 1 ? ` ${count}` : ""));
     try {
       return await writeCopy(app.room, path, to, bytes);
     } catch (fault) {
@@ -98,16 +91,14 @@ class Editing {
 
   /** What the user chose: "on" to go on with the own text, or what becomes of both, which is done; null for neither. */
   settle(now) {
-    const text = (words, it) => [make("h3", {}, words), make("pre", { tabIndex: 0 }, it)];
+    const text = (words, it) => [make("h3", words), make("pre", { tabIndex: 0 }, it)];
     const theirs = toText(fromBase64(now)) ?? t.theirBytes;
     const keep = async () => {
       this.words = t.keptAs(shown(lastName(await createBeside(this.app, this.path, this.bytes))));
     };
-    const take = () => {
-      this.words = t.theirsStands;
-    };
+    const take = () => { this.words = t.theirsStands; };
     return ask({ title: t.documentChanged, does: t.keepCopy, task: keep,
-      words: [make("p", {}, t.nobodyKnows), ...text(t.theirsNow, theirs), ...text(t.yours, this.field.value)],
+      words: [make("p", t.nobodyKnows), text(t.theirsNow, theirs), text(t.yours, this.field.value)],
       others: [{ words: t.takeTheirs, value: "theirs", task: take }, { words: t.goOnWithMine, value: "on" }] });
   }
 }
@@ -115,16 +106,16 @@ class Editing {
 export async function edit(app, path, bytes, text) {
   const it = new Editing(app, path, bytes, text);
   const isDone = await ask({ title: t.doTo(t.edit, shown(lastName(path))), does: t.replace,
-    fields: { text: { label: t.text, field: it.field } }, faultOf: () => tooLong(it.bytes), task: () => it.replace() });
+    fields: [[t.text, it.field]], faultOf: () => tooLong(it.bytes), task: () => it.replace() });
   if (isDone) await app.done(it.words);
 }
 
 export async function rename(app, path) {
   const to = nameInput(lastName(path), { size: 30 });
-  const target = () => (to.value.startsWith("/") ? clean(to.value) : inFolder(folderOf(path), clean(to.value)));
+  const isPath = () => to.value.startsWith("/");
+  const target = () => (isPath() ? clean(to.value) : inFolder(folderOf(path), clean(to.value)));
   const isDone = await ask({ title: t.doTo(t.rename, shown(lastName(path))), does: t.rename,
-    fields: { to: { label: t.newName, field: to } },
-    faultOf: () => (to.value.startsWith("/") ? pathFault(target()) : nameFault(clean(to.value))),
+    fields: [[t.newName, to]], faultOf: () => (isPath() ? pathFault(target()) : nameFault(clean(to.value))),
     task: () => app.room.run("RENAME", path, { to: target() }) });
   if (isDone) await app.done(t.isNow(shown(path), shown(target())), { from: path, to: target() });
 }

@@ -1,20 +1,18 @@
 /** What the page does by itself: it looks again at the folder that is shown, takes what is pasted, turns pictures. */
+import { isUnsaved } from "./dialogs.js";
 import { isMenuOpen } from "./menu.js";
-import { tellFault } from "./notices.js";
+import { tellIt } from "./notices.js";
 import { inFolder, lastName } from "./places.js";
 import { standing } from "./stand.js";
-import { isUnsaved } from "./unsaved.js";
 import { freePath, upload } from "./uploads.js";
 
 const MINUTE = 60_000; // milliseconds
 const FIELDS = "input, textarea, select, table, dialog, [popover], [role=tree]";
 const ENDINGS = { "image/png": "png", "image/jpeg": "jpg", "image/gif": "gif", "image/webp": "webp" };
 
-/** Whether the user is in the middle of something. */
 const isAtWork = () => document.hidden || isMenuOpen() || isUnsaved() ||
   document.querySelector("dialog[open], main[aria-busy], .chosen:not([hidden])") !== null;
 
-/** Shows the folder anew where others changed what is in it. */
 async function look(app) {
   const its = app.watched;
   if (!its || isAtWork()) return;
@@ -30,7 +28,6 @@ export function lookAgain(app) {
   addEventListener("keydown", go);
 }
 
-/** A picture of the clipboard goes into the folder, under a name that is free. */
 async function put(app, folder, file) {
   const name = `screenshot.${ENDINGS[file.type] ?? "png"}`;
   const path = await freePath(app.room, inFolder(folder, name));
@@ -42,7 +39,7 @@ export function takePastes(app) {
     const files = [...event.clipboardData.files].filter((it) => it.type in ENDINGS);
     if (!app.watched?.put || files.length === 0 || event.target.closest?.("input, textarea, dialog")) return;
     event.preventDefault();
-    put(app, app.watched.path, files[0]).catch((fault) => tellFault(fault.message));
+    put(app, app.watched.path, files[0]).catch(tellIt);
   });
 }
 

@@ -6,25 +6,18 @@ const LONGEST = 5_000;
 const waiting = new Set();
 
 /** The user has given up: whether the request acted is not known. */
-export class GaveUp extends Error {
-  constructor() {
-    super(t.gaveUp);
-  }
-}
+export class GaveUp extends Error {}
 
 const part = (id) => document.getElementById(id);
 const section = part("busy");
-const words = part("busy-text");
 
 function tell() {
   const told = [...waiting].filter((it) => it.times >= 2 || it.isShut).sort((a, b) => b.times - a.times)[0];
   section.hidden = !told;
-  if (!told) return;
-  words.textContent = t.waits(told.why, waiting.size, told.times);
+  if (told) part("busy-text").textContent = t.waits(told.why, waiting.size, told.times);
 }
 
-/** What a request waits by: longer each time, or until a button is pressed, or where a login is asked for until
- * somebody comes back from another tab. */
+/** Waits longer each time, until a button is pressed, or for a login until somebody comes back from another tab. */
 class Waiting {
   times = 0;
 
@@ -34,7 +27,7 @@ class Waiting {
     tell();
     return new Promise((goOn, stop) => {
       this.goOn = goOn;
-      this.stop = () => stop(new GaveUp());
+      this.stop = () => stop(new GaveUp(t.gaveUp));
       if (!isShut) this.timer = setTimeout(goOn, Math.min(SHORTEST * 2 ** (times - 1), LONGEST));
     });
   }

@@ -14,15 +14,15 @@ export function toBase64(bytes) {
   return btoa(letters);
 }
 
-export function fromBase64(text) {
-  if (Uint8Array.fromBase64) return Uint8Array.fromBase64(text);
-  return Uint8Array.from(atob(text), (it) => it.charCodeAt(0));
-}
+export const fromBase64 = (text) =>
+  Uint8Array.fromBase64?.(text) ?? Uint8Array.from(atob(text), (it) => it.charCodeAt(0));
+
+export const hexOf = (bytes) => [...bytes].map((it) => it.toString(16).padStart(2, "0")).join("");
+export const randomHex = (count) => hexOf(crypto.getRandomValues(new Uint8Array(count)));
 
 export const fromText = (text) => new TextEncoder().encode(text);
 
-/** The text that the bytes are, or null where they are none that can be shown; with `isStart` they may end in
- * the middle of a letter. */
+/** The text that bytes are, or null where they are none to be shown; with `isStart` they may end within a letter. */
 export function toText(bytes, isStart = false) {
   try {
     const text = new TextDecoder("utf-8", { fatal: true, ignoreBOM: true }).decode(bytes, { stream: isStart });

@@ -29,21 +29,20 @@ export async function fileAt(room, path) {
   if (!await isFolder(room, path)) return null;
   const names = await namesIn(room, path);
   if (names.length && !form.isLarge(names) && !form.isUnfinished(names)) return null;
-  const folders = names.filter(([name]) => name !== form.NAME).map(([name]) => inFolder(path, name));
-  const parts = await Promise.all(folders.map((it) => piecesIn(room, it)));
-  if (parts.includes(null)) return null;
-  const manifest = names.filter(([name]) => name === form.NAME).map(([name]) => inFolder(path, name));
-  return [manifest, parts.flatMap(([pieces]) => pieces), folders, [path]];
+  const paths = (isManifest) => names.filter(([name]) => (name === form.NAME) === isManifest)
+    .map(([name]) => inFolder(path, name));
+  const parts = await Promise.all(paths(false).map((it) => piecesIn(room, it)));
+  return parts.includes(null) ? null : [paths(true), parts.flatMap(([pieces]) => pieces), paths(false), [path]];
 }
 
-/** Takes what an upload made out of a file or from beside it, in one request, and then removes it. Somebody who may
- * move things may have given one such a name: what `looks` otherwise, or is in the way, is told and left. */
+/** Takes what an upload made out of a file or from beside it, in one request, and then removes it. Somebody may have
+ * given another thing such a name: what `looks` otherwise, or is in the way, is told and left. */
 export async function clear(room, at, name, transfer, looks = piecesIn) {
   const path = inFolder(at, name);
   const gone = name.startsWith(form.GONE) ? path : inFolder(at, form.otherName(form.GONE));
   try {
     const found = await looks(room, path);
-    if (!found) return transfer.fail(t.noPart(shown(path)));
+    if (!found) return void transfer.fail(t.noPart(shown(path)));
     if (gone !== path) await room.step("RENAME", path, { to: gone });
     for (const level of found) {
       await forEach(level, (it) => orElse(room.step("REMOVE", gone + it.slice(path.length)), null, NOENT));
@@ -51,21 +50,16 @@ export async function clear(room, at, name, transfer, looks = piecesIn) {
   } catch (fault) {
     if (!isRefused(fault, NOENT)) transfer.fail(t.about(t.isLeft(shown(at)), fault.message));
   }
-  return undefined;
 }
 
-/** What the replacement of a document left beside it, where it was stopped. A whole file under that name, which may be
- * somebody's, is given one that is seen. */
+/** What a stopped replacement left beside a document. A whole file there, maybe somebody's, gets another name. */
 export async function clearBeside(room, path, transfer) {
   const [above, { gone, its }] = [folderOf(path), await form.beside(lastName(path))];
   const names = (await room.asideIfAllowed("LIST", above))?.names.map(([name]) => name) ?? [];
   if (names.includes(gone)) await clear(room, above, gone, transfer, documentAt);
   if (!names.includes(its)) return;
   const inside = await orElse(namesIn(room, inFolder(above, its)), [], NOTDIR);
-  if (!inside.some(([name]) => name === form.NAME)) {
-    await clear(room, above, its, transfer, fileAt);
-    return;
-  }
+  if (!inside.some(([name]) => name === form.NAME)) return clear(room, above, its, transfer, fileAt);
   const left = `${lastName(path).slice(0, MOST_KEPT)} (${form.otherName("").slice(0, 4)})`;
   await room.step("RENAME", inFolder(above, its), { to: inFolder(above, left) });
   transfer.fail(t.wholeLeft(shown(left)));

@@ -1,4 +1,4 @@
-/** What the room refuses: its codes, and each in words with the remedy. docs/CODES.md has all. */
+/** What the room refuses: its codes, and each in words with the remedy (docs/CODES.md). */
 import { shown } from "./names.js";
 import { FILE, FOLDER, rightsIn } from "./rights.js";
 import { t } from "./words.js";
@@ -25,12 +25,9 @@ function lackedRight({ bit, path }, command, whose) {
   return `${t.lacksRight(shown(path), rightsIn(bit, kind))} ${whomToAsk(whose)}`;
 }
 
-function wordsOf(reply, command, whose) {
-  if (reply.code === ACCESS) return lackedRight(reply, command, whose);
-  return t.refusals[reply.code] ?? t.refused(reply.code, reply.error);
-}
+const wordsOf = (reply, command, whose) => (reply.code === ACCESS ? lackedRight(reply, command, whose) :
+  t.refusals[reply.code] ?? t.refused(reply.code, reply.error));
 
-/** A refusal of the room, told in words. */
 export class Refusal extends Error {
   constructor(reply, command = {}, whose = {}) {
     super(wordsOf(reply, command, whose));

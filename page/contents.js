@@ -7,15 +7,13 @@ import { takeFiles } from "./drag.js";
 import { manifestAt, readFile } from "./files.js";
 import { head } from "./heads.js";
 import { NAME, beside, isPart } from "./manifest.js";
-import { menuButton, openMenu } from "./menu.js";
-import { byName, shown } from "./names.js";
-import { asButton, offersFor, rightsAt, textOffers } from "./offers.js";
+import { menuButton, openMenu, pointOf } from "./menu.js";
+import { emptyTrash } from "./moving.js";
+import { byName, personText, shown } from "./names.js";
+import { asButton, offered, offersFor, rightsAt, textOffers } from "./offers.js";
 import { ROOT, addressOf, folderOf, inFolder, lastName } from "./places.js";
-import { personText } from "./people.js";
-import { canShow, isPdf, nothing, preview } from "./preview.js";
-import { emptyTrash } from "./removing.js";
-import { ADD_FILE, ADD_FOLDER, FILE, FOLDER, LARGE, READ } from "./rights.js";
-import { isPicture } from "./small.js";
+import { canShow, isPdf, isPicture, nothing, preview } from "./preview.js";
+import { ADD_FILE, ADD_FOLDER, FILE, FOLDER, LARGE, READ, UNFINISHED } from "./rights.js";
 import { Things } from "./things.js";
 import { sizeWords } from "./transfers.js";
 import { beforeWords, isOwnTrash, isTrash, ownTrash } from "./trash.js";
@@ -35,101 +33,89 @@ async function orRefused(task, path) {
   }
 }
 
-const tools = (...buttons) => make("p", { className: "tools" }, ...buttons);
-
 function about(place, stat, size) {
   const whose = stat.owner ? t.owned(personText(stat.owner), stat.group) : "";
-  return make("p", { className: "about" }, [size, whose, beforeWords(place.path)].filter((it) => it !== "").join(", "));
+  return make("p.about", [size, whose, beforeWords(place.path)].filter((it) => it !== "").join(", "));
 }
 
 function newsFor(app, path, own) {
   const put = (chosen) => upload(app, path, chosen);
-  return [
+  return offered([
     [own & ADD_FOLDER, { words: t.newFolder, does: () => actions.makeFolder(app, path) }],
     [own & ADD_FILE, { words: t.newDocument, does: () => actions.makeDocument(app, path) }],
     [own & ADD_FILE && own & ADD_FOLDER, { words: t.uploadFolder, files: { isFolder: true }, chosen: put }],
-  ].filter(([isOffered]) => isOffered).map(([, it]) => it);
-}
-
-function makers(app, path, own) {
-  const [news, put] = [newsFor(app, path, own), (chosen) => upload(app, path, chosen)];
-  const make = menuButton([`+ ${t.new}`], { className: "main" }, () => news, { label: t.new });
-  return [...news.length ? [make] : [], ...own & ADD_FILE ? [filesButton(t.upload, {}, put, t.uploadFiles)] : []];
+  ]);
 }
 
 /** What stopped replacements of documents left in a folder, by their names, where these are still there. */
 async function leftWords(names) {
   const left = new Set(names.map(([name]) => name).filter(isPart));
-  if (left.size === 0) return [];
-  if (left.has(NAME)) return [make("p", { className: "fault" }, t.isMixed)];
+  if (left.size === 0) return null;
+  if (left.has(NAME)) return faultLine(t.isMixed);
   const marks = await Promise.all(names.map(async ([name]) => ({ name, ...await beside(name) })));
   const called = marks.filter(({ its, gone }) => left.has(its) || left.has(gone)).map(({ name }) => shown(name));
-  return [faultLine(t.leftHere(called))];
+  return faultLine(t.leftHere(called.length ? t.placeOf(called) : t.placeOfSome));
 }
 
 /** At the top the way to the user's trash, where there is one; in it, where it has something in it, its end. */
-async function trashTools(app, { path, room }, isEmpty) {
+async function trashTool(app, { path, room }, isEmpty) {
   const trash = (path === ROOT || isOwnTrash(app, path)) && (await ownTrash(app)).path;
-  if (!trash) return [];
-  if (path === ROOT) return [link(addressOf({ room, path: trash }), t.yourTrash)];
-  return isEmpty || path !== trash ? [] : [button(t.emptyTrash, () => emptyTrash(app, path))];
+  if (!trash) return null;
+  if (path === ROOT) return link(addressOf({ room, path: trash }), t.yourTrash);
+  return !isEmpty && path === trash && button(t.emptyTrash, () => emptyTrash(app, path));
 }
 
+const titleOf = ({ path }) => (isTrash(path) ? t.trashOf(lastName(path)) : undefined);
+
 async function folder(app, place, stat, rights, found) {
-  const isOwn = isOwnTrash(app, place.path);
-  const top = head(place, { app, menu: () => offersFor(app, place.path, FOLDER, rights), title: titleOf(place) });
-  const bar = tools(...isOwn ? [] : makers(app, place.path, rights.own),
-    ...await trashTools(app, place, found.names?.length === 0));
-  bar.classList.add("makers");
+  const { path } = place;
+  const isOwn = isOwnTrash(app, path);
+  const news = isOwn ? [] : newsFor(app, path, rights.own);
+  const mayPut = (rights.own & ADD_FILE) !== 0 && !isOwn;
+  const top = head(place, { app, menu: () => offersFor(app, path, FOLDER, rights), title: titleOf(place) });
+  const bar = make("p.tools.makers",
+    news.length > 0 && menuButton(`+ ${t.new}`, { className: "main" }, () => news, t.new),
+    mayPut && filesButton(t.upload, {}, (chosen) => upload(app, path, chosen), t.uploadFiles),
+    await trashTool(app, place, found.names?.length === 0));
   if (found instanceof Refusal) return [...top, bar, about(place, stat, t.folder), faultLine(found.message)];
   const names = found.names.filter(([name]) => !isPart(name)).sort(byName);
-  const area = make("div", {}, ...await leftWords(found.names));
-  const end = [about(place, stat, t.inIt(names.length))];
-  const mayPut = rights.own & ADD_FILE && !isOwn;
-  const words = isOwn ? t.inTrash : mayPut ? t.dropHere : "";
-  if (words) end.push(make("p", { className: "about" }, words));
-  if (mayPut) takeFiles(area, app, place.path);
-  area.classList.add("drops");
+  const things = names.length ? new Things(app, place, names, rights) : null;
+  const words = isOwn ? t.inTrash : mayPut && t.dropHere;
+  const area = make("div.drops", await leftWords(found.names), things?.element ?? make("p.empty", t.emptyFolder),
+    about(place, stat, t.inIt(names.length)), words && make("p.about", words));
+  if (mayPut) takeFiles(area, app, path);
   area.oncontextmenu = (event) => {
-    const news = isOwn || event.target !== area ? [] : newsFor(app, place.path, rights.own);
-    if (news.length === 0) return;
+    if (news.length === 0 || event.target !== area) return;
     event.preventDefault();
-    openMenu(bar.querySelector("button"), news, { label: t.new, at: { x: event.clientX, y: event.clientY } });
+    openMenu(bar.querySelector("button"), news, t.new, pointOf(event));
   };
-  app.watched = { path: place.path, listing: JSON.stringify(found.names), put: mayPut };
-  if (names.length === 0) {
-    area.append(make("p", { className: "empty" }, t.emptyFolder), ...end);
-    return [...top, bar, area];
-  }
-  const things = new Things(app, place, names, rights);
-  area.append(things.element, ...end);
-  return [...top, bar, things.bar.element, area];
+  app.watched = { path, listing: JSON.stringify(found.names), put: mayPut };
+  return [...top, bar, ...things ? [things.bar.element] : [], area];
 }
 
 /** What is shown of an object that is no folder: what is offered, with `first` in front, what it is, and the `body`. */
 async function object(app, place, { stat, rights, kind, size, words, first = [] }, body) {
   const offers = [...first, ...offersFor(app, place.path, kind, { ...rights, size })].filter((it) => !it.isView);
-  const bar = tools(...offers.map(asButton), ...await neighbours(app, place));
+  const bar = make("p.tools", offers.map(asButton), await neighbours(app, place));
   return [...head(place), bar, about(place, stat, words), body];
 }
 
 async function document_(app, place, stat, rights) {
   const { path } = place;
   const found = await orRefused(app.room.run("READ", path), path);
-  const isRefused = found instanceof Refusal;
-  const bytes = isRefused ? null : fromBase64(found.data);
-  const text = bytes && toText(bytes);
-  const buttons = textOffers(app, path, rights.own, bytes, text);
-  const shownPart = isRefused ? faultLine(found.message) : preview(bytes, lastName(path));
-  const size = isRefused ? t.document : t.bytes(bytes.length);
-  return object(app, place, { stat, rights, kind: FILE, size: bytes?.length, words: size, first: buttons }, shownPart);
+  const isShut = found instanceof Refusal;
+  const bytes = isShut ? null : fromBase64(found.data);
+  const first = textOffers(app, path, rights.own, bytes, bytes && toText(bytes));
+  const words = isShut ? t.document : t.bytes(bytes.length);
+  return object(app, place, { stat, rights, kind: FILE, size: bytes?.length, words, first }, isShut ?
+    faultLine(found.message) : preview(bytes, lastName(path)));
 }
 
 async function large(app, place, stat, rights) {
   const { path } = place;
   const its = await manifestAt(app.room, path);
   if (!its) return null;
-  const area = make("div", {});
+  const area = make("div");
   const show = async () => area.replaceChildren(preview(await readFile(app.room, path), lastName(path)));
   const start = await app.room.asideIfAllowed("READ", inFolder(path, its.folder, its.pieces[0]), { keep: false });
   const bytes = start && fromBase64(start.data);
@@ -140,20 +126,14 @@ async function large(app, place, stat, rights) {
   return object(app, place, { stat, rights, kind: LARGE, size: its.size, words: sizeWords(its.size) }, area);
 }
 
-const titleOf = ({ path }) => (isTrash(path) ? t.trashOf(lastName(path)) : undefined);
-
-/** The ways to the pictures before and behind this one, where it is one by its name. */
 async function neighbours(app, { path, room }) {
   if (!isPicture(lastName(path))) return [];
   const found = await app.room.asideIfAllowed("LIST", folderOf(path));
   const names = (found?.names ?? []).filter(([name]) => isPicture(name)).sort(byName).map(([name]) => name);
   const at = names.indexOf(lastName(path));
-  const to = (name, words, key) => {
-    const it = link(addressOf({ room, path: inFolder(folderOf(path), name) }), words);
-    return Object.assign(it, { title: shown(name), className: key });
-  };
-  return [...names[at - 1] ? [to(names[at - 1], t.previous, "ArrowLeft")] : [],
-    ...names[at + 1] ? [to(names[at + 1], t.next, "ArrowRight")] : []];
+  const to = (name, words, key) => name && Object.assign(
+    link(addressOf({ room, path: inFolder(folderOf(path), name) }), words), { title: shown(name), className: key });
+  return [to(names[at - 1], t.previous, "ArrowLeft"), to(names[at + 1], t.next, "ArrowRight")];
 }
 
 export async function showContents(app, place) {
@@ -162,9 +142,9 @@ export async function showContents(app, place) {
   if (stat.kind !== FOLDER) return document_(app, place, stat, rights);
   const found = await orRefused(room.run("LIST", place.path), place.path);
   const kind = found.names ? kindBy(found.names) : FOLDER;
-  if (kind === "unfinished") {
+  if (kind === UNFINISHED) {
     const words = t.wasStopped(shown(lastName(place.path)));
     return object(app, place, { stat, rights, kind, words: t.unfinished }, faultLine(words));
   }
-  return kind === "file" && await large(app, place, stat, rights) || folder(app, place, stat, rights, found);
+  return kind === LARGE && await large(app, place, stat, rights) || folder(app, place, stat, rights, found);
 }

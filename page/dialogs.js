@@ -3,42 +3,54 @@ import { standIn } from "./busy.js";
 import { button, labelled, make } from "./dom.js";
 import { clean, shown } from "./names.js";
 import { isTooLong, nameFault, shortened } from "./places.js";
-import { watch } from "./unsaved.js";
 import { t } from "./words.js";
 
 const SLOW = 500; // milliseconds after which it is said that something is under way
 const open = new Set();
+const typed = new Set(); // each tells whether something of its own is typed and not yet done
+const running = new Set(); // the same of what goes on in other places of the page, and ends with it alone
+let isEnding = false;
 
-/** Closes all of them: the page goes elsewhere. */
+function added(set, look) {
+  set.add(look);
+  return () => set.delete(look);
+}
+
+const some = (looks) => [...looks].some((it) => it());
+
+/** From now on whoever would leave is asked where `look` says so, until what is returned is called. */
+export const watch = (look) => added(typed, look);
+export const watchEnd = (look) => added(running, look);
+export const isUnsaved = () => !isEnding && some(typed);
+
+/** The page ends by itself, and nobody is asked. */
+export const end = () => { isEnding = true; };
+
+addEventListener("beforeunload", (event) => {
+  if (isUnsaved() || !isEnding && some(running)) event.preventDefault();
+});
+
 export const closeAll = () => open.forEach((it) => it.end(null));
 
 export async function untilClosed() {
   while (open.size > 0) await Promise.race([...open].map((it) => it.closed));
 }
 
-/** What a field has now, to see whether something was typed. */
-function valueOf(field) {
-  if (field.type === "file") return String(field.files.length);
-  return field.type === "checkbox" ? String(field.checked) : field.value ?? "";
-}
+const valueOf = (field) => (field.type === "checkbox" ? field.checked : field.value);
 
 class Dialog {
-  constructor({ title, words = [], fields = {}, does, faultOf = () => "", task = () => {}, others = [], first,
+  constructor({ title, words, fields = [], does, faultOf = () => "", task = () => {}, others = [], first,
     stays = t.cancel, isFinal = false }) {
-    Object.assign(this, { faultOf, task, first, fields: Object.values(fields).map((it) => it.field), isAtWork: false });
-    if (isFinal) this.first = stays;
-    this.fault = make("p", { className: "fault", role: "alert" });
-    this.leaving = make("p", { className: "fault", role: "alert", hidden: true }, t.unsaved, " ",
-      button(t.typeOn, () => this.stay()), " ", button(t.discard, () => this.end(null)));
+    Object.assign(this, { faultOf, task, first: isFinal ? stays : first, fields: fields.map(([, field]) => field) });
+    this.fault = make("p.fault", { role: "alert" });
+    this.leaving = make("p.fault", { role: "alert", hidden: true }, t.unsaved, " ", button(t.typeOn, () => this.stay()),
+      " ", button(t.discard, () => this.end(null)));
     this.atWork = make("p", { role: "status" });
     const leave = button(stays, () => this.leave());
-    this.form = make("form", { method: "dialog" }, make("h2", {}, title), ...[words].flat(),
-      ...Object.values(fields).map(({ label, field }) => labelled(label, field)), this.fault,
-      ...(this.fields.length ? [this.leaving] : []), this.atWork,
-      make("p", { className: "actions" }, ...(isFinal ? [leave] : []),
-        make("button", { className: isFinal ? "" : "main" }, does),
-        ...others.map((it) => button(it.words, () => this.run(it.task ?? (() => {}), it.value))),
-        ...(isFinal ? [] : [leave])));
+    this.form = make("form", { method: "dialog" }, make("h2", title), words,
+      fields.map(([label, field]) => labelled(label, field)), this.fault, this.fields.length > 0 && this.leaving,
+      this.atWork, make("p.actions", isFinal && leave, make(isFinal ? "button" : "button.main", does),
+        others.map((it) => button(it.words, () => this.run(it.task ?? (() => {}), it.value))), !isFinal && leave));
     this.element = make("dialog", { "aria-label": title, closedby: "none" }, this.form);
     this.form.onsubmit = (event) => this.submit(event);
     this.element.onkeydown = (event) => this.key(event);
@@ -67,15 +79,12 @@ class Dialog {
 
   /** Does it while the dialog stands; a refusal is told in it. What takes a while shows that it is at work. */
   async run(task, value) {
-    if (this.isAtWork) return;
-    this.isAtWork = true;
+    if (this.form.inert) return;
     const focused = document.activeElement;
     this.form.inert = true; // (which takes the focus away, and with it the keys)
     this.fault.textContent = "";
     const back = standIn(this.element);
-    const slow = setTimeout(() => {
-      this.atWork.textContent = t.working;
-    }, SLOW);
+    const slow = setTimeout(() => { this.atWork.textContent = t.working; }, SLOW);
     try {
       await task();
       this.end(value);
@@ -86,14 +95,13 @@ class Dialog {
       this.atWork.textContent = "";
       back();
       this.form.inert = false;
-      this.isAtWork = false;
       if (open.has(this)) focused.focus();
     }
   }
 
   /** Whoever types on without looking presses what loses nothing, and is back where they typed. */
   leave() {
-    if (this.isAtWork) return;
+    if (this.form.inert) return;
     if (this.now === this.start) return this.end(null);
     if (this.leaving.hidden) this.typedIn = this.fields.find((it) => it === document.activeElement) ?? this.fields[0];
     this.leaving.hidden = false;
@@ -119,39 +127,34 @@ class Dialog {
     document.body.append(this.element);
     this.element.showModal();
     if (this.first) [...this.form.querySelectorAll("button")].find((it) => it.textContent === this.first).focus();
-    this.closed = new Promise((tell) => {
-      this.tell = tell;
-    });
+    this.closed = new Promise((tell) => { this.tell = tell; });
     return this.closed;
   }
 }
 
-/** Asks for `fields`, elements by name with their labels; `faultOf` tells why what was put in will not do, or nothing;
- * `task` does it, and the dialog stays until it is done. `others` are further buttons, `{words, value, task}`; `first`
- * names the button that has the focus at first, where that is not the first field, and `stays` has the words of the one
- * that closes it. What it gives is true, the value of another button once its task is done, or null where it was
- * closed. */
+/** Asks for `fields`, `[LABEL, ELEMENT]`; `faultOf` tells why what was put in will not do, or nothing; `task` does it,
+ * and the dialog stays until it is done. `others` are further buttons, `{words, value, task}`; `first` is the word of
+ * the button that has the focus at first, where that is not the first field, and `stays` that of the one that closes.
+ * What it gives is true, the value of another button once its task is done, or null where it was closed. */
 export const ask = (how) => new Dialog(how).show();
 
 export const input = (value = "", how = {}) =>
   make("input", { value, autocomplete: "off", spellcheck: false, ...how });
 
-/** A field for a name, of which all but the ending is marked at first. Instead of one that is too long a shorter one is
- * offered as it is typed. */
+/** A field for a name, of which all but the ending is marked at first. A shorter one is offered for one too long. */
 export function nameInput(value = "", how = {}) {
-  const [field, hint] = [input(value, how), make("p", { role: "status", className: "about" })];
+  const [field, hint] = [input(value, how), make("p.about", { role: "status" })];
   const dot = value.lastIndexOf(".");
   field.addEventListener("focus", () => field.setSelectionRange(0, dot > 0 ? dot : value.length), { once: true });
   field.oninput = () => {
     const name = clean(field.value);
-    const isLong = isTooLong(name) && !name.startsWith("/");
     const take = () => {
       field.value = shortened(name);
       hint.replaceChildren();
       field.focus();
     };
-    hint.replaceChildren(...isLong ? [nameFault(name), " ", button(t.shorten(shown(shortened(name))), take,
-      { className: "small" })] : []);
+    hint.replaceChildren(...isTooLong(name) && !name.startsWith("/") ?
+      [nameFault(name), " ", button(t.shorten(shown(shortened(name))), take, "small")] : []);
     field.parentNode.after(hint);
   };
   return field;

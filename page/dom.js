@@ -1,28 +1,36 @@
 /** Elements of the page. Whatever comes from the room is put in as text, never as markup. */
 import { partsOf } from "./names.js";
 
-/** An element with these properties or attributes. Children that are no elements are put in as text. */
-export function make(tag, how = {}, ...children) {
+/** An element, `tag.class`, with properties or attributes, and children: texts, elements, lists of them, or null. */
+export function make(name, ...rest) {
+  const [tag, ...classes] = name.split(".");
+  const how = rest[0]?.constructor === Object ? rest.shift() : {};
   const it = document.createElement(tag);
-  for (const [name, value] of Object.entries(how)) {
-    if (name in it && name !== "list") it[name] = value;
-    else it.setAttribute(name, value);
+  if (classes.length) it.className = classes.join(" ");
+  for (const [key, value] of Object.entries(how)) {
+    if (key in it && key !== "list") it[key] = value;
+    else it.setAttribute(key, value);
   }
-  it.append(...children);
+  it.append(...rest.flat(Infinity).filter((child) => ![null, undefined, false].includes(child)));
   return it;
 }
 
+/** `how` may be its class alone. */
 export const button = (words, onclick, how = {}) =>
-  make("button", { type: "button", onclick, ...how }, ...[words].flat());
+  make("button", { type: "button", onclick, ...typeof how === "string" ? { className: how } : how }, words);
+
 export const link = (href, ...words) => make("a", { href }, ...words);
 
-export const faultLine = (...words) => make("p", { className: "fault" }, ...words);
+export const faultLine = (...words) => make("p.fault", ...words);
 
-/** A name of the room, kept apart from the direction in which the text around it is written, with marks in the place of
- * what could not be seen. */
+export const onSubmit = (task) => (event) => {
+  event.preventDefault();
+  task();
+};
+
+/** A name, apart from the direction of the text around it, with marks in the place of what could not be seen. */
 export function nameText(name) {
-  const it = make("bdi", {});
-  for (const { text, isMark } of partsOf(name)) it.append(isMark ? make("span", { className: "mark" }, text) : text);
+  const it = make("bdi", partsOf(name).map(({ text, isMark }) => (isMark ? make("span.mark", text) : text)));
   it.normalize();
   return it;
 }
@@ -32,20 +40,31 @@ let ids = 0;
 export function labelled(words, field) {
   ids += 1;
   field.id ||= `field-${ids}`;
-  return make("p", { className: "field" }, make("label", { htmlFor: field.id }, words), field);
+  return make("p.field", make("label", { htmlFor: field.id }, words), field);
 }
 
-export function checkbox(words, checked, onchange, how = {}) {
-  const box = make("input", { type: "checkbox", checked, ...how });
-  box.onchange = () => onchange(box.checked);
-  return make("label", { className: "choice" }, box, ` ${words}`);
+export function checkbox(words, checked, changed) {
+  const box = make("input", { type: "checkbox", checked, onchange: () => changed(box.checked) });
+  return make("label.choice", box, ` ${words}`);
 }
 
-/** A choice among `{value, word}`. */
-export function select(choices, value, onchange, how = {}) {
-  const options = choices.map((it) => make("option", { value: it.value }, it.word));
-  const it = make("select", how, ...options);
-  it.value = value;
-  it.onchange = () => onchange(it.value);
+/** A choice among `[VALUE, WORD]`. */
+export function select(choices, now, changed, how = {}) {
+  const it = make("select", how, choices.map(([value, word]) => make("option", { value }, word)));
+  it.value = now;
+  it.onchange = () => changed(it.value);
   return it;
+}
+
+/** `click` asks for files of the user's disk, or with `isFolder` a folder; `chosen` gets them, each `{names, file}`. */
+export function pickFiles(words, { isFolder = false, isOne = false }, chosen) {
+  const field = make("input", { type: "file", multiple: !isOne, hidden: true, "aria-label": words });
+  field.webkitdirectory = isFolder;
+  field.onclick = (event) => event.stopPropagation();
+  field.onchange = () => {
+    const files = [...field.files].map((file) => ({ names: (file.webkitRelativePath || file.name).split("/"), file }));
+    field.value = ""; // (so that the same file can be chosen again)
+    chosen(files);
+  };
+  return { field, click: () => field.click() };
 }

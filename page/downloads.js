@@ -1,6 +1,6 @@
 /** Files go to the user's disk, folders and several things as a zip. */
 import { save } from "./bytes.js";
-import { NOBODY, readFile } from "./files.js";
+import { readFile } from "./files.js";
 import { forDisk, shown } from "./names.js";
 import { ROOT, namesOf } from "./places.js";
 import { FOLDER } from "./rights.js";
@@ -10,28 +10,20 @@ import { below, lookInto, whole } from "./trees.js";
 import { t } from "./words.js";
 import { Zip } from "./zip.js";
 
-/** A file, once its sum is right. */
 export async function download(app, path, size) {
   const name = nameAt(path);
-  const { room } = app;
-  const how = { total: size ?? 0, about: `download ${room.name} ${path}` };
+  const how = { total: size ?? 0, about: `download ${app.room.name} ${path}` };
   await transferring(app, t.downloadTitle(shown(name)), how, async (transfer) => {
-    const start = performance.now();
-    const bytes = await readFile(room, path, transfer);
+    const bytes = await readFile(app.room, path, transfer);
     save(new Blob([bytes], { type: "application/octet-stream" }), name);
-    const seconds = (performance.now() - start) / 1_000;
-    return t.downloaded(shown(name), sizeWords(bytes.length), seconds.toFixed(1));
+    return t.downloaded(shown(name), sizeWords(bytes.length), transfer.seconds);
   });
 }
 
-/** All that is below these paths, with the path in the zip of each, from `start` names on. */
-async function inZip(room, paths, { name, start }, transfer) {
+async function allOf(room, paths, transfer) {
   const look = paths.length > 1 ? whole : below;
   const found = (await Promise.all(paths.map((it) => look(room, it, transfer)))).flat();
-  found.sort((a, b) => (a.path < b.path ? -1 : 1));
-  const places = new Places(forDisk(name));
-  for (const it of found) it.inside = places.of(namesOf(it.path).slice(start));
-  return found;
+  return found.sort((a, b) => (a.path < b.path ? -1 : 1));
 }
 
 /** Where things are in a zip: each at a path of its own, also on a disk that does not tell capitals apart. */
@@ -56,38 +48,38 @@ class Places {
   }
 }
 
-async function downloadZip(app, paths, name, start) {
+/** A zip that is called as the folder, and has their paths from there on. */
+async function downloadZip(app, paths, folder) {
   const { room } = app;
+  const name = folder === ROOT ? room.name : nameAt(folder);
   const how = { total: 0, unit: String, about: `zip ${room.name} ${paths[0]}` };
   await transferring(app, t.zipTitle(shown(name)), how, async (transfer) => {
-    const found = await inZip(room, paths, { name, start }, transfer);
-    const zip = new Zip();
+    const found = await allOf(room, paths, transfer);
+    const [zip, places, quiet] = [new Zip(), new Places(forDisk(name)), transfer.quiet()];
     transfer.total = transfer.bar.max = found.length;
-    for (const it of found) {
+    for (const { path, kind, isShut } of found) {
+      const inside = places.of(namesOf(path).slice(namesOf(folder).length));
       transfer.check();
-      if (it.isShut) transfer.fail(t.shutInZip(shown(it.path)));
-      if (it.kind === FOLDER) zip.add(`${it.inside}/`);
-      else await readFile(room, it.path, { ...NOBODY, check: () => transfer.check() })
-        .then((bytes) => zip.add(it.inside, bytes), (fault) => {
-          transfer.check();
-          transfer.fail(t.notInZip(shown(it.path), fault.message));
-        });
+      if (isShut) transfer.fail(t.shutInZip(shown(path)));
+      if (kind === FOLDER) zip.add(`${inside}/`);
+      else await readFile(room, path, quiet).then((bytes) => zip.add(inside, bytes), (fault) => {
+        transfer.check();
+        transfer.fail(t.notInZip(shown(path), fault.message));
+      });
       transfer.add(1);
     }
     transfer.check();
     save(zip.end(), `${name}.zip`);
-    return t.zipMade(shown(name), zip.count, found.length);
+    const of = zip.count < found.length ? t.ofAll(zip.count, found.length) : found.length;
+    return t.zipMade(shown(name), of, found.length);
   });
 }
 
-const nameOf = (app, path) => (path === ROOT ? app.room.name : nameAt(path));
+export const downloadFolder = (app, path) => downloadZip(app, [path], path);
 
-export const downloadFolder = (app, path) => downloadZip(app, [path], nameOf(app, path), namesOf(path).length);
-
-/** One of them as it is, and several as a zip by the name of their folder. */
 export async function downloadAll(app, folder, paths) {
   const [path] = paths;
-  if (paths.length > 1) return downloadZip(app, paths, nameOf(app, folder), namesOf(folder).length);
+  if (paths.length > 1) return downloadZip(app, paths, folder);
   const its = await lookInto(app.room, path);
   return its.names && its.kind === FOLDER ? downloadFolder(app, path) : download(app, path, its.its?.size);
 }

@@ -1,6 +1,6 @@
 /** Rows are dragged onto folders and onto the way above; files of the user's disk are dropped. */
 import { moveInto } from "./moving.js";
-import { tellFault } from "./notices.js";
+import { tellIt } from "./notices.js";
 import { folderOf, isWithin } from "./places.js";
 import { dropped, upload } from "./uploads.js";
 
@@ -16,9 +16,7 @@ export function dragRow(row) {
     event.dataTransfer.setData(FORM, dragged.join("\n"));
     event.dataTransfer.effectAllowed = "move";
   };
-  row.element.ondragend = () => {
-    dragged = [];
-  };
+  row.element.ondragend = () => { dragged = []; };
 }
 
 const mayGo = (folder) => dragged.length > 0 && dragged.every((it) => folderOf(it) !== folder && !isWithin(folder, it));
@@ -36,23 +34,18 @@ function take(element, fits, does) {
   element.addEventListener("dragleave", (event) => element.contains(event.relatedTarget) || over(event, false));
   element.addEventListener("drop", (event) => {
     if (!fits(event.dataTransfer)) return;
-    over(event, false);
-    event.preventDefault();
-    event.stopPropagation();
+    over(event, true); // (whoever is above shall not take it too)
+    element.classList.remove("dropping");
     does(event.dataTransfer);
   });
 }
 
-const hasFiles = (data) => [...data.types].includes("Files");
-
-/** Rows that are dropped on the element go into the folder, while that is one. */
+/** What is dropped on the element, rows or files, goes into the folder, while that is one. */
 export const takeRows = (element, app, folder, isFolder = () => true) => take(element, (data) =>
-  [...data.types].includes(FORM) && isFolder() && mayGo(folder), () => moveInto(app, dragged, folder));
+  data.types.includes(FORM) && isFolder() && mayGo(folder), () => moveInto(app, dragged, folder));
 
-/** Files that are dropped on the element go into the folder, while that is one. */
-export function takeFiles(element, app, folder, isFolder = () => true) {
-  take(element, (data) => hasFiles(data) && isFolder(), async (data) => {
-    const chosen = await dropped(data).catch((fault) => tellFault(fault.message));
-    if (chosen) await upload(app, folder, chosen);
-  });
-}
+export const takeFiles = (element, app, folder, isFolder = () => true) => take(element, (data) =>
+  data.types.includes("Files") && isFolder(), async (data) => {
+  const chosen = await dropped(data).catch(tellIt);
+  if (chosen) await upload(app, folder, chosen);
+});

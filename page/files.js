@@ -12,15 +12,13 @@ import { t } from "./words.js";
 
 const TRIES = 5; // of a reader that meets one new version after another
 
-/** For who waits for no end and shows none. */
+/** The transfer of who waits for no end and shows none. */
 export const NOBODY = { add() {}, check() {}, note() {}, fail() {}, overtaken: () => null };
 
 const bytesAt = async (room, path, more) => fromBase64((await room.aside("READ", path, more)).data);
 
-/** The bytes of the manifest in that folder, or null where there is none. */
 const manifestBytes = (room, path) => orElse(bytesAt(room, inFolder(path, form.NAME)), null, NOENT, ISDIR, NOTDIR);
 
-/** The manifest of the large file that a folder is, or null. */
 export async function manifestAt(room, path) {
   const bytes = await manifestBytes(room, path);
   return bytes && form.readManifest(bytes);
@@ -66,8 +64,7 @@ async function wholeOf(room, path, its, transfer) {
   return ends.reduce((sum, it) => sum + it, 0) === its.size && await form.sumOf(bytes) === its.sha256 ? bytes : null;
 }
 
-/** Makes the file, or a new version of it; with `isNew` only where nothing is there. Where it is then: a version that
- * another one overtook may be kept as a copy. */
+/** Makes the file, or a new version, with `isNew` only where nothing is. Where it is then: it may be kept as a copy. */
 export async function writeFile(room, path, bytes, transfer = NOBODY, isNew = false) {
   const fault = form.sizeFault(bytes.length);
   if (fault) throw new Error(t.notSent(shown(lastName(path)), fault));
@@ -81,7 +78,7 @@ export async function writeFile(room, path, bytes, transfer = NOBODY, isNew = fa
   return path;
 }
 
-/** Makes a file that is a copy of another one, or of a version of it, and has its list before it has its bytes. */
+/** Makes a copy of a file, or of a version of it, which has its list before it has its bytes. */
 export async function writeCopy(room, of, path, bytes, transfer = NOBODY) {
   const list = ownList(await room.aside("GETLIST", of));
   if (!list) return writeFile(room, path, bytes, transfer, true);
@@ -95,7 +92,11 @@ export async function writeCopy(room, of, path, bytes, transfer = NOBODY) {
 /** One new version of a file that is a folder, or becomes one. A new one gets the list, where there is one. */
 class Upload {
   constructor(room, path, bytes, transfer, list = null) {
-    Object.assign(this, { room, path, bytes, transfer, list, names: [], before: null });
+    Object.assign(this, { room, path, bytes, transfer, list, names: [], before: null, called: shown(lastName(path)) });
+  }
+
+  clear(at, name, looks) {
+    return clear(this.room, at, name, this.transfer, looks);
   }
 
   async run(isNew) {
@@ -121,7 +122,7 @@ class Upload {
     if (!ours || ours.owner === owner && ours.group === group) return;
     await give(this.room, levels, { owner, group }).catch((fault) => {
       if (!(fault instanceof Refusal)) throw fault;
-      this.transfer.fail(t.staysYours(shown(lastName(this.path)), owner, fault.message));
+      this.transfer.fail(t.staysYours(this.called, owner, fault.message));
     });
   }
 
@@ -129,7 +130,7 @@ class Upload {
     await this.putManifest(this.path, this.before === null);
     if (this.before === null && !this.isMade) await this.share([[inFolder(this.path, form.NAME)]]);
     await this.lookAfter();
-    if (this.clears) this.transfer.note(t.leftCleared(shown(lastName(this.path))));
+    if (this.clears) this.transfer.note(t.leftCleared(this.called));
     if (this.isMade) await clearBeside(this.room, this.path, this.transfer);
     return this.path;
   }
@@ -143,9 +144,7 @@ class Upload {
     this.names = (await this.room.aside("LIST", this.path)).names;
     this.before = await manifestBytes(this.room, this.path);
     const isLeft = form.isUnfinished(this.names);
-    if (!isLeft && !(this.before && form.readManifest(this.before))) {
-      throw new Error(t.isFolder(shown(lastName(this.path))));
-    }
+    if (!isLeft && !(this.before && form.readManifest(this.before))) throw new Error(t.isFolder(this.called));
     if (isLeft) await this.needOwn();
     this.clears = isLeft || this.names.some(([name]) => form.isLeft(name));
     return null;
@@ -154,9 +153,10 @@ class Upload {
   /** That this folder is as the user would have made it. (Anyone who may add could make one under a name that somebody
    * is about to put, open it to others, and give it away.) */
   async needOwn() {
-    const isOwn = this.stat.owner === this.room.user;
-    const isOpen = isOwn && ownList(await this.room.aside("GETLIST", this.path));
-    if (!isOwn || isOpen) throw new Error(t.notYourUpload(shown(lastName(this.path)), isOwn ? "" : this.stat.owner));
+    const { owner } = this.stat;
+    if (owner !== this.room.user) throw new Error(t.notYourUpload(this.called, t.uploadBy(owner)));
+    const isOpen = ownList(await this.room.aside("GETLIST", this.path));
+    if (isOpen) throw new Error(t.notYourUpload(this.called, t.ownListed));
   }
 
   /** All pieces in a folder of that name, which is there once they are. */
@@ -173,14 +173,13 @@ class Upload {
       this.transfer.check();
       await this.room.step("RENAME", inFolder(at, writing), { to: inFolder(at, this.its.folder) });
     } catch (fault) {
-      await clear(this.room, at, writing, this.transfer);
+      await this.clear(at, writing);
       if (isRefused(fault, NOENT)) throw new Error(t.otherFirst(shown(this.path)));
       throw fault;
     }
   }
 
-  /** Where somebody else wrote a version meanwhile, the user says what becomes of this one: where it is then, or null
-   * where it takes its place. */
+  /** Where somebody else was first, the user says what becomes of it: where it is then, or null where it goes on. */
   async needFirst() {
     const now = this.isMade ? null : await manifestBytes(this.room, this.path);
     if (isSame(now, this.before)) return null;
@@ -191,7 +190,7 @@ class Upload {
       this.before = now;
       return null;
     }
-    await clear(this.room, this.path, this.its.folder, this.transfer);
+    await this.clear(this.path, this.its.folder);
     if (!chosen) throw new Error(t.otherStands(shown(this.path)));
     return writeCopy(this.room, this.path, chosen, this.bytes, this.transfer);
   }
@@ -199,10 +198,10 @@ class Upload {
   /** The one request that is the new version. */
   async putManifest(at, isFirst) {
     try {
-      await this.room.step(isFirst ? "CREATE" : "WRITE", inFolder(at, form.NAME),
-        { data: toBase64(form.bytesOf(this.its)) });
+      const data = toBase64(form.bytesOf(this.its));
+      await this.room.step(isFirst ? "CREATE" : "WRITE", inFolder(at, form.NAME), { data });
     } catch (fault) {
-      await clear(this.room, at, this.its.folder, this.transfer);
+      await this.clear(at, this.its.folder);
       throw fault;
     }
   }
@@ -211,7 +210,7 @@ class Upload {
   async lookAfter() {
     const now = await manifestAt(this.room, this.path);
     if (now?.folder !== this.its.folder) {
-      await clear(this.room, this.path, this.its.folder, this.transfer);
+      await this.clear(this.path, this.its.folder);
       throw new Error(t.otherBehind(shown(this.path)));
     }
     const { names } = await this.room.aside("LIST", this.path);
@@ -220,9 +219,8 @@ class Upload {
     const there = new Set(this.names.map(([name]) => name));
     const old = this.before && form.readManifest(this.before)?.folder;
     for (const [name] of names) {
-      const isOld = name.startsWith(form.PIECES) && name !== this.its.folder &&
-        (there.has(name) || name === old);
-      if (isOld || form.isLeft(name)) await clear(this.room, this.path, name, this.transfer);
+      const isOld = name.startsWith(form.PIECES) && name !== this.its.folder && (there.has(name) || name === old);
+      if (isOld || form.isLeft(name)) await this.clear(this.path, name);
     }
   }
 }
@@ -248,7 +246,7 @@ class Replacement {
       if (!isSame(before, await bytesAt(this.room, this.path))) throw new Error(t.changedMeanwhile);
       await this.room.step("RENAME", this.path, { to: gone });
     } catch (fault) {
-      await clear(this.room, above, names.its, this.transfer, fileAt);
+      await this.upload.clear(above, names.its, fileAt);
       throw fault;
     }
     await this.takeName(its, gone);
@@ -280,11 +278,9 @@ class Replacement {
   }
 }
 
-/** The pieces of a version, and then their folder. */
 const piecesAt = (at, { folder, pieces }) => [pieces.map((it) => inFolder(at, folder, it)), [inFolder(at, folder)]];
 
-/** Gives what is at these paths to somebody, one level after another: whoever gave a folder may not pass through it any
- * more. */
+/** Gives what is at these paths to somebody, level by level: whoever gave a folder may not pass through it any more. */
 async function give(room, levels, whose) {
   for (const paths of levels) await forEach(paths, (it) => room.step("CHOWN", it, whose));
 }

@@ -1,30 +1,28 @@
 /** The view that looks for names below a folder. */
+import { button, labelled, link, make, nameText, onSubmit } from "./dom.js";
 import { NOBODY } from "./files.js";
-import { button, labelled, link, make, nameText } from "./dom.js";
 import { head } from "./heads.js";
-import { inOrder, shown } from "./names.js";
+import { clean, inOrder, shown } from "./names.js";
 import { addressOf, lastName } from "./places.js";
 import { FOLDER } from "./rights.js";
-import { matches, walk } from "./trees.js";
+import { walk } from "./trees.js";
 import { t } from "./words.js";
 
 const MOST = 500; // names that are shown
 const kept = new Map(); // each place's view, so that who comes back finds it
 
+const small = (name) => clean(name).toLowerCase();
+
 class Search {
   constructor(app, place) {
     Object.assign(this, { app, place, turn: 0 });
-    this.field = make("input", { type: "search", autocomplete: "off", spellcheck: false, className: "first" });
-    this.told = make("p", { role: "status" }, "");
-    this.list = make("ul", { className: "found" });
-    const form = make("form", {}, labelled(t.lettersBelow(shown(place.path)), this.field),
-      make("p", { className: "tools" }, make("button", { className: "main" }, t.search),
-        button(t.stop, () => this.stop())));
-    form.onsubmit = (event) => {
-      event.preventDefault();
-      this.run();
-    };
-    this.element = make("div", {}, form, this.told, this.list);
+    this.field = make("input.first", { type: "search", autocomplete: "off", spellcheck: false });
+    this.told = make("p", { role: "status" });
+    this.list = make("ul.found");
+    const form = make("form", labelled(t.lettersBelow(shown(place.path)), this.field),
+      make("p.tools", make("button.main", t.search), button(t.stop, () => this.stop())));
+    form.onsubmit = onSubmit(() => this.run());
+    this.element = make("div", form, this.told, this.list);
   }
 
   stop() {
@@ -40,7 +38,7 @@ class Search {
     }, walked: (done, known) => Object.assign(counts, { done, known }) };
     this.list.replaceChildren();
     try {
-      await walk(this.app.room, this.place.path, (it) => this.meet(it, counts, turn), transfer);
+      await walk(this.app.room, this.place.path, (it) => turn === this.turn && this.meet(it, counts), transfer);
       if (turn !== this.turn) return;
       this.list.append(...[...this.list.children].sort((a, b) => inOrder(a.textContent, b.textContent)));
       this.tell(counts, t.thatIsAll);
@@ -49,22 +47,19 @@ class Search {
     }
   }
 
-  meet(it, counts, turn) {
-    if (turn !== this.turn) return;
+  meet({ path, kind, isShut }, counts) {
     counts.looked += 1;
-    counts.shut += it.isShut ? 1 : 0;
-    if (matches(lastName(it.path), this.field.value) && (counts.found += 1) <= MOST) this.list.append(this.row(it));
+    if (isShut) counts.shut += 1;
+    if (small(lastName(path)).includes(small(this.field.value)) && (counts.found += 1) <= MOST) {
+      this.list.append(make("li", link(addressOf({ room: this.place.room, path }), nameText(path),
+        kind === FOLDER ? "/" : "")));
+    }
     this.tell(counts, t.looking(counts.done, counts.known));
   }
 
   tell({ looked, found, shut }, end) {
     const more = found > MOST ? ` ${t.firstShown(MOST)}` : "";
-    this.told.textContent = `${t.found(found, looked, shut)}${more} ${end}`;
-  }
-
-  row({ path, kind }) {
-    const end = kind === FOLDER ? "/" : "";
-    return make("li", {}, link(addressOf({ room: this.place.room, path }), nameText(path), end));
+    this.told.textContent = `${t.found(found, looked)}${shut ? t.shutIn(t.folders(shut)) : ""}${more} ${end}`;
   }
 }
 

@@ -3,7 +3,6 @@ import { link, make, nameText } from "./dom.js";
 import { takeRows } from "./drag.js";
 import { menuButton } from "./menu.js";
 import { shown } from "./names.js";
-import { tellFault } from "./notices.js";
 import { ROOT, addressOf, foldersAbove } from "./places.js";
 import { nameAt } from "./trash.js";
 import { t } from "./words.js";
@@ -14,28 +13,23 @@ const nameOf = (place, path) => (path === ROOT ? place.room : nameAt(path));
 
 function way(place, app) {
   const folders = foldersAbove(place.path).map((path) => {
-    const it = make("li", {}, link(addressOf({ room: place.room, path }), nameText(nameOf(place, path))));
+    const it = make("li", link(addressOf({ room: place.room, path }), nameText(nameOf(place, path))));
     if (app) takeRows(it, app, path);
     return it;
   });
-  const list = make("ol", { className: "way" }, ...folders);
-  return make("nav", { className: "above", "aria-label": t.foldersAbove }, list);
+  return make("nav.above", { "aria-label": t.foldersAbove }, make("ol.way", folders));
 }
 
-function views(place) {
-  const links = VIEWS.map(([view, words]) => {
-    const it = link(addressOf({ ...place, view }), words);
-    if (view === place.view) it.setAttribute("aria-current", "page");
-    return it;
-  });
-  return make("nav", { className: "views", "aria-label": t.views }, ...links);
-}
+const views = (place) => make("nav.views", { "aria-label": t.views }, VIEWS.map(([view, words]) => {
+  const it = link(addressOf({ ...place, view }), words);
+  if (view === place.view) it.setAttribute("aria-current", "page");
+  return it;
+}));
 
 /** With a `menu` what concerns the object is a menu of its name; else its views stand below. */
 export function head(place, { title = nameOf(place, place.path), menu, app } = {}) {
-  const name = menu ? menuButton([nameText(title)], { className: "title" }, menu, { label: shown(title), fails:
-    (fault) => tellFault(fault.message) }) : nameText(title);
-  const its = make("h1", menu ? {} : { tabIndex: -1 }, name);
-  const line = make("div", { className: "head" }, ...(place.path === ROOT ? [] : [way(place, app)]), its);
+  const its = menu ? make("h1", menuButton([nameText(title)], { className: "title" }, menu, shown(title))) :
+    make("h1", { tabIndex: -1 }, nameText(title));
+  const line = make("div.head", place.path !== ROOT && way(place, app), its);
   return menu ? [line] : [line, views(place)];
 }

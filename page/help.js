@@ -1,25 +1,17 @@
-/** The help, from its table in the language of the page. */
+/** The help, from its text in the language of the page. */
 import { make } from "./dom.js";
 import { language } from "./words.js";
 
-const TAGS = { "**": "b", "`": "code" };
+/** A text with what stands between ** in bold. */
+const inline = (text) => text.split("**").map((it, at) => (at % 2 ? make("b", it) : it));
 
-/** A text with words in bold (**) or as they are typed (`). */
-const inline = (text) => text.split(/(\*\*.*?\*\*|`.*?`)/).map((it) => {
-  const mark = Object.keys(TAGS).find((its) => it.startsWith(its));
-  return mark ? make(TAGS[mark], {}, it.slice(mark.length, -mark.length)) : it;
-});
-
-function drawn(paragraphs) {
+function drawn(help) {
   const drawn = [];
-  for (const it of paragraphs) {
-    const [, mark, text] = /^(# |1\. )?(.*)$/.exec(it);
-    if (mark === "# ") drawn.push(make("h3", {}, ...inline(text)));
-    else if (!mark) drawn.push(make("p", {}, ...inline(text)));
-    else {
-      if (drawn.at(-1).tagName !== "OL") drawn.push(make("ol", {}));
-      drawn.at(-1).append(make("li", {}, ...inline(text)));
-    }
+  for (const it of help.trim().split(/\n(?! )/)) {
+    const [, mark, text] = /^(# |1\. )?([^]*)$/.exec(it);
+    if (mark === "1. " && drawn.at(-1).tagName !== "OL") drawn.push(make("ol"));
+    if (mark === "1. ") drawn.at(-1).append(make("li", inline(text)));
+    else drawn.push(make(mark ? "h3" : "p", inline(text)));
   }
   return drawn;
 }

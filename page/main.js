@@ -4,23 +4,20 @@ import { lookAgain, takePastes } from "./beside.js";
 import * as busy from "./busy.js";
 import { Refusal } from "./codes.js";
 import { showContents } from "./contents.js";
-import { ask, closeAll, untilClosed } from "./dialogs.js";
-import { button, faultLine, link, make } from "./dom.js";
+import { ask, closeAll, end, isUnsaved, untilClosed, watch } from "./dialogs.js";
+import { button, faultLine, link, make, onSubmit } from "./dom.js";
 import { searchFor, showFind } from "./find.js";
 import { head } from "./heads.js";
 import { showHelp } from "./help.js";
-import { Login, logOut } from "./login.js";
 import { isPart } from "./manifest.js";
 import { showMatrix } from "./matrix.js";
 import { isMenuOpen, openMenu } from "./menu.js";
-import { shown } from "./names.js";
+import { learnNames, shown } from "./names.js";
 import { pass, say, settle, tellFault } from "./notices.js";
-import { learnNames } from "./people.js";
 import { ROOT, addressOf, isWithin, namesOf, pathOf, placeOf } from "./places.js";
 import { Room } from "./room.js";
 import { arrive, leave, standing } from "./stand.js";
-import { sessionOfTab } from "./tabs.js";
-import { end, isUnsaved, watch } from "./unsaved.js";
+import { logOut, sessionOfTab, userNow } from "./tabs.js";
 import { fileOfFront } from "./wire.js";
 import { LANGUAGES, choose, language, t } from "./words.js";
 
@@ -28,23 +25,18 @@ const VIEWS = new Map([["open", showContents], ["access", showAccess], ["who", s
 const part = (id) => document.getElementById(id);
 
 class App {
-  constructor(login, rooms) {
-    Object.assign(this, { login, user: login.user, rooms, opened: new Map(), turn: 0, room: null, here: "" });
+  constructor(user, rooms) {
+    Object.assign(this, { user, rooms, opened: new Map(), turn: 0, room: null, here: "" });
   }
 
-  /** The room of that name, with a session of this tab. */
-  async openRoom(name) {
+  openRoom(name) {
+    if (this.opened.has(name)) return this.opened.get(name);
     const base = `/rooms/${name}`;
-    const tell = (command, reply, fault) => this.tellLeft(command, reply, fault);
-    if (!this.opened.has(name)) {
-      const opening = sessionOfTab(base, name, busy, this.login, tell)
-        .then((it) => new Room(name, base, it, busy, this.user));
-      this.opened.set(name, opening.catch((fault) => {
-        this.opened.delete(name);
-        throw fault;
-      }));
-    }
-    return this.opened.get(name);
+    const opening = sessionOfTab(base, name, busy, this.user, (...told) => this.tellLeft(...told))
+      .then((it) => new Room(name, base, it, busy, this.user));
+    opening.catch(() => this.opened.delete(name));
+    this.opened.set(name, opening);
+    return opening;
   }
 
   /** Tells how a request ended that was under way when a tab ended. */
@@ -56,12 +48,12 @@ class App {
     (reply?.code === 0 ? say : tellFault)(t.sentBefore(cmd, shown(path), end));
   }
 
-  /** Runs it with the page at rest: a second press of a button does nothing. What the task gives, true where that is
-   * nothing, or null where its fault was told, with `what` it was, in words. */
+  /** With the page at rest. What the task gives, true where that is nothing, or null where its fault was told. */
   async attempt(what, task) {
     const about = `${this.room?.name} ${what}`;
-    part("main").inert = true;
-    part("main").setAttribute("aria-busy", "true");
+    const main = part("main");
+    main.inert = true;
+    main.setAttribute("aria-busy", "true");
     try {
       const given = await task() ?? true;
       settle(about);
@@ -70,13 +62,12 @@ class App {
       tellFault(t.about(what, fault.message), about);
       return null;
     } finally {
-      part("main").inert = false;
-      part("main").removeAttribute("aria-busy");
+      main.inert = false;
+      main.removeAttribute("aria-busy");
     }
   }
 
-  /** Something was done: tells it, and how it is undone; and shows what is there then; `moved` where what was shown is
-   * elsewhere now, and no way leads Back to where it was. */
+  /** Tells what was done, and shows what is there then; `moved` where what was shown is elsewhere now. */
   async done(words, moved = null, undo = null) {
     const here = placeOf(location.hash);
     const undoIt = undo && (() => this.attempt(t.undo, undo));
@@ -125,10 +116,10 @@ class App {
       this.room = await this.openRoom(place.room);
       return await (VIEWS.get(place.view) ?? showContents)(this, place);
     } catch (fault) {
-      const rooms = this.rooms.map((room) => make("li", {}, link(addressOf({ room, path: ROOT }), room)));
-      const isKnown = this.rooms.includes(place.room);
-      const more = isKnown ? [] : [make("p", {}, t.rooms), make("ul", {}, ...rooms)];
-      return [...head(place), faultLine(fault.message), ...more];
+      const told = [...head(place), faultLine(fault.message)];
+      if (this.rooms.includes(place.room)) return told;
+      const rooms = this.rooms.map((room) => make("li", link(addressOf({ room, path: ROOT }), room)));
+      return [...told, make("p", t.rooms), make("ul", rooms)];
     }
   }
 
@@ -158,41 +149,38 @@ class App {
   }
 }
 
-/** Of what a step at that path was a part, in words. The path of a large file's part tells the file. */
+/** Of what a step at that path was a part, in words: the path of a large file's part tells the file. */
 function leftAt(path) {
   const names = namesOf(path);
   const part = names.findIndex(isPart);
   return t.leftAt(shown(pathOf(part < 0 ? names : names.slice(0, part))));
 }
 
-const mayLose = () => ask({ title: t.leave, words: make("p", {}, t.unsaved), does: t.discard, stays: t.typeOn,
+const mayLose = () => ask({ title: t.leave, words: make("p", t.unsaved), does: t.discard, stays: t.typeOn,
   first: t.typeOn });
 
-function fail(words) {
-  part("main").replaceChildren(faultLine(words));
-}
+const fail = (words) => part("main").replaceChildren(faultLine(words));
 
 async function leaveAll() {
   if (isUnsaved() && !await mayLose()) return;
   end();
   const isOut = await logOut();
-  document.body.replaceChildren(make("main", {}, make("h1", {}, isOut ? t.loggedOut : t.notLoggedOut),
-    make("p", {}, isOut ? t.forgotten : t.notForgotten),
-    make("p", {}, button(t.logIn, () => location.reload()))));
+  document.body.replaceChildren(make("main", make("h1", isOut ? t.loggedOut : t.notLoggedOut),
+    make("p", isOut ? t.forgotten : t.notForgotten),
+    make("p", button(t.logIn, () => location.reload()))));
 }
 
-/** What is at the right above: who one is, help, another language, the end. */
 function userMenu(user) {
   part("user").textContent = user;
   part("user").setAttribute("aria-label", t.you(user));
-  const others = Object.entries(LANGUAGES).filter(([it]) => it !== language);
   const speak = (it) => {
     choose(it);
     location.reload();
   };
-  part("user").onclick = () => openMenu(part("user"), [{ words: t.help, does: showHelp },
-    ...others.map(([it, words]) => ({ words, does: () => speak(it) })),
-    { words: t.logOut, does: leaveAll, isApart: true }], { label: t.you(user) });
+  const others = Object.entries(LANGUAGES).filter(([it]) => it !== language)
+    .map(([it, words]) => ({ words, does: () => speak(it) }));
+  part("user").onclick = () => openMenu(part("user"), [{ words: t.help, does: showHelp }, ...others,
+    { words: t.logOut, does: leaveAll, isApart: true }], t.you(user));
 }
 
 async function start() {
@@ -200,20 +188,15 @@ async function start() {
   part("skip").onclick = () => (part("main").querySelector(".things [tabindex='0'], .things a") ??
     part("main").querySelector("h1 button, h1"))?.focus();
   if (!navigator.locks) return fail(t.insecure);
-  const login = await Login.ask();
+  const user = await userNow();
   const rooms = JSON.parse(await fileOfFront("/rooms.json") ?? "[]");
-  if (!login.user || rooms.length === 0) return fail(t.noRooms);
+  if (!user || rooms.length === 0) return fail(t.noRooms);
   await learnNames();
-  const app = new App(login, rooms);
-  userMenu(login.user);
-  part("search").onsubmit = (event) => {
-    event.preventDefault();
-    searchFor(app, part("search").querySelector("input").value);
-  };
+  const app = new App(user, rooms);
+  userMenu(user);
+  part("search").onsubmit = onSubmit(() => searchFor(app, part("search").querySelector("input").value));
   part("rooms").replaceChildren(...rooms.map((value) => make("option", { value }, value)));
-  part("rooms").onchange = () => {
-    location.hash = addressOf({ room: part("rooms").value, path: ROOT });
-  };
+  part("rooms").onchange = () => { location.hash = addressOf({ room: part("rooms").value, path: ROOT }); };
   watch(() => part("main").querySelector(".typed")?.isUnsaved());
   addEventListener("hashchange", () => app.come());
   lookAgain(app);

@@ -1,27 +1,21 @@
 /** The form of large files: the manifest, and the names of what lies in their folder (docs/FILES.md). */
-import { fromText, toText } from "./bytes.js";
+import { fromText, hexOf, randomHex, toText } from "./bytes.js";
 import { t } from "./words.js";
 
-const PART = ".room-";
-export const NAME = `${PART}file`;
-export const WRITING = `${PART}writing-`;
-export const PIECES = `${PART}pieces-`;
-export const GONE = `${PART}gone-`;
-const NEW = `${PART}new-`;
+export const NAME = ".room-file";
+export const [WRITING, PIECES, GONE] = [".room-writing-", ".room-pieces-", ".room-gone-"];
+const NEW = ".room-new-";
 export const PIECE = 65_536; // bytes of each piece but the last
-export const MOST = 2 ** 24; // bytes of a file
-
-/** Why so many bytes are too many for a file, or nothing. */
-export function sizeFault(bytes) {
-  const size = Math.ceil(bytes / 2 ** 20 * 10) / 10;
-  return bytes > MOST ? t.tooLarge(size, MOST / 2 ** 20) : "";
-}
+const MOST = 2 ** 24; // bytes of a file
 const MOST_PIECES = 256;
 export const DEEPEST = 14; // names of the path of a large file
 
-const hex = (bytes) => [...bytes].map((it) => it.toString(16).padStart(2, "0")).join("");
-export const sumOf = async (bytes) => hex(new Uint8Array(await crypto.subtle.digest("SHA-256", bytes)));
-export const otherName = (kind) => kind + hex(crypto.getRandomValues(new Uint8Array(8)));
+/** Why so many bytes are too many for a file, or nothing. */
+export const sizeFault = (bytes) =>
+  (bytes > MOST ? t.tooLarge(Math.ceil(bytes / 2 ** 20 * 10) / 10, MOST / 2 ** 20) : "");
+
+export const sumOf = async (bytes) => hexOf(new Uint8Array(await crypto.subtle.digest("SHA-256", bytes)));
+export const otherName = (kind) => kind + randomHex(8);
 
 /** Of an upload that was stopped, or is under way. */
 export const isLeft = (name) => name.startsWith(WRITING) || name.startsWith(GONE);
@@ -29,7 +23,6 @@ export const isLeft = (name) => name.startsWith(WRITING) || name.startsWith(GONE
 /** What is of a large file or its writing, and nobody's name for anything. */
 export const isPart = (name) => /^\.room-(file|(writing|pieces|gone|new)-[0-9a-f]{16})$/.test(name);
 
-/** The manifest of a new version of these bytes. */
 export async function manifestOf(bytes) {
   const count = Math.max(Math.ceil(bytes.length / PIECE), 1);
   const pieces = Array.from({ length: count }, (_, at) => String(at).padStart(3, "0"));
@@ -72,13 +65,12 @@ const areParts = (names) => names.every(([name, kind]) => kind === "folder" && P
 /** Whether a folder with these names, `[NAME, KIND]`, is a file whose first version was never whole. */
 export const isUnfinished = (names) => names.length > 0 && areParts(names);
 
-/** Whether a folder with these names is a large file and nothing besides. Anyone who may add to a folder may put a
- * manifest into it, or other things beside one: what lies there is neither hidden by it nor removed with it. */
+/** Whether a folder with these names is a large file and nothing besides: anyone who may add to a folder may put a
+ * manifest into it, and what lies beside that is neither hidden by it nor removed with it. */
 export const isLarge = (names) => names.some(([name, kind]) => name === NAME && kind !== "folder") &&
   areParts(names.filter(([name]) => name !== NAME));
 
-/** Where a document lies and what takes its place, until the one is gone and the other has its name: whoever writes
- * that name next finds both. */
+/** Where a replaced document lies, and what takes its place, till that has its name: the next writer finds both. */
 export async function beside(name) {
   const mark = (await sumOf(fromText(name))).slice(0, 16);
   return { gone: GONE + mark, its: NEW + mark };

@@ -2,9 +2,8 @@
 import { button, faultLine, labelled, make, nameText } from "./dom.js";
 import { head } from "./heads.js";
 import { deciding, ruling, whomOf } from "./lists.js";
-import { byName, inOrder, shown } from "./names.js";
-import { inFolder, lastName, ROOT } from "./places.js";
-import { displayName, personText } from "./people.js";
+import { byName, displayName, inOrder, personText, shown } from "./names.js";
+import { ROOT, inFolder, lastName } from "./places.js";
 import { Questions } from "./questions.js";
 import { ALL, FOLDER, LEGEND, NOT_KNOWN, SEVERAL, SHUT_OUT, askedOf, levelOf, rightsIn } from "./rights.js";
 import { forEach } from "./room.js";
@@ -18,16 +17,10 @@ const MOST_TOLD = 10; // names of a group's members in a sentence
 const MOST_OBJECTS = 40; // rows shown at first, and added each time: some requests each
 
 async function levelAt(questions, { path, kind }, user, groups) {
-  const [allowed, barrier] = await Promise.all([questions.mayDo({ path, kind }, user, groups),
-    questions.barrier(path, user, groups)]);
-  const level = barrier.folder ? SHUT_OUT : allowed === null ? NOT_KNOWN : levelOf(allowed, kind);
-  return { allowed, barrier, level };
-}
-
-async function cellOf(questions, object, user, groups) {
-  const its = await levelAt(questions, object, user, groups);
-  const why = its.allowed === null ? "" : await whyWords(questions, object, user, groups);
-  return { ...object, user, ...its, why };
+  const [allowed, { folders: [barrier], isKnown }] = await Promise.all([questions.mayDo({ path, kind }, user, groups),
+    questions.barriers(path, user, groups)]);
+  const level = barrier ? SHUT_OUT : allowed === null ? NOT_KNOWN : levelOf(allowed, kind);
+  return { allowed, barrier, isPassKnown: isKnown || Boolean(barrier), level };
 }
 
 /** Which entries of the object's list decide, in words, where they may be seen and come to what the room says. */
@@ -36,72 +29,63 @@ async function whyWords(questions, { path, kind }, user, groups) {
   const how = { rights: askedOf(ALL, kind), allowed: await questions.allowed(path, user, groups) };
   const places = object && groups && deciding(object, user, groups, how);
   if (!places) return "";
-  const entries = places.map((at) => `${at + 1}. ${ruling(object.entries[at], kind, object)}`);
-  const always = user === object.owner ? t.ownersAlways : "";
-  return (entries.length ? t.whyEntries(entries) : t.noEntry(user)) + always;
+  const entries = places.map((at) => `${at + 1}. ${ruling(object.entries[at], kind, object)}`).join(" ");
+  return (entries ? t.whyEntries(entries) : t.noEntry(user)) + (user === object.owner ? t.ownersAlways : "");
 }
 
-function told({ path: itsPath, kind, user, allowed, barrier, why }) {
-  const path = shown(itsPath);
-  if (allowed === null && !barrier.folder) return t.mayUnknown(user, path, NOT_KNOWN.tells);
-  const rights = t.joined(rightsIn(askedOf(allowed, kind), kind)) || t.doNothingWith;
-  const may = allowed === null ? "" : t.mayDo(path, user, rights, why);
-  if (barrier.folder) return t.barred(user, shown(barrier.folder), path, may);
-  return barrier.isKnown ? may : t.barUnknown(may, user);
+function told({ path, kind }, user, { allowed, barrier, isPassKnown }, why) {
+  const name = shown(path);
+  if (allowed === null && !barrier) return t.mayUnknown(user, name, NOT_KNOWN.tells);
+  const rights = allowed === null ? [] : rightsIn(askedOf(allowed, kind), kind);
+  const may = allowed === null ? "" : t.mayDo(name, user, rights.length ? rights : t.doNothingWith, why);
+  if (barrier) return t.barred(user, shown(barrier), name, may);
+  return isPassKnown ? may : t.barUnknown(may, user);
 }
 
-function cellElement(cell, detail) {
-  const isSure = cell.barrier.isKnown || cell.level === NOT_KNOWN;
-  const it = button(cell.level.word + (isSure ? "" : "?"), () => {
-    detail.textContent = told(cell);
-  }, { title: told(cell) });
-  return make("td", { className: `level ${cell.level.name}` }, it);
-}
+/** A cell of a level; pressed, it tells more. */
+const cell = (level, word, title, detail, words) => make(`td.level.${level.name}`,
+  button(word, () => { detail.textContent = words; }, { title }));
 
-function legend() {
-  const rows = LEGEND.map((it) => make("div", {}, make("dt", { className: `level ${it.name}` }, it.word),
-    make("dd", {}, it.tells)));
-  return make("dl", { className: "legend", "aria-label": t.legend }, ...rows);
+async function userCell(questions, object, [user, groups], detail) {
+  const its = await levelAt(questions, object, user, groups);
+  const why = its.allowed === null ? "" : await whyWords(questions, object, user, groups);
+  const words = told(object, user, its, why);
+  const isSure = its.isPassKnown || its.level === NOT_KNOWN;
+  return cell(its.level, its.level.word + (isSure ? "" : "?"), words, detail, words);
 }
 
 /** What the members of a group may do: the level that all have, or several, told when it is pressed. */
 async function groupCell(questions, object, { users }, detail) {
-  const levels = new Map();
-  await Promise.all(users.map(async ([user, groups]) => {
-    const { level } = await levelAt(questions, object, user, groups);
-    levels.set(level.word, { level, users: [...levels.get(level.word)?.users ?? [], user] });
-  }));
-  const found = [...levels.values()].sort((a, b) => b.users.length - a.users.length);
-  const both = found.slice(0, 2).map((it) => it.level.word).join(" / ") + (found.length > 2 ? " …" : "");
-  const level = found.length === 1 ? found[0].level : { ...SEVERAL, word: both };
-  const words = found.map((it) => t.haveLevel(it.level.word, it.users.length, it.users.slice(0, MOST_TOLD).join(", ")));
-  const show = () => {
-    detail.textContent = t.about(shown(object.path), words.join(" "));
-  };
-  return make("td", { className: `level ${level.name}` }, button(level.word, show, { title: words.join(" ") }));
+  const all = await Promise.all(users.map(async ([user, groups]) =>
+    ({ user, level: (await levelAt(questions, object, user, groups)).level })));
+  const found = [...Map.groupBy(all, ({ level }) => level.word).values()].sort((a, b) => b.length - a.length);
+  const both = found.slice(0, 2).map(([it]) => it.level.word).join(" / ") + (found.length > 2 ? " …" : "");
+  const words = found.map((its) => t.haveLevel(its[0].level.word, its.length,
+    its.slice(0, MOST_TOLD).map(({ user }) => user).join(", ") + (its.length > MOST_TOLD ? ", …" : ""))).join(" ");
+  const level = found.length === 1 ? found[0][0].level : SEVERAL;
+  return cell(level, both, words, detail, t.about(shown(object.path), words));
 }
 
 async function rowOf(questions, object, columns, detail) {
-  const [path, kind] = [object.path, await questions.kindOf(object)];
-  const cells = await Promise.all(columns.map(async (it) => (it.isGroup ?
-    groupCell(questions, { path, kind }, it, detail) :
-    cellElement(await cellOf(questions, { path, kind }, ...it.users[0]), detail))));
-  const end = kind === FOLDER && path !== ROOT ? "/" : "";
-  return make("tr", {}, make("th", { scope: "row" }, nameText(lastName(path)), end), ...cells);
+  const its = { path: object.path, kind: await questions.kindOf(object) };
+  const cells = await Promise.all(columns.map((it) => (it.isGroup ? groupCell(questions, its, it, detail) :
+    userCell(questions, its, it.users[0], detail))));
+  const end = its.kind === FOLDER && its.path !== ROOT && "/";
+  return make("tr", make("th", { scope: "row" }, nameText(lastName(its.path)), end), cells);
 }
 
 async function table(questions, objects, columns, { detail, open }) {
-  const titles = columns.map((it) => (it.isGroup ? make("th", { scope: "col" }, button([nameText(it.title),
-    ` (${it.users.length})`], () => open(it), { "aria-expanded": String(it.isOpen) })) :
-    make("th", { scope: "col", title: displayName(it.title) }, nameText(it.title))));
-  const rows = [];
-  await forEach([...objects.entries()], async ([at, it]) => {
-    rows[at] = await rowOf(questions, it, columns, detail);
-  });
-  return make("div", { className: "wide", tabIndex: 0, role: "region", "aria-label": t.matrixLabel },
-    make("table", { className: "matrix" }, make("thead", {}, make("tr", {}, make("th", { scope: "col" }, t.object),
-      ...titles)), make("tbody", {}, ...rows)));
+  const titles = columns.map((it) => make("th", { scope: "col", title: it.isGroup ? "" : displayName(it.title) },
+    it.isGroup ? button([nameText(it.title), ` (${it.users.length})`], () => open(it),
+      { "aria-expanded": String(it.isOpen) }) : nameText(it.title)));
+  const rows = new Map(objects.map((it) => [it, null]));
+  await forEach(objects, async (it) => rows.set(it, await rowOf(questions, it, columns, detail)));
+  return make("div.wide", { tabIndex: 0, role: "region", "aria-label": t.matrixLabel }, make("table.matrix",
+    make("thead", make("tr", make("th", { scope: "col" }, t.object), titles)), make("tbody", [...rows.values()])));
 }
+
+const legend = () => make("dl.legend", { "aria-label": t.legend }, LEGEND.map((it) =>
+  make("div", make(`dt.level.${it.name}`, it.word), make("dd", it.tells))));
 
 /** The roster's users with their groups; without it those that are seen, whose groups are not known. */
 async function usersOf(app, questions, objects) {
@@ -120,11 +104,10 @@ async function objectsOf(app, path) {
   const { kind } = await app.room.standing(path);
   const inside = kind === FOLDER ? await app.room.runIfAllowed("LIST", path) : null;
   const names = inside && kindBy(inside.names) === FOLDER ? inside.names : []; // (of a large file it has one row)
-  const children = [...names].sort(byName).map(([name, itsKind]) => ({ path: inFolder(path, name), kind: itsKind }));
+  const children = [...names].sort(byName).map(([name, its]) => ({ path: inFolder(path, name), kind: its }));
   return [{ path, kind }, ...children];
 }
 
-/** Users by their groups, those of none last. */
 function groupsOf(users) {
   const all = users.flatMap((it) => (it[1]?.length ? it[1] : [""]).map((group) => ({ group, it })));
   const columns = [...Map.groupBy(all, ({ group }) => group)].map(([group, its]) =>
@@ -132,25 +115,23 @@ function groupsOf(users) {
   return columns.sort((a, b) => a.isLast - b.isLast || inOrder(a.title, b.title));
 }
 
-/** The table with as many rows as were asked for: a column for each user, or where they are many, for each group, which
- * opens to its members; and those whose name has a word. */
+/** The table: a column for each user, or where they are many, for each group, which opens to its members. */
 class MatrixView {
   constructor(app, questions, objects, users) {
     Object.assign(this, { app, questions, objects, users, count: MOST_OBJECTS, word: "", opened: new Set() });
     this.groups = users.length > MOST_USERS ? groupsOf(users) : [];
-    this.detail = make("p", { className: "detail", role: "status" }, t.chooseCell);
-    this.element = make("div", {});
+    this.detail = make("p.detail", { role: "status" }, t.chooseCell);
+    this.element = make("div");
   }
 
-  /** The columns, and how many there would be without a limit. */
   columns() {
     const has = (name) => name.toLowerCase().includes(this.word.toLowerCase());
     const members = (users) => users.slice(0, MOST_USERS).map((it) => ({ title: it[0], users: [it] }));
     if (this.groups.length === 0) return members(this.users);
     const users = this.word ? this.users.filter(([user]) => has(personText(user))) : [];
     const groups = this.groups.filter(({ title }) => has(title)).slice(0, MOST_GROUPS);
-    this.told = this.word ? t.narrow(users.length, groups.length, Math.min(users.length, MOST_USERS)) :
-      t.narrow(this.users.length, this.groups.length, null);
+    this.told = this.word ? t.narrow(t.shownOf(Math.min(users.length, MOST_USERS)), users.length, groups.length) :
+      t.narrow("", this.users.length, this.groups.length);
     return [...groups.flatMap((it) => {
       const isOpen = this.opened.has(it.title);
       return [{ ...it, isOpen }, ...isOpen ? members(it.users) : []];
@@ -160,12 +141,10 @@ class MatrixView {
   async draw() {
     const columns = this.columns();
     const open = ({ title }) => this.change(() => this.opened.delete(title) || this.opened.add(title));
-    const shown = await table(this.questions, this.objects.slice(0, this.count), columns,
-      { detail: this.detail, open });
-    this.element.replaceChildren(...this.narrow(), shown, ...this.more());
+    const its = await table(this.questions, this.objects.slice(0, this.count), columns, { detail: this.detail, open });
+    this.element.replaceChildren(...this.narrow(), its, ...this.more());
   }
 
-  /** Shows it anew, and stays where the user is. */
   change(task) {
     const back = standing();
     return this.app.attempt(t.whoMay, async () => {
@@ -176,18 +155,14 @@ class MatrixView {
 
   more() {
     const left = this.objects.length - this.count;
-    const show = () => this.change(() => {
-      this.count += MOST_OBJECTS;
-    });
+    const show = () => this.change(() => { this.count += MOST_OBJECTS; });
     return left > 0 ? [button(t.showMore(left), show)] : [];
   }
 
   narrow() {
     if (this.groups.length === 0) return [];
     const field = make("input", { type: "search", value: this.word });
-    field.onchange = () => this.change(() => {
-      this.word = field.value.trim();
-    });
+    field.onchange = () => this.change(() => { this.word = field.value.trim(); });
     return [labelled(this.told, field)];
   }
 }

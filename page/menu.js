@@ -1,6 +1,6 @@
 /** A menu below what opens it, or where the mouse is; on a narrow screen a sheet from below. */
-import { link, make } from "./dom.js";
-import { pickFiles } from "./pick.js";
+import { link, make, pickFiles } from "./dom.js";
+import { tellIt } from "./notices.js";
 
 const EDGE = 8; // pixels that stay free beside it
 let open = null;
@@ -24,13 +24,12 @@ function itemElements(it, close) {
 }
 
 class Menu {
-  constructor(anchor, items, { label, at }) {
+  constructor(anchor, items, label, at) {
     Object.assign(this, { anchor, at });
-    const close = () => this.close();
-    const elements = items.flatMap((it) => itemElements(it, close));
+    const elements = items.flatMap((it) => itemElements(it, () => this.close()));
     this.items = elements.filter((it) => it.role === "menuitem");
-    this.element = make("div", { className: "menu", role: "menu", popover: "auto", "aria-label": label },
-      make("p", { className: "menu-title", "aria-hidden": "true" }, label), ...elements);
+    this.element = make("div.menu", { role: "menu", popover: "auto", "aria-label": label },
+      make("p.menu-title", { "aria-hidden": "true" }, label), elements);
     this.element.onkeydown = (event) => this.key(event);
     this.element.ontoggle = (event) => event.newState === "closed" && this.closed();
   }
@@ -45,7 +44,6 @@ class Menu {
     this.items[0]?.focus();
   }
 
-  /** Below its anchor, where there is room. */
   place() {
     const [box, its] = [this.anchor.getBoundingClientRect(), this.element.getBoundingClientRect()];
     const { x, y } = this.at ?? { x: box.left, y: box.bottom };
@@ -74,32 +72,31 @@ class Menu {
     const at = this.items.indexOf(document.activeElement);
     const last = this.items.length - 1;
     const goals = { ArrowDown: at === last ? 0 : at + 1, ArrowUp: at <= 0 ? last : at - 1, Home: 0, End: last };
-    const letter = event.key.length === 1 && event.key !== " " ? event.key.toLowerCase() : null;
+    const letter = event.key.length === 1 && event.key !== " " && event.key.toLowerCase();
     const named = [...this.items.keys()].sort((a, b) => (a <= at) - (b <= at) || a - b)
-      .find((it) => this.items[it].textContent.toLowerCase().startsWith(letter));
-    const goal = goals[event.key] ?? (letter && named);
-    if (event.key === "Tab" || event.key === "Escape") this.close();
-    if (goal === undefined || goal === null) {
-      if (event.key === "Escape") event.preventDefault();
-      return;
-    }
-    event.preventDefault();
+      .find((it) => letter && this.items[it].textContent.toLowerCase().startsWith(letter));
+    const goal = goals[event.key] ?? named;
+    if (["Tab", "Escape"].includes(event.key)) this.close();
+    if (event.key === "Escape" || goal !== undefined) event.preventDefault();
+    if (goal === undefined) return;
     event.stopPropagation();
     this.items[goal].focus();
   }
 }
 
 /** Opens a menu of `items`, `{words, does}`, `{words, href}` or `{words, files, chosen}`. */
-export const openMenu = (anchor, items, how) => new Menu(anchor, items, how).show();
+export const openMenu = (anchor, items, label, at) => new Menu(anchor, items, label, at).show();
+
+export const pointOf = (event) => ({ x: event.clientX, y: event.clientY });
 
 /** A button that opens a menu; `itemsOf` may ask the room for what is in it. */
-export function menuButton(words, how, itemsOf, { label, fails = () => {} }) {
-  const its = make("button", { type: "button", "aria-haspopup": "menu", "aria-expanded": "false", ...how }, ...words);
+export function menuButton(words, how, itemsOf, label) {
+  const its = make("button", { type: "button", "aria-haspopup": "menu", "aria-expanded": "false", ...how }, words);
   its.onclick = async () => {
     try {
-      openMenu(its, await itemsOf(), { label });
+      openMenu(its, await itemsOf(), label);
     } catch (fault) {
-      fails(fault);
+      tellIt(fault);
     }
   };
   return its;

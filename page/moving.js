@@ -1,48 +1,74 @@
-/** Files and folders go elsewhere as wholes: moved, or copied. */
-import { ACCESS, NOENT, isRefused } from "./codes.js";
+/** Files and folders go elsewhere as wholes: moved, copied, removed to the trash or for good, and put back. */
+import { GaveUp } from "./busy.js";
+import { removeAll } from "./clearing.js";
+import { ACCESS, EXIST, NOENT, NOTDIR, isRefused } from "./codes.js";
 import { ask, nameInput } from "./dialogs.js";
-import { make } from "./dom.js";
-import { movedTo, named, shortNamed, withEach } from "./many.js";
+import { checkbox, faultLine, make } from "./dom.js";
+import { NOBODY } from "./files.js";
 import { clean, shown } from "./names.js";
-import { folderOf, inFolder, isWithin, lastName, nameFault } from "./places.js";
-import { ADD_FILE, ADD_FOLDER, FILE } from "./rights.js";
+import { tellFaults } from "./notices.js";
+import { ROOT, folderOf, inFolder, isWithin, lastName, nameFault } from "./places.js";
+import { ADD_FILE, ADD_FOLDER, FILE, FOLDER } from "./rights.js";
+import { forEach } from "./room.js";
 import { transferring } from "./transfers.js";
-import { nameAt } from "./trash.js";
+import { calledAt, isInTrash, nameAt, toTrash, toldBy, trashOf } from "./trash.js";
 import { FolderTree, keepRecent } from "./tree.js";
-import { copy } from "./trees.js";
+import { below, copy } from "./trees.js";
+import { freePath } from "./uploads.js";
 import { t } from "./words.js";
 
-/** Asks for a folder, and of a single thing for its name there; `task` gets the folder, and the path of each. What it
- * gives is these paths, or null. */
-export async function askWhere(app, paths, { words, does, way = make("p", {}, words), start = folderOf(paths[0]),
+const named = (paths) => (paths.length === 1 ? calledAt(paths[0]) : t.allThings(paths.length));
+const shortNamed = (paths) => (paths.length === 1 ? shown(nameAt(paths[0])) : t.allThings(paths.length));
+
+/** Does the task for each, and tells in one line what failed. What is returned are those with which it went well. */
+async function withEach(does, paths, task) {
+  const [done, faults] = [[], []];
+  await forEach(paths, async (path) => {
+    try {
+      await task(path);
+      done.push(path);
+    } catch (fault) {
+      if (fault instanceof GaveUp || paths.length === 1) throw fault;
+      faults.push({ about: `${does} ${path}`, words: t.about(shown(lastName(path)), fault.message) });
+    }
+  }, 3);
+  tellFaults(t.about(does, t.failedOf(faults.length, paths.length)), faults);
+  return done;
+}
+
+/** Asks for a folder, and of a single thing for its name there; gives the paths there, or null. `task` gets them. */
+async function askWhere(app, paths, { words, does, there, way = make("p", words), start = folderOf(paths[0]),
   called = nameAt(paths[0]) }, task) {
   const [tree, name] = [new FolderTree(app, paths, start), nameInput(called)];
   const isOne = paths.length === 1;
   const goals = () => paths.map((it) => inFolder(tree.value, isOne ? clean(name.value) : lastName(it)));
   const faultOf = () => (isOne ? nameFault(clean(name.value)) : "") || (goals().includes(paths[0]) ? t.isHere : "");
-  const isDone = await ask({ title: t.doTo(does, shortNamed(paths)), does: t.doThere(does), words: [way, tree.element],
-    fields: isOne ? { name: { label: t.nameThere, field: name } } : {}, faultOf, task: () => task(goals()) });
+  const isDone = await ask({ title: t.doTo(does, shortNamed(paths)), does: there, words: [way, tree.element],
+    fields: isOne ? [[t.nameThere, name]] : [], faultOf, task: () => task(goals()) });
   if (isDone) keepRecent(app, tree.value);
   return isDone && goals();
 }
+
+const wayBack = (app, places) => async () => {
+  const paths = [...places.keys()];
+  await withEach(t.undo, paths, (it) => app.room.aside("RENAME", places.get(it), { to: it }));
+  await app.done(t.undone(named(paths), paths.length));
+};
 
 /** Moves each to its goal; what went well can be undone from the words that tell it. */
 async function moveTo(app, paths, goals) {
   const to = new Map(paths.map((it, at) => [it, goals[at]]));
   const done = await withEach(t.move, paths, (it) => app.room.aside("RENAME", it, { to: to.get(it) }));
-  const undo = async () => {
-    await withEach(t.undo, done, (it) => app.room.aside("RENAME", to.get(it), { to: it }));
-    await app.done(t.undone(named(done), done.length));
-  };
   const where = done.length === 1 ? to.get(done[0]) : folderOf(goals[0]);
-  return { done, tell: () => app.done(t.isNow(named(done), shown(where), done.length), movedTo(done, where), undo) };
+  const moved = done.length === 1 ? { from: done[0], to: where } : null;
+  const undo = wayBack(app, new Map(done.map((it) => [it, to.get(it)])));
+  return { done, tell: () => app.done(t.isNow(named(done), shown(where), done.length), moved, undo) };
 }
 
 export async function move(app, paths) {
   let moved = null;
-  const goals = await askWhere(app, paths, { words: t.moveWords, does: t.move }, async (to) => {
-    moved = await moveTo(app, paths, to);
-  });
+  const goals = await askWhere(app, paths, { words: t.moveWords, does: t.move, there: t.there.move },
+    async (to) => { moved = await moveTo(app, paths, to); });
   if (goals && moved.done.length) await moved.tell();
   else if (goals) await app.done("");
 }
@@ -53,22 +79,19 @@ export async function moveInto(app, paths, folder) {
   if (moved?.done.length) await moved.tell();
 }
 
-/** Throws what the room would say, where something of that kind may not be made in the folder. */
-async function needRight(room, kind, path) {
-  const bit = kind === FILE ? ADD_FILE : ADD_FOLDER;
-  if (!(await room.aside("ACCESS", path, { mask: bit })).allowed) throw await room.refusal({ code: ACCESS, bit, path });
-}
-
+/** Throws what the room would say, where it may not be made at that path. */
 async function needPlace(room, path, to) {
   if (isWithin(to, path)) throw new Error(t.intoItself);
-  await needRight(room, (await room.standing(path)).kind, folderOf(to));
+  const [bit, above] = [(await room.standing(path)).kind === FILE ? ADD_FILE : ADD_FOLDER, folderOf(to)];
+  const { allowed } = await room.aside("ACCESS", above, { mask: bit });
+  if (!allowed) throw await room.refusal({ code: ACCESS, bit, path: above });
   const isThere = await room.aside("STAT", to).then(() => true, (fault) => !isRefused(fault, NOENT));
   if (isThere) throw new Error(t.nameTaken);
 }
 
 export async function copyTo(app, paths) {
   const { room } = app;
-  const goals = await askWhere(app, paths, { words: t.copyWords, does: t.copy }, async (to) => {
+  const goals = await askWhere(app, paths, { words: t.copyWords, does: t.copy, there: t.there.copy }, async (to) => {
     for (const [at, it] of paths.entries()) await needPlace(room, it, to[at]);
   });
   if (!goals) return;
@@ -78,4 +101,93 @@ export async function copyTo(app, paths) {
     const where = paths.length === 1 ? goals[0] : folderOf(goals[0]);
     return t.isCopied(named(paths), shown(where), paths.length);
   });
+}
+
+async function contentsWords(app, paths) {
+  const all = await Promise.all(paths.map(async (path) =>
+    (await below(app.room, path, NOBODY)).filter((it) => it.path !== path)));
+  const found = all.flat();
+  if (found.length === 0) return [];
+  const folders = found.filter((it) => it.kind === FOLDER).length;
+  const [files, shut] = [found.length - folders, found.filter((it) => it.isShut).length];
+  const counts = [...files ? [t.documents(files)] : [], ...folders ? [t.folders(folders)] : []];
+  return faultLine(t.goesWith(counts, found.length), shut > 0 && t.shutOf(shut));
+}
+
+async function trashWords(app, path) {
+  if (isInTrash(path)) return { words: t.forGood };
+  const { path: trash, fault } = await trashOf(app);
+  return trash ? { trash, words: t.goesToTrash(trash) } : { words: `${t.forGood} ${fault ?? t.noTrash}` };
+}
+
+export async function remove(app, paths) {
+  const asked = await app.attempt(t.doTo(t.remove, named(paths)), () =>
+    Promise.all([trashWords(app, paths[0]), contentsWords(app, paths)]));
+  if (!asked) return;
+  const [{ trash, words }, what] = asked;
+  let [isForGood, gone] = [!trash, paths];
+  const places = new Map(); // in the trash
+  const task = async () => {
+    if (isForGood) gone = await withEach(t.remove, paths, (it) => removeAll(app.room, it));
+    else gone = await withEach(t.remove, paths, async (it) => places.set(it, await toTrash(app.room, it, trash)));
+  };
+  const done = await ask({ title: t.doTo(t.remove, shortNamed(paths)), does: t.remove, first: t.remove, task,
+    isFinal: isForGood,
+    words: [make("p", words), trash && checkbox(t.notToTrash, false, (it) => { isForGood = it; }), what] });
+  if (!done) return;
+  const moved = paths.length === 1 ? { from: paths[0], to: folderOf(paths[0]) } : null;
+  await app.done((isForGood ? t.isRemoved : t.isInTrash)(named(gone), gone.length), moved,
+    isForGood ? null : wayBack(app, places));
+}
+
+export async function emptyTrash(app, path) {
+  const what = await app.attempt(t.emptyTrash, () => contentsWords(app, [path]));
+  if (!what) return;
+  let isEmpty = false;
+  const task = async () => {
+    const paths = (await app.room.aside("LIST", path)).names.map(([name]) => inFolder(path, name));
+    isEmpty = (await withEach(t.emptyTrash, paths, (it) => removeAll(app.room, it))).length === paths.length;
+  };
+  const isDone = await ask({ title: t.emptyTrash, does: t.removeAll, isFinal: true, task,
+    words: [make("p", t.forGood), what] });
+  if (isDone) await app.done(isEmpty ? t.trashEmpty : "");
+}
+
+/** Why it cannot go back to that place, or nothing once it is there. */
+async function whyNotBack(room, path, place) {
+  if (!place) return t.noPlace;
+  try {
+    await room.run("RENAME", path, { to: place });
+    return "";
+  } catch (fault) {
+    if (isRefused(fault, EXIST)) return t.placeTaken(shown(place));
+    if (isRefused(fault, NOENT, NOTDIR)) return t.placeGone(shown(folderOf(place)));
+    throw fault;
+  }
+}
+
+/** Out of the trash, to where it was, or where the user says if it cannot go there. */
+export async function putBack(app, path) {
+  const { place } = toldBy(path);
+  const why = await app.attempt(t.doTo(t.putBack, calledAt(path)), () => whyNotBack(app.room, path, place));
+  if (why === null) return;
+  let to = place;
+  if (why) {
+    const above = folderOf(place ?? ROOT);
+    const start = await app.room.asideIfAllowed("LIST", above) ? above : ROOT;
+    const how = { way: faultLine(why), does: t.put, there: t.there.put, start,
+      called: lastName(await freePath(app.room, inFolder(start, nameAt(path)))) };
+    [to] = await askWhere(app, [path], how, ([it]) => app.room.run("RENAME", path, { to: it })) || [];
+  }
+  if (to) await app.done(t.isBack(shown(to)), { from: path, to });
+}
+
+/** Each to where it was; those that cannot go there are told, and stay. */
+export async function putAllBack(app, paths) {
+  if (paths.length === 1) return putBack(app, paths[0]);
+  const done = await app.attempt(t.putBack, () => withEach(t.putBack, paths, async (path) => {
+    const why = await whyNotBack(app.room, path, toldBy(path)?.place);
+    if (why) throw new Error(why);
+  }));
+  if (done?.length) await app.done(t.isBack(named(done), done.length));
 }

@@ -1,4 +1,5 @@
-/** Names as they are shown, and as they are sent. */
+/** Names as they are shown, and as they are sent; users' names as people write them. */
+import { fileOfFront } from "./wire.js";
 import { language, t } from "./words.js";
 
 /** In turn: a pictograph with what belongs to it; what nobody would see or what turns the text around it; the rest. */
@@ -7,12 +8,10 @@ const PARTS = new RegExp(
   "(?:\\u200d\\p{Extended_Pictographic}(?:\\ufe0f|\\p{Emoji_Modifier})?)*)" +
   "|([\\p{C}\\p{Zl}\\p{Zp}\\p{Default_Ignorable_Code_Point}\\u2800]|(?! )\\p{Zs}|^ | (?= *$)|(?<= ) )|[^]", "gu");
 
-
 const markOf = (letter) =>
   letter === " " ? `⟨${t.blank}⟩` : `⟨U+${letter.codePointAt(0).toString(16).toUpperCase().padStart(4, "0")}⟩`;
 
-/** The parts of a name: texts, and marks in the place of what could not be seen. (Letters with their accents apart look
- * like letters with them.) */
+/** Texts, and marks in the place of what could not be seen. (Letters with accents apart look like those with them.) */
 export function partsOf(name) {
   const parts = [...name.matchAll(PARTS)].map(([text, , hidden]) =>
     hidden ? { text: markOf(hidden), isMark: true } : { text, isMark: false });
@@ -26,8 +25,7 @@ export const shown = (name) => partsOf(name).map((it) => it.text).join("");
 const NO_NAME = /[\\:*?"<>|]|^\.{0,2}$|\.$|(?<=^(?:con|prn|aux|nul|com[0-9]|lpt[0-9]))(?=\.|$)/gi;
 
 /** A name for the user's own disk, where nothing marks what cannot be seen. */
-export const forDisk = (name) =>
-  partsOf(name).map((it) => (it.isMark ? "_" : it.text)).join("").replace(NO_NAME, "_");
+export const forDisk = (name) => partsOf(name).map((it) => (it.isMark ? "_" : it.text)).join("").replace(NO_NAME, "_");
 
 /** As it is sent: one way to write each letter, and no blanks at the ends. */
 export const clean = (name) => name.normalize("NFC").trim();
@@ -36,5 +34,14 @@ const { compare } = new Intl.Collator(language, { numeric: true });
 
 /** The order in which people look for names: capitals do not count before others, and 2 stands before 10. */
 export const inOrder = (one, other) => compare(one, other) || (one < other ? -1 : 1);
-
 export const byName = ([one], [other]) => inOrder(one, other);
+
+let people = {};
+
+/** The users' names as people write them, where the front tells any. */
+export async function learnNames() {
+  people = JSON.parse(await fileOfFront("/names.json").catch(() => null) ?? "{}");
+}
+
+export const displayName = (user) => (Object.hasOwn(people, user) ? people[user] : "");
+export const personText = (user) => (displayName(user) ? `${user} (${displayName(user)})` : user);

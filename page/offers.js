@@ -1,14 +1,12 @@
-/** What is offered for an object: what the lists allow, as the room says. Where it does not say, all is offered, and
- * the room refuses what is not allowed. */
+/** What is offered for an object: what the lists allow, as the room says. Where it does not say, all is offered. */
 import * as actions from "./actions.js";
 import { button } from "./dom.js";
 import { download, downloadFolder } from "./downloads.js";
-import { copyTo, move } from "./moving.js";
+import { copyTo, move, putBack, remove } from "./moving.js";
 import { say, tellFault } from "./notices.js";
 import { ROOT, addressOf, folderOf } from "./places.js";
-import { putBack, remove } from "./removing.js";
 import { ADD_FILE, ADD_FOLDER, ALL, APPEND, DELETE, DELETE_CHILD, FILE, FOLDER, LARGE, PASS_THROUGH as PASS, READ,
-  READ_LIST, WRITE } from "./rights.js";
+  READ_LIST, UNFINISHED, WRITE } from "./rights.js";
 import { isTrash, toldBy } from "./trash.js";
 import { filesButton, newVersion } from "./uploads.js";
 import { t } from "./words.js";
@@ -24,21 +22,24 @@ async function copyLink(address) {
 
 const has = (rights, ...bits) => bits.every((it) => rights & it);
 
+/** Of items that begin with whether each is offered, those that are. */
+export const offered = (items) => items.filter(([isOffered]) => isOffered).map(([, it]) => it);
+
 /** Those of the folder above, and of the object itself where these do not say all. */
 export async function rightsAt(room, path) {
   const [own, above] = await Promise.all([rightsOn(room, path), path === ROOT ? 0 : rightsOn(room, folderOf(path))]);
   return { own, above };
 }
 
-/** What is offered for an object of a kind, FILE, FOLDER, LARGE or "unfinished": items of a menu. */
 export function offersFor(app, path, kind, { own, above, size }) {
-  const [isFile, isLarge, isTop, isThrown] = [kind === FILE, kind === LARGE, path === ROOT, toldBy(path) !== null];
-  const isOver = (isLarge || kind === "unfinished") && has(own, ADD_FILE, ADD_FOLDER, PASS);
+  const [isFile, isLarge, isUnfinished] = [FILE, LARGE, UNFINISHED].map((it) => it === kind);
+  const [isTop, isThrown] = [path === ROOT, toldBy(path) !== null];
+  const isOver = (isLarge || isUnfinished) && has(own, ADD_FILE, ADD_FOLDER, PASS);
   const isWhole = kind === FOLDER && isTrash(path); // (somebody's, with what they may want back)
   const isMovable = !isTop && !isWhole && (has(own, DELETE) || has(above, DELETE_CHILD));
-  const replaces = kind === "unfinished" ? null : { mayKeep: has(own, READ) && has(above, ADD_FILE, ADD_FOLDER) };
+  const replaces = isUnfinished ? null : { mayKeep: has(own, READ) && has(above, ADD_FILE, ADD_FOLDER) };
   const at = (view) => addressOf({ view, room: app.room.name, path });
-  return [
+  return offered([
     [isFile && has(own, READ) || isLarge && has(own, READ, PASS),
       { words: t.download, does: () => download(app, path, size) }],
     [kind === FOLDER && has(own, READ, PASS), { words: t.downloadZip, does: () => downloadFolder(app, path) }],
@@ -48,20 +49,18 @@ export function offersFor(app, path, kind, { own, above, size }) {
       { key: "rename", words: t.rename, does: () => actions.rename(app, path) }],
     [isThrown && isMovable, { words: t.putBack, does: () => putBack(app, path) }],
     [isMovable, { words: t.move, does: () => move(app, [path]) }],
-    [!isTop && kind !== "unfinished" && has(own, READ), { words: t.copy, does: () => copyTo(app, [path]) }],
+    [!isTop && !isUnfinished && has(own, READ), { words: t.copy, does: () => copyTo(app, [path]) }],
     [isMovable, { key: "remove", words: t.remove, does: () => remove(app, [path]) }],
     [!isThrown && has(own, READ_LIST), { words: t.share, href: at("access"), isApart: true, isView: true }],
     [!isThrown, { words: t.whoMay, href: at("who"), isView: true }],
     [!isThrown, { words: t.copyLink, does: () => copyLink(at("open")), isView: true }],
-  ].filter(([isOffered]) => isOffered).map(([, it]) => it);
+  ]);
 }
 
 export const asButton = ({ words, files, chosen, does }) =>
   (chosen ? filesButton(words, files, chosen) : button(words, does));
 
-export function textOffers(app, path, own, bytes, text) {
-  return [
-    [has(own, APPEND) && (bytes === null || text !== null), { words: t.append, does: () => actions.append(app, path) }],
-    [text !== null && has(own, READ, WRITE), { words: t.edit, does: () => actions.edit(app, path, bytes, text) }],
-  ].filter(([isOffered]) => isOffered).map(([, it]) => it);
-}
+export const textOffers = (app, path, own, bytes, text) => offered([
+  [has(own, APPEND) && (bytes === null || text !== null), { words: t.append, does: () => actions.append(app, path) }],
+  [text !== null && has(own, READ, WRITE), { words: t.edit, does: () => actions.edit(app, path, bytes, text) }],
+]);

@@ -4,17 +4,10 @@ import { ask } from "./dialogs.js";
 import { make } from "./dom.js";
 import { follows, isInherited } from "./lists.js";
 import { shown } from "./names.js";
-import { MAX_NAMES, MOST_THINGS, ROOT, folderOf, inFolder, isWithin, lastName, namesOf, withMark } from "./places.js";
+import { MAX_NAMES, MOST_THINGS, ROOT, besideIt, folderOf, inFolder, isWithin, lastName, namesOf,
+  numbered } from "./places.js";
 import { FOLDER } from "./rights.js";
 import { t } from "./words.js";
-
-/** The first name beside the folder that is not among those that are there. */
-function pathBeside(path, names) {
-  for (let count = 2; ; count += 1) {
-    const name = withMark(lastName(path), String(count));
-    if (!names.has(name)) return inFolder(folderOf(path), name);
-  }
-}
 
 /** Makes a folder whose own entries are those of another one, where these may be seen and set. */
 export async function makeLike(room, path, like) {
@@ -26,19 +19,17 @@ export async function makeLike(room, path, like) {
   }
 }
 
-/** Where something more has a place: in the folder, or beside it in the first one of its name with a number that has
- * room, or is not there yet. */
+/** Where something more has a place: in the folder, or in the first beside it that has room, or is not there yet. */
 export async function placeIn(room, path) {
   if (namesOf(path).length === MAX_NAMES) throw new Error(t.refusals[TOO_DEEP]);
   const namesIn = async (it) => (await room.asideIfAllowed("LIST", it))?.names ?? [];
-  if ((await namesIn(path)).length < MOST_THINGS) return { goal: path };
+  if ((await namesIn(path)).length < MOST_THINGS) return path;
   if (path === ROOT) throw new Error(t.topFull);
   const there = new Map(await namesIn(folderOf(path)));
   for (let count = 2; ; count += 1) {
-    const name = withMark(lastName(path), String(count));
-    const goal = inFolder(folderOf(path), name);
-    const hasRoom = there.get(name) === FOLDER && (await namesIn(goal)).length < MOST_THINGS;
-    if (hasRoom || !there.has(name)) return { goal };
+    const goal = besideIt(path, count);
+    const kind = there.get(lastName(goal));
+    if (!kind || kind === FOLDER && (await namesIn(goal)).length < MOST_THINGS) return goal;
   }
 }
 
@@ -51,7 +42,7 @@ async function restsOf(over, folders) {
     const rest = [...names].filter((it) => !there.has(it)).slice(MOST_THINGS - names.size);
     const beside = await folders.names(folderOf(path));
     for (let at = 0; at < rest.length; at += MOST_THINGS) {
-      const goal = pathBeside(path, beside);
+      const goal = numbered(path, (it) => !beside.has(lastName(it)));
       beside.add(lastName(goal));
       found.push({ like: path, goal, rest: new Set(rest.slice(at, at + MOST_THINGS)) });
     }
@@ -59,7 +50,6 @@ async function restsOf(over, folders) {
   return found;
 }
 
-/** Leads what is in a rest to where it goes. */
 function spread(wanted, { like, goal, rest }) {
   const depth = namesOf(like).length;
   for (const it of wanted) {
@@ -68,18 +58,16 @@ function spread(wanted, { like, goal, rest }) {
   }
 }
 
-/** Asks what becomes of what has no place in its folder: true where all goes on, and null where nothing does. What the
- * files need to go elsewhere stands in `wanted.beside`, `{like, goal}`. */
+/** Asks what becomes of what has no place. Whether it goes on; `wanted.beside` has the folders that it needs then. */
 export async function mayOverflow(over, wanted, folders) {
   const rests = await restsOf(over, folders);
-  const words = over.map(([path, names]) => make("li", {}, t.wouldHave(shown(path), names.size, MOST_THINGS)));
+  const words = over.map(([path, names]) => make("li", t.wouldHave(shown(path), names.size, MOST_THINGS)));
   const fits = t.uploadFits;
   const task = () => {
     for (const it of rests.toReversed()) spread(wanted, it); // (a folder below another one first)
     wanted.beside = rests;
   };
   const goals = rests.map(({ goal }) => shown(lastName(goal))).join(", ");
-  const how = rests.length ? { does: t.restInto(goals), task, others: [{ words: fits, value: fits }] }
-    : { does: fits };
-  return await ask({ title: t.tooMany, words: make("ul", {}, ...words), ...how }) !== null;
+  const how = rests.length ? { does: t.restInto(goals), task, others: [{ words: fits, value: fits }] } : { does: fits };
+  return await ask({ title: t.tooMany, words: make("ul", words), ...how }) !== null;
 }

@@ -7,14 +7,12 @@ export const MAX_NAMES = 16;
 export const MOST_THINGS = 256; // in a folder
 
 export const ROOT = "/";
-
 export const namesOf = (path) => path.split("/").filter((it) => it !== "");
 export const pathOf = (names) => `/${names.join("/")}`;
 export const inFolder = (folder, ...names) => pathOf([...namesOf(folder), ...names]);
 export const folderOf = (path) => pathOf(namesOf(path).slice(0, -1));
 export const lastName = (path) => namesOf(path).at(-1) ?? ROOT;
 
-/** Whether a path is that of a folder, or of something below it. */
 export const isWithin = (path, folder) => path === folder || path.startsWith(`${folder}/`);
 
 /** The folders that a walk to the path goes through, from the root down. */
@@ -25,14 +23,13 @@ export function foldersAbove(path) {
 
 export const isTooLong = (name) => fromText(name).length > MAX_NAME_BYTES;
 
-/** Why the room would not take this as a name, or nothing. */
+/** Why the room would not take this as a name, or as a path, or nothing. */
 export function nameFault(name) {
   if (name === "" || name === "." || name === "..") return t.nameWanted;
   if (/[/\u0000-\u001f\u007f]/.test(name)) return t.nameLetters;
   return isTooLong(name) ? t.nameLong(fromText(name).length) : "";
 }
 
-/** Why the room would not take this as a path, or nothing. */
 export function pathFault(path) {
   const names = path.split("/").slice(1);
   if (!path.startsWith("/")) return t.pathBegins;
@@ -44,7 +41,6 @@ export function pathFault(path) {
 export const addressOf = ({ view = "open", room, path }) =>
   `#${[view, room, ...namesOf(path)].map(encodeURIComponent).join("/")}`;
 
-/** The place of an address, or null where it names none. */
 export function placeOf(address) {
   try {
     const [view, room, ...names] = address.replace(/^#/, "").split("/").map(decodeURIComponent);
@@ -55,7 +51,7 @@ export function placeOf(address) {
   }
 }
 
-/** As much of a name as a name may have, with a mark in front of its ending. */
+/** As much of it as a name may have, with a mark in front of its ending. */
 export function shortened(name, mark = "") {
   const dot = name.lastIndexOf(".");
   const [stem, ending] = dot > 0 && name.length - dot < 12 ? [name.slice(0, dot), name.slice(dot)] : [name, ""];
@@ -65,4 +61,11 @@ export function shortened(name, mark = "") {
   return whole();
 }
 
-export const withMark = (name, words) => shortened(name, ` (${words})`);
+const withMark = (name, words) => shortened(name, ` (${words})`);
+
+export const besideIt = (path, words) => inFolder(folderOf(path), withMark(lastName(path), words));
+
+/** Beside it, the first one with a number that will do. */
+export function numbered(path, fits) {
+  for (let count = 2; ; count += 1) if (fits(besideIt(path, count))) return besideIt(path, count);
+}

@@ -1,8 +1,17 @@
-/** What users may do with objects, as the room says. */
+/** What users may do with objects, as the room says; and a way for those who cannot get there. */
+import { ask } from "./dialogs.js";
+import { make } from "./dom.js";
+import { byWhom, givenHere, isDeny, isInherited, whomText, withWhom } from "./lists.js";
 import { NAME } from "./manifest.js";
+import { shown } from "./names.js";
 import { foldersAbove, inFolder } from "./places.js";
-import { ALL, FOLDER, LARGE, PASS_THROUGH, ofLarge } from "./rights.js";
+import { ALL, FOLDER, LARGE, PASS_THROUGH, askedOf, ofLarge, rightsIn } from "./rights.js";
+import { forEach } from "./room.js";
 import { lookInto } from "./trees.js";
+import { t } from "./words.js";
+
+const MOST_NAMED = 5;
+const MOST = 40; // users of one group that are asked about
 
 /** Each thing is asked once. */
 export class Questions {
@@ -46,8 +55,7 @@ export class Questions {
   /** The rights that the object's list allows the user, or null where that is not known. */
   async allowed(path, user, groups) {
     const it = await this.object(path);
-    const isOwn = user === this.app.user;
-    if (isOwn && !(it && groups)) return this.once(`own ${path}`, () => this.own(path));
+    if (user === this.app.user && !(it && groups)) return this.once(`own ${path}`, () => this.own(path));
     if (!it) return null;
     // (those whom a list tells apart by nothing are asked about once)
     const key = [it.names.has(user) ? user : "", ...(groups ?? []).filter((one) => it.names.has(one))].join("\n");
@@ -66,9 +74,62 @@ export class Questions {
     const folders = above.filter((_, at) => allowed[at] !== null && !(allowed[at] & PASS_THROUGH));
     return { folders, isKnown: !allowed.includes(null) };
   }
+}
 
-  async barrier(path, user, groups) {
-    const { folders, isKnown } = await this.barriers(path, user, groups);
-    return { folder: folders[0] ?? null, isKnown: isKnown || folders.length > 0 };
+function usersOf({ id, name }, roster) {
+  const all = Object.entries(roster ?? {});
+  if (id === "EVERYONE@") return all;
+  return all.filter(([user, groups]) => (id === "user" ? user === name : id === "group" && groups.includes(name)));
+}
+
+/** Who of those whom the entries name is shut out where, as the room says: `{whom, user, folders, lacks}`. */
+export async function shutOut(app, { path, kind }, entries) {
+  const [questions, roster, found] = [new Questions(app), await app.room.users(), []];
+  for (const [whom, its] of byWhom(entries)) {
+    const wanted = askedOf(givenHere(its), kind);
+    await forEach(usersOf(whom, roster).slice(0, MOST), async ([user, groups]) => {
+      const { folders } = await questions.barriers(path, user, groups);
+      const allowed = await questions.mayDo({ path, kind }, user, groups);
+      const lacks = allowed === null ? 0 : wanted & ~allowed;
+      if (folders.length || lacks) found.push({ whom, user, folders, lacks });
+    });
   }
+  return found;
+}
+
+function named(all) {
+  const users = [...new Set(all.map(({ user }) => user))].sort();
+  const more = users.length - MOST_NAMED;
+  return more > 1 ? [...users.slice(0, MOST_NAMED), t.others(more)] : users;
+}
+
+/** Lets them pass through a folder, and no more: behind what is denied there, which still counts. */
+async function letPass(room, folder, all) {
+  const { aclflag, entries } = await room.run("GETLIST", folder);
+  const own = entries.filter((it) => !isInherited(it));
+  const whoms = new Map(all.map(({ whom }) => [JSON.stringify(whom), whom]));
+  const news = [...whoms.values()].map((whom) => withWhom({ type: 0, flag: 0, mask: PASS_THROUGH, who: "" }, whom));
+  const at = own.findIndex((it) => !isDeny(it));
+  own.splice(at < 0 ? own.length : at, 0, ...news);
+  await room.run("SETLIST", folder, { aclflag, entries: own });
+}
+
+/** Tells who cannot get there and why, and lets them pass where that is wanted. Gives the end, in words. */
+export async function helpThem(app, object, entries, found) {
+  const allCan = t.allCan(byWhom(entries).map(([whom]) => whomText(whom)));
+  if (found.length === 0) return entries.length ? allCan : "";
+  const folders = Map.groupBy(found.flatMap((it) => it.folders.map((folder) => ({ ...it, folder }))),
+    (it) => it.folder);
+  const lacking = found.filter((it) => it.lacks);
+  const told = [...[...folders].map(([folder, all]) => t.shutOutAt(named(all), shown(folder))),
+    ...lacking.map((it) => t.lacksStill(it.user, rightsIn(it.lacks, object.kind)))];
+  const pass = async () => {
+    for (const [folder, all] of folders) await letPass(app.room, folder, all);
+    const left = await shutOut(app, object, entries);
+    if (left.length) throw new Error(t.stillShut(named(left)));
+  };
+  const how = folders.size ? { does: t.letPass, task: pass, stays: t.leaveSo } : { does: t.close };
+  const isDone = await ask({ title: t.notAll, ...how, words: [make("p", t.notAllWords),
+    make("ul", told.map((it) => make("li", it))), folders.size > 0 && make("p.about", t.passWords)] });
+  return folders.size && isDone ? allCan : t.cannot(named(found));
 }

@@ -1,65 +1,36 @@
-/** The sixteen rights, in one place: what each lets do with a document and with a folder, and ways to sum them up. */
+/** The sixteen rights: what each lets do with a document and with a folder, and ways to sum them up. */
 import { t } from "./words.js";
 
 export const FILE = "file";
 export const FOLDER = "folder";
 export const LARGE = "large"; // a document in pieces, whose list is that of the folder that holds them
+export const UNFINISHED = "unfinished"; // one whose first version was never whole
 
-function right(bit, ...words) {
-  const [onFile, onFolder = onFile, onLarge = onFile] = t.rights[bit];
-  return { bit, words, [FILE]: onFile, [FOLDER]: onFolder, [LARGE]: onLarge, isAsked: true };
-}
-
-const ofFolders = (bit, ...words) => ({ ...right(bit, ...words), isOfFolders: true });
-const unasked = (bit, word) => ({ ...right(bit, word), isAsked: false });
+export const [READ, WRITE, APPEND, ADD_FILE, ADD_FOLDER] = [0x1, 0x2, 0x4, 0x2, 0x4];
+export const [PASS_THROUGH, DELETE_CHILD, DELETE, READ_LIST] = [0x20, 0x40, 0x10000, 0x20000];
+export const OF_OWNERS = 0x60000; // to see its list and to change it, which an owner always may
 
 /** In the order in which they are shown, with the words that the command `room` has for them: of a document and of a
  * folder, where these are two. No command of the room asks for those that are not `isAsked`. */
 export const RIGHTS = [
-  right(0x1, "read", "list"),
-  right(0x4, "append", "add-folder"),
-  right(0x2, "write", "add-file"),
-  ofFolders(0x20, "execute", "traverse"),
-  right(0x10000, "delete"),
-  ofFolders(0x40, "delete-child"),
-  right(0x80, "read-attributes"),
-  right(0x20000, "read-acl"),
-  right(0x40000, "write-acl"),
-  right(0x80000, "write-owner"),
-  unasked(0x8, "read-named-attrs"),
-  unasked(0x10, "write-named-attrs"),
-  unasked(0x100, "write-attributes"),
-  unasked(0x200, "write-retention"),
-  unasked(0x400, "write-retention-hold"),
-  unasked(0x100000, "synchronize"),
-];
+  [0x1, "read", "list"], [0x4, "append", "add-folder"], [0x2, "write", "add-file"], [0x20, "execute", "traverse"],
+  [0x10000, "delete"], [0x40, "delete-child"], [0x80, "read-attributes"], [0x20000, "read-acl"],
+  [0x40000, "write-acl"], [0x80000, "write-owner"], [0x8, "read-named-attrs"], [0x10, "write-named-attrs"],
+  [0x100, "write-attributes"], [0x200, "write-retention"], [0x400, "write-retention-hold"], [0x100000, "synchronize"],
+].map(([bit, ...words]) => {
+  const [onFile, onFolder = onFile, onLarge = onFile] = t.rights[bit] ?? [words[0].replaceAll("-", " ")];
+  return { bit, words, [FILE]: onFile, [FOLDER]: onFolder, [LARGE]: onLarge, isAsked: bit in t.rights,
+    isOfFolders: [PASS_THROUGH, DELETE_CHILD].includes(bit) };
+});
 
 export const ALL = RIGHTS.reduce((mask, it) => mask | it.bit, 0);
-export const READ = 0x1;
-export const WRITE = 0x2;
-export const APPEND = 0x4;
-export const ADD_FILE = 0x2;
-export const ADD_FOLDER = 0x4;
-export const PASS_THROUGH = 0x20;
-export const DELETE_CHILD = 0x40;
-export const DELETE = 0x10000;
-export const READ_LIST = 0x20000;
+export const [VIEW, EDIT, CHANGE] = [0x1200a9, 0x1200af, 0x1301ef]; // (a new room gives the first to its group)
 
-export const OF_OWNERS = 0x60000; // to see its list and to change it, which an owner always may
-
-export const VIEW = 0x1200a9; // what a new room gives to its group
-
-/** Sets of rights, by the names that they have everywhere. */
-export const SETS = [
-  { mask: VIEW, name: "view" },
-  { mask: 0x1200af, name: "edit" },
-  { mask: 0x1301ef, name: "change" },
-  { mask: ALL, name: "all" },
-].map((it) => ({ ...it, does: t.sets[it.name] }));
+export const SETS = [["view", VIEW], ["edit", EDIT], ["change", CHANGE], ["all", ALL]]
+  .map(([name, mask]) => ({ name, mask, does: t.sets[name] }));
 
 /** The set that a mask is. (The right to remove its old pieces makes no other one of a large file's.) */
-export const setOf = (mask, kind) =>
-  SETS.find((it) => ((it.mask ^ mask) & ~(kind === LARGE ? DELETE_CHILD : 0)) === 0);
+export const setOf = (mask, kind) => SETS.find((it) => ((it.mask ^ mask) & ~(kind === LARGE ? DELETE_CHILD : 0)) === 0);
 
 /** For the legend of the matrix: the sets, and what they alone do not tell. */
 const level = (name) => ({ name, word: t.levels[name][0], tells: t.levels[name][1] });
@@ -90,7 +61,6 @@ export function levelOf(allowed, kind) {
   return isMore ? { ...LEVELS[at], word: `${LEVELS[at].word}+` } : LEVELS[at];
 }
 
-/** The rights of a mask, each in words for that kind of object. */
 export const rightsIn = (mask, kind) => RIGHTS.filter((it) => mask & it.bit).map((it) => it[kind]);
 
 /** A right in a sentence that stands for both kinds of objects. */

@@ -1,8 +1,8 @@
 /** A room: its commands, each one request of this tab's session, and its questions. */
-import { fileOfFront, untilAnswered } from "./wire.js";
 import { ACCESS, NOTDIR, Refusal } from "./codes.js";
 import { ROOT, folderOf } from "./places.js";
 import { ALL, FILE, FOLDER } from "./rights.js";
+import { fileOfFront, untilAnswered } from "./wire.js";
 
 /** Does the task for each, some beside each other. The first fault ends it, once those under way have ended. */
 export async function forEach(items, task, width = 6) {
@@ -11,9 +11,7 @@ export async function forEach(items, task, width = 6) {
   async function go() {
     for (const it of left) {
       if (fault) return;
-      await task(it).catch((its) => {
-        fault ??= its;
-      });
+      await task(it).catch((its) => { fault ??= its; });
     }
   }
   await Promise.all(Array.from({ length: width }, go));
@@ -30,7 +28,6 @@ export class Room {
     return reply;
   }
 
-  /** A refusal in words, which name whom to ask. */
   async refusal(reply, command) {
     return new Refusal(reply, command, reply.code === ACCESS ? await this.#whose(reply.path) : {});
   }
@@ -59,13 +56,12 @@ export class Room {
     return this.#need(await this.session.askAside(command, true), command);
   }
 
-  /** As `aside`, and null where the room refuses it. */
+  /** As `aside` and `run`, and null where the room refuses it. */
   async asideIfAllowed(cmd, path, more = {}) {
     const reply = await this.session.askAside({ cmd, path, ...more });
     return reply.code === 0 ? reply : null;
   }
 
-  /** As `run`, and null where the room refuses it. */
   async runIfAllowed(cmd, path, more = {}) {
     const reply = await this.session.ask({ cmd, path, ...more });
     return reply.code === 0 ? reply : null;

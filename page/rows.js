@@ -1,14 +1,14 @@
 /** A row of what is in a folder. Its size is asked for once it is seen, its rights where its menu is opened. */
 import { button, link, make, nameText } from "./dom.js";
+import { download } from "./downloads.js";
 import { dragRow, takeFiles, takeRows } from "./drag.js";
 import { icon, isForDisk, kindBy } from "./icons.js";
 import { openMenu } from "./menu.js";
-import { download } from "./downloads.js";
 import { shown } from "./names.js";
-import { tellFault } from "./notices.js";
+import { tellFault, tellIt } from "./notices.js";
 import { offersFor, rightsOn } from "./offers.js";
 import { addressOf, inFolder } from "./places.js";
-import { FILE, FOLDER, LARGE } from "./rights.js";
+import { FILE, FOLDER, LARGE, UNFINISHED } from "./rights.js";
 import { sizeWords } from "./transfers.js";
 import { beforeWords, nameAt } from "./trash.js";
 import { lookInto } from "./trees.js";
@@ -16,15 +16,12 @@ import { t } from "./words.js";
 
 /** What a row's object is, and how large: `{kind, words, size}`; a folder's size is the count of what is in it. */
 async function lookAt(room, path, kind) {
-  if (kind !== FOLDER) {
-    const stat = await room.asideIfAllowed("STAT", path);
-    return { kind: FILE, words: stat ? sizeWords(stat.size) : "", size: stat?.size };
-  }
+  const sized = (its, size) => ({ kind: its, words: size === undefined ? "" : sizeWords(size), size });
+  if (kind !== FOLDER) return sized(FILE, (await room.asideIfAllowed("STAT", path))?.size);
   const { kind: found, names, its } = await lookInto(room, path);
-  if (!names) return { kind: FOLDER, words: "" };
-  if (found === "unfinished") return { kind: found, words: "" };
-  if (found === LARGE) return { kind: LARGE, words: its ? sizeWords(its.size) : "", size: its?.size };
-  return { kind: FOLDER, words: t.inIt(names.length), size: names.length };
+  if (!names || found === UNFINISHED) return { kind: found, words: "" };
+  return found === LARGE ? sized(LARGE, its?.size) :
+    { kind: FOLDER, words: t.inIt(names.length), size: names.length };
 }
 
 export class Row {
@@ -38,13 +35,13 @@ export class Row {
     Object.assign(this.link, { tabIndex: -1, draggable: false, className: "name" });
     this.more = button("⋯", () => this.open(), { tabIndex: -1, "aria-label": t.moreFor(shown(this.called)),
       "aria-haspopup": "menu", "aria-expanded": "false", className: "small" });
-    this.kindCell = make("td", { className: "kind" });
-    this.sizeCell = make("td", { className: "size" });
+    this.kindCell = make("td.kind");
+    this.sizeCell = make("td.size");
     const before = beforeWords(path);
-    const named = before ? make("div", {}, this.link, make("div", { className: "about" }, before)) : this.link;
-    this.element = make("tr", { "aria-selected": "false" }, make("td", { className: "tick" }, this.tick),
-      make("th", { scope: "row" }, make("div", {}, this.picture, named)),
-      this.kindCell, this.sizeCell, make("td", { className: "own" }, this.more));
+    this.element = make("tr", { "aria-selected": "false" }, make("td.tick", this.tick),
+      make("th", { scope: "row" }, make("div", this.picture,
+        before ? make("div", this.link, make("div.about", before)) : this.link)),
+      this.kindCell, this.sizeCell, make("td.own", this.more));
     this.element.row = this;
     this.showKind();
     dragRow(this);
@@ -59,7 +56,7 @@ export class Row {
 
   showKind() {
     this.kindName = kindBy(this.called, this.isFolder ? FOLDER : FILE);
-    this.kindCell.textContent = this.its?.kind === "unfinished" ? t.unfinished : t.kinds[this.kindName];
+    this.kindCell.textContent = this.its?.kind === UNFINISHED ? t.unfinished : t.kinds[this.kindName];
     if (!this.picture.querySelector("img")) this.picture.replaceChildren(icon(this.kindName));
     this.link.onclick = !this.isFolder && isForDisk(this.called) ? (event) => this.give(event) : null;
   }
@@ -68,7 +65,7 @@ export class Row {
   give(event) {
     if (event.ctrlKey || event.metaKey || event.shiftKey || event.defaultPrevented) return;
     event.preventDefault();
-    this.look().then((its) => download(this.app, this.path, its.size), (fault) => tellFault(fault.message));
+    this.look().then((its) => download(this.app, this.path, its.size), tellIt);
   }
 
   look() {
@@ -94,13 +91,13 @@ export class Row {
     this.element.setAttribute("aria-selected", String(isChosen));
   }
 
+  rights() {
+    return rightsOn(this.app.room, this.path);
+  }
+
   async offers() {
     const [its, own] = await Promise.all([this.look(), this.rights()]);
     return offersFor(this.app, this.path, its.kind, { own, above: this.things.rights.own, size: its.size });
-  }
-
-  rights() {
-    return rightsOn(this.app.room, this.path);
   }
 
   async open(at) {
@@ -108,16 +105,13 @@ export class Row {
     this.isOpening = true;
     try {
       const offers = await this.offers();
-      const none = [{ words: t.onlyLook, does() {} }];
-      openMenu(this.more, offers.length ? offers : none, { label: shown(this.called), at });
+      openMenu(this.more, offers.length ? offers : [{ words: t.onlyLook, does() {} }], shown(this.called), at);
     } catch (fault) {
-      tellFault(fault.message);
-    } finally {
-      this.isOpening = false;
+      tellIt(fault);
     }
+    this.isOpening = false;
   }
 
-  /** Does what is offered under that key, or tells that it is not. */
   async press(key) {
     const offer = (await this.offers()).find((it) => it.key === key);
     if (offer) offer.does();

@@ -1,9 +1,6 @@
-/**
- * A session of sixteen slots, which acts once for each request.
- *
- * What is needed to send a request again is kept in localStorage before it is sent: the session's name, the number, the
- * body. So it is sent again after a lost answer, and after a reload or a crash of the tab too (docs/SLOTS.md).
- */
+/** A session of sixteen slots, which acts once for each request: what sending it again needs is kept in localStorage
+ * before it is sent, so it is sent again after a lost answer, a reload or a crash of the tab (docs/SLOTS.md). */
+import { randomHex } from "./bytes.js";
 import { untilAnswered } from "./wire.js";
 import { t } from "./words.js";
 
@@ -14,17 +11,9 @@ const FALSE_RETRY = 23;
 const NOT_KEPT = 25;
 const OWN_REFUSALS = new Set([20, 21, 22, 23, 24, 25]); // of the session, slot or number, and not of the request
 
-/** A request that was sent before, and whose session is gone: whether it acted is not known. */
-class Unknown extends Error {
-  constructor() {
-    super(t.unknown);
-  }
-}
-
-const randomName = () =>
-  [...crypto.getRandomValues(new Uint8Array(16))].map((it) => it.toString(16).padStart(2, "0")).join("");
-
+const fresh = () => ({ name: randomHex(16), isOpen: false });
 const read = (key) => JSON.parse(localStorage.getItem(key));
+const write = (key, it) => localStorage.setItem(key, JSON.stringify(it));
 
 /** The body of a command. Its members stand as in the command's text, so that the room knows a repeat by its bytes. */
 const bodyOf = (command) =>
@@ -46,11 +35,11 @@ class Lane {
 
   #keep(change) {
     this.kept = { ...this.kept, ...change };
-    localStorage.setItem(this.key, JSON.stringify(this.kept));
+    write(this.key, this.kept);
     if (!this.kept.pending) localStorage.removeItem(this.bodyKey);
   }
 
-  /** The body first, so that what is kept as pending has one. Others may fill the browser's store for a time. */
+  /** The body first, so that what is pending has one. Others may fill the browser's store for a time. */
   async #keepPending(pending, body) {
     for (let times = 0; ; times += 1) {
       try {
@@ -65,15 +54,16 @@ class Lane {
     }
   }
 
-  /** The command that waits for its answer, or null. */
   get pending() {
-    return this.kept.pending && JSON.parse(localStorage.getItem(this.bodyKey));
+    return this.kept.pending && read(this.bodyKey);
   }
 
   /** With `isStep` it is a step of something longer, which is not sent again once the page has ended. */
   ask(command, isStep = false) {
     return this.#inTurn(async () => {
-      if (!this.isNewest) await this.#probe();
+      // (a browser that crashed may have lost what was newest: a number that was used for another command is refused)
+      if (!this.isNewest) await this.#new(bodyOf(harmless()), false);
+      this.isNewest = true;
       return this.#new(bodyOf(command), isStep);
     });
   }
@@ -82,13 +72,6 @@ class Lane {
   finish() {
     const body = localStorage.getItem(this.bodyKey);
     return this.#inTurn(() => (this.kept.pending.isStep ? this.#drop() : this.#settle(body)));
-  }
-
-  /** Finds out whether what is kept is the newest: a browser that crashed may have lost it. A number that was used for
-   * another command is refused, and the session changed for a new one. */
-  async #probe() {
-    await this.#new(bodyOf(harmless()), false);
-    this.isNewest = true;
   }
 
   #inTurn(task) {
@@ -106,22 +89,22 @@ class Lane {
     return this.#settle(body);
   }
 
-  /** Sends what is pending until it is answered. */
   async #settle(body) {
     const { number } = this.kept.pending;
     const reply = await this.#send(number, body);
-    if (reply.code === NOT_KEPT) return this.#again(number, body);
+    if (reply.code === NOT_KEPT) {
+      this.#keep({ pending: null, number }); // (what asked that its reply be not kept only reads)
+      return this.#new(body, false);
+    }
     if (OWN_REFUSALS.has(reply.code)) {
       await this.session.stillUser();
       return this.#anew(body);
     }
-    const wasRun = reply.code < 20;
-    this.#keep({ pending: null, number: wasRun ? number : this.kept.number });
+    this.#keep({ pending: null, number: reply.code < 20 ? number : this.kept.number }); // (20 on: it was not run)
     return reply;
   }
 
-  /** A step of what was stopped is not done late, behind what others did meanwhile: another request takes its number.
-   * Where that is a false retry, the step had been done. */
+  /** A step that was stopped is not done late: another request takes its number. A false retry: it was done. */
   async #drop() {
     const { number } = this.kept.pending;
     const reply = await this.#send(number, bodyOf(harmless()));
@@ -143,29 +126,23 @@ class Lane {
     }
   }
 
-  /** What asked that its reply be not kept only reads, and is asked anew. */
-  #again(number, body) {
-    this.#keep({ pending: null, number });
-    return this.#new(body, false);
-  }
-
   /** In a new session, where it was sent only now: then it cannot have acted. */
   #anew(body) {
     const { sent, isStep } = this.kept.pending;
     this.session.renew(this.kept.name);
     this.#keep({ pending: null });
-    if (sent > 1) throw new Unknown();
+    if (sent > 1) throw new Error(t.unknown); // (whether it acted)
     return this.#new(body, isStep);
   }
 }
 
 export class Session {
   /** `base` is the room's address, `key` where it is kept, `patience` tells and waits (busy.js); `stillUser` ends this
-   * page where the browser is logged in as another user by now, since its requests would be that user's. */
+   * page where the browser is logged in as another user by now, whose its requests would be. */
   constructor(base, key, patience, stillUser) {
     Object.assign(this, { base, key, patience, stillUser });
     Session.#renewOldForm(key);
-    this.kept = read(key) ?? { name: randomName(), isOpen: false };
+    this.kept = read(key) ?? fresh();
     this.lanes = Array.from({ length: SLOTS }, (_, slot) => new Lane(this, slot));
     this.free = this.lanes.slice(1, 1 + ASIDE);
     this.queue = [];
@@ -177,26 +154,24 @@ export class Session {
     if (number === undefined) return;
     if (pending) localStorage.setItem(`${key}/slot/0/body`, pending.body);
     const itsPending = pending && { number: pending.number, sent: pending.sent };
-    localStorage.setItem(`${key}/slot/0`, JSON.stringify({ name, number, pending: itsPending }));
+    write(`${key}/slot/0`, { name, number, pending: itsPending });
     localStorage.removeItem(key);
   }
 
   #keep(change) {
     this.kept = { ...this.kept, ...change };
-    localStorage.setItem(this.key, JSON.stringify(this.kept));
+    write(this.key, this.kept);
   }
 
-  /** The slots whose last request waits for its answer. */
   get pending() {
     return this.lanes.filter((it) => it.pending);
   }
 
-  /** The reply to a command. Commands run one after another, in the order in which they are asked. */
+  /** The reply to a command, once those that were asked before have theirs. */
   ask(command) {
     return this.lanes[0].ask(command);
   }
 
-  /** The reply to a command that may run beside others. */
   async askAside(command, isStep = false) {
     const lane = this.free.pop() ?? await new Promise((goOn) => this.queue.push(goOn));
     try {
@@ -210,14 +185,12 @@ export class Session {
 
   /** A new session takes the place of that one, where it is still this one's. */
   renew(name) {
-    if (this.kept.name === name) this.#keep({ name: randomName(), isOpen: false });
+    if (this.kept.name === name) this.#keep(fresh());
   }
 
   /** Opens it, where it is not open: null, or why that is refused. */
   open() {
-    this.opening ??= this.#open().finally(() => {
-      this.opening = null;
-    });
+    this.opening ??= this.#open().finally(() => { this.opening = null; });
     return this.opening;
   }
 

@@ -1,23 +1,127 @@
 /** The table of what is in a folder: it is sorted by its heads, walked through by keys, and several rows are chosen. */
 import { button, make } from "./dom.js";
-import { ChosenBar } from "./chosen.js";
+import { downloadAll } from "./downloads.js";
+import { pointOf } from "./menu.js";
+import { copyTo, move, putAllBack, remove } from "./moving.js";
 import { inOrder } from "./names.js";
-import { tellFault } from "./notices.js";
+import { tellIt } from "./notices.js";
+import { SmallPictures } from "./preview.js";
+import { DELETE, DELETE_CHILD } from "./rights.js";
 import { forEach } from "./room.js";
 import { Row } from "./rows.js";
-import { SmallPictures } from "./small.js";
-import { GridKeys } from "./keys.js";
+import { isOwnTrash } from "./trash.js";
 import { t } from "./words.js";
 
 const SORT = "fileroom/sort";
+const PAUSE = 700; // milliseconds after which letters begin anew
 
-/** How rows are compared, beside their names. */
 const BY = {
   name: () => 0,
-  kind: (one, other) => inOrder(t.kinds[one.kindName], t.kinds[other.kindName]) *
-    (one.kindName === other.kindName ? 0 : 1),
+  kind: (one, other) => one.kindName === other.kindName ? 0 : inOrder(t.kinds[one.kindName], t.kinds[other.kindName]),
   size: (one, other) => (one.its?.size ?? -1) - (other.its?.size ?? -1),
 };
+
+/** What is done with several rows at once: a bar in the place of the tools. */
+class ChosenBar {
+  constructor(things) {
+    const { app, place } = things;
+    Object.assign(this, { things, turn: 0 });
+    this.words = make("span", { role: "status" });
+    this.buttons = Object.entries({
+      ...isOwnTrash(app, place.path) && { back: [t.putBack, putAllBack] },
+      move: [t.move, move],
+      copy: [t.copy, copyTo],
+      download: [t.download, (_, paths) => downloadAll(app, place.path, paths)],
+      remove: [t.remove, remove],
+    }).map(([key, [words, does]]) =>
+      ({ key, its: button(words, () => does(app, things.chosen.map((it) => it.path))) }));
+    this.element = make("div.tools.chosen", { role: "group", "aria-label": t.chosenLabel, hidden: true },
+      this.words, this.buttons.map(({ its }) => its), button(t.chooseNone, () => things.choose([])));
+  }
+
+  press(key) {
+    this.buttons.find((it) => it.key === key && !it.its.hidden)?.its.click();
+  }
+
+  async show(rows) {
+    const turn = this.turn += 1;
+    this.words.textContent = rows.length ? t.chosen(rows.length) : "";
+    this.element.hidden = rows.length === 0;
+    document.querySelector("#main .tools.makers")?.toggleAttribute("hidden", rows.length > 0);
+    const mayRemove = this.things.rights.own & DELETE_CHILD ||
+      (await Promise.all(rows.map((it) => it.rights()))).every((it) => it & DELETE);
+    if (turn !== this.turn) return;
+    for (const { key, its } of this.buttons) its.hidden = !mayRemove && key !== "copy" && key !== "download";
+  }
+}
+
+/** One stop of the Tab key, arrows, Home and End, first letters of a name, and what is done. */
+class GridKeys {
+  constructor(things) {
+    Object.assign(this, { things, letters: "", typedAt: 0, at: null });
+    things.element.onkeydown = (event) => !event.target.closest("[popover]") && this.key(event);
+    things.element.onfocusin = (event) => this.stand(event.target);
+    this.stand(things.shown[0].link);
+  }
+
+  /** The one element that the Tab key comes to. */
+  stand(element) {
+    if (![this.things, ...this.things.shown].some((it) => it.stops.includes(element))) return;
+    if (this.at) this.at.tabIndex = -1;
+    this.at = element;
+    element.tabIndex = 0;
+  }
+
+  get lines() {
+    return [this.things, ...this.things.shown].map((it) => it.stops.filter((one) => one.checkVisibility()));
+  }
+
+  go(line, column) {
+    const nearest = (all, at) => all[Math.max(Math.min(at, all.length - 1), 0)];
+    nearest(nearest(this.lines, line), column)?.focus();
+  }
+
+  key(event) {
+    const { lines } = this;
+    const line = lines.findIndex((it) => it.includes(event.target));
+    if (line < 0) return;
+    const column = lines[line].indexOf(event.target);
+    const [row, isMany] = [this.things.shown[line - 1], event.ctrlKey || event.metaKey];
+    const goals = { ArrowDown: [line + 1, column], ArrowUp: [line - 1, column], ArrowLeft: [line, column - 1],
+      ArrowRight: [line, column + 1], Home: [1, column], End: [lines.length - 1, column] };
+    const goal = !event.altKey && goals[event.key];
+    if (goal) {
+      if (event.shiftKey && row) this.things.last ??= row;
+      this.go(...goal);
+      const now = this.things.shown[goal[0] - 1];
+      if (event.shiftKey && now) this.things.chooseTo(now);
+    } else if (!this.does(event, row, isMany) && !this.search(event, line - 1, isMany)) return;
+    event.preventDefault();
+  }
+
+  does(event, row, isMany) {
+    const { things } = this;
+    if (isMany && event.key === "a") things.choose(things.rows);
+    else if (event.key === "Escape" && things.chosen.length) things.choose([]);
+    else if (event.key === " " && event.target === row?.link) things.toggle(row);
+    else if (event.key === "Delete" && things.chosen.length) things.bar.press("remove");
+    else if (["F2", "Delete"].includes(event.key) && row) row.press(event.key === "F2" ? "rename" : "remove");
+    else return false;
+    return true;
+  }
+
+  search(event, line, isMany) {
+    if (event.key.length !== 1 || event.key === " " || event.key === "/" || isMany || event.altKey) return false;
+    const isNew = event.timeStamp - this.typedAt > PAUSE;
+    this.letters = (isNew ? "" : this.letters) + event.key.toLowerCase();
+    this.typedAt = event.timeStamp;
+    const rows = this.things.shown;
+    const start = this.letters.length > 1 ? Math.max(line, 0) : line + 1;
+    const order = [...rows.slice(start), ...rows.slice(0, start)];
+    order.find((it) => it.called.toLowerCase().startsWith(this.letters))?.link.focus();
+    return true;
+  }
+}
 
 export class Things {
   constructor(app, place, names, rights) {
@@ -26,10 +130,10 @@ export class Things {
     this.sort = { by: by in BY ? by : "name", isDown: Boolean(isDown) };
     const pictures = new SmallPictures(app.room);
     this.rows = names.map((it) => new Row(this, it, pictures));
-    this.bodies = [make("tbody", {}), make("tbody", {})]; // folders, and documents behind them
+    this.bodies = [make("tbody"), make("tbody")]; // folders, and documents behind them
     this.bar = new ChosenBar(this);
-    this.element = make("table", { className: "things", role: "grid", "aria-label": t.thingsLabel,
-      "aria-multiselectable": "true" }, this.head(), ...this.bodies);
+    this.element = make("table.things", { role: "grid", "aria-label": t.thingsLabel, "aria-multiselectable": "true" },
+      this.head(), this.bodies);
     this.element.onclick = (event) => this.click(event);
     this.element.oncontextmenu = (event) => this.menu(event);
     this.draw();
@@ -41,11 +145,11 @@ export class Things {
   head() {
     this.all = make("input", { type: "checkbox", tabIndex: -1, "aria-label": t.chooseAll });
     this.all.onchange = () => this.choose(this.all.checked ? this.rows : []);
-    const sorts = (by) => button(t.heads[by], () => this.sortBy(by), { tabIndex: -1 });
-    this.heads = Object.keys(BY).map((by) => ({ by, button: sorts(by) }));
-    for (const it of this.heads) it.cell = make("th", { scope: "col", className: it.by }, it.button);
-    return make("thead", {}, make("tr", {}, make("td", { className: "tick" }, this.all),
-      ...this.heads.map((it) => it.cell), make("td", { className: "own" })));
+    this.heads = Object.keys(BY).map((by) => {
+      const its = button(t.heads[by], () => this.sortBy(by), { tabIndex: -1 });
+      return { by, button: its, cell: make(`th.${by}`, { scope: "col" }, its) };
+    });
+    return make("thead", make("tr", make("td.tick", this.all), this.heads.map((it) => it.cell), make("td.own")));
   }
 
   get stops() {
@@ -83,27 +187,22 @@ export class Things {
     if (by === "size") await this.lookAtAll();
   }
 
-  /** Sizes are known once each row was looked at. */
   async lookAtAll() {
-    await forEach(this.rows, (it) => it.look()).catch((fault) => tellFault(fault.message));
+    await forEach(this.rows, (it) => it.look()).catch(tellIt);
     this.draw();
   }
 
   /** A large file stands among the documents, in order. */
   replace(row) {
-    const others = this.shown.filter((it) => !it.isFolder && it !== row);
-    const order = this.sorted([...others, row]);
-    const next = order[order.indexOf(row) + 1];
-    if (next) next.element.before(row.element);
-    else this.bodies[1].append(row.element);
+    const order = this.sorted([...this.shown.filter((it) => !it.isFolder && it !== row), row]);
+    this.bodies[1].insertBefore(row.element, order[order.indexOf(row) + 1]?.element ?? null);
   }
 
   watch() {
     const seen = new IntersectionObserver((entries) => {
-      for (const { target, isIntersecting } of entries) {
-        if (!isIntersecting) continue;
+      for (const { target } of entries.filter((it) => it.isIntersecting)) {
         seen.unobserve(target);
-        target.row.look().catch((fault) => tellFault(fault.message));
+        target.row.look().catch(tellIt);
       }
     });
     for (const it of this.rows) seen.observe(it.element);
@@ -123,7 +222,6 @@ export class Things {
     this.choose(isChosen ? this.chosen.filter((it) => it !== row) : [...this.chosen, row]);
   }
 
-  /** All from the one that was chosen last. */
   chooseTo(row) {
     const [rows, start] = [this.shown, this.last ?? this.shown[0]];
     const ends = [rows.indexOf(start), rows.indexOf(row)].sort((a, b) => a - b);
@@ -152,7 +250,6 @@ export class Things {
     const row = event.target.closest("tr")?.row;
     if (!row || event.target.closest("[popover]")) return;
     event.preventDefault();
-    const isByKey = event.button !== 2;
-    row.open(isByKey ? null : { x: event.clientX, y: event.clientY });
+    row.open(event.button === 2 ? pointOf(event) : null); // (by key below its button)
   }
 }

@@ -1,10 +1,10 @@
 /** What goes on beside the page: how far it is, and an end to it. */
-import { ask } from "./dialogs.js";
+import { ask, watchEnd } from "./dialogs.js";
 import { button, make } from "./dom.js";
+import { NOBODY } from "./files.js";
 import { shown } from "./names.js";
 import { say, settle, tellFaults } from "./notices.js";
-import { folderOf, inFolder, lastName, withMark } from "./places.js";
-import { watchEnd } from "./unsaved.js";
+import { besideIt, lastName } from "./places.js";
 import { t } from "./words.js";
 
 class Cancelled extends Error {}
@@ -16,19 +16,23 @@ export function sizeWords(bytes) {
 }
 
 class Transfer {
-  notes = [];
-  faults = [];
-  done = 0;
-  isCancelled = false;
-
   /** `unit` tells a count of what is to be done in words, `about` what it is among all others. */
   constructor(app, title, { total, unit = sizeWords, about }) {
-    Object.assign(this, { app, title, total, unit, about });
+    Object.assign(this, { app, title, total, unit, about, notes: [], faults: [], done: 0, isCancelled: false });
+    this.start = performance.now();
     this.bar = make("progress", { max: Math.max(total, 1), value: 0, "aria-label": title });
-    this.words = make("span", {});
-    this.element = make("p", { className: "transfer" }, make("span", {}, title), this.bar, this.words,
-      button(t.cancel, () => this.cancel(), { className: "small" }));
+    this.words = make("span");
+    this.element = make("p.transfer", make("span", title), this.bar, this.words,
+      button(t.cancel, () => this.cancel(), "small"));
     this.add(0);
+  }
+
+  get seconds() {
+    return ((performance.now() - this.start) / 1_000).toFixed(1);
+  }
+
+  quiet() {
+    return { ...NOBODY, check: () => this.check() };
   }
 
   cancel() {
@@ -50,17 +54,15 @@ class Transfer {
     this.notes.push(words);
   }
 
-  /** Something of it went wrong. It goes on. */
   fail(words, about = this.about) {
     this.faults.push({ words, about });
   }
 
-  /** Somebody else wrote a version meanwhile, and its pieces have that owner, where that may be seen: true to put this
-   * one in its place, the path of a copy, or null. */
+  /** Somebody else wrote a version meanwhile: true to put this one in its place, the path of a copy, or null. */
   async overtaken(path, owner) {
     const chosen = await ask({ title: t.overtaken(shown(lastName(path))), does: t.putMine,
-      words: make("p", {}, t.newerCame(owner)), others: [{ words: t.keepCopy, value: "copy" }] });
-    return chosen === "copy" ? inFolder(folderOf(path), withMark(lastName(path), t.copyOf(this.app.user))) : chosen;
+      words: make("p", t.newerCame, owner && t.newerOf(owner)), others: [{ words: t.keepCopy, value: "copy" }] });
+    return chosen === "copy" ? besideIt(path, t.copyOf(this.app.user)) : chosen;
   }
 }
 

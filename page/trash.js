@@ -1,28 +1,21 @@
 /** The trash: what was removed lies in a folder of the user's own in /trash, where there is one (docs/FILES.md). */
-import { fromText } from "./bytes.js";
 import { EXIST, FOLDER_FULL, TOO_DEEP, isRefused } from "./codes.js";
 import { isPrivate } from "./lists.js";
 import { shown } from "./names.js";
-import { ROOT, folderOf, inFolder, isWithin, lastName, nameFault, namesOf, pathFault } from "./places.js";
+import { ROOT, folderOf, inFolder, isTooLong, isWithin, lastName, nameFault, namesOf, pathFault } from "./places.js";
 import { FOLDER } from "./rights.js";
 import { language, t } from "./words.js";
 
 const TRASH = "/trash";
-const MOST_NAME = 64; // bytes
 
-/** (A folder holds 256 things, and a room has up to 1,000 users.) */
-function partOf(user) {
+/** Where a user's trash is, and where it was in rooms of before. (A folder has 256 things, a room 1,000 users.) */
+function placesFor(user) {
   const sum = [...user].reduce((before, letter) => before + letter.charCodeAt(0), 0);
-  return `@${(sum % 16).toString(16)}`;
+  return [inFolder(TRASH, `@${(sum % 16).toString(16)}`, user), inFolder(TRASH, user)];
 }
 
-/** Where a user's trash is, and where it was in rooms of before. */
-const placesFor = (user) => [inFolder(TRASH, partOf(user), user), inFolder(TRASH, user)];
-
-/** Whether a path is in /trash, or that. */
 export const isInTrash = (path) => isWithin(path, TRASH);
 
-/** Whether it is where somebody's trash is. */
 export const isTrash = (path) => isInTrash(path) && placesFor(lastName(path)).includes(path);
 export const isOwnTrash = ({ user }, path) => placesFor(user).includes(path);
 
@@ -35,32 +28,27 @@ export async function ownTrash({ room, user }) {
   return {};
 }
 
-/** As `ownTrash`, for what is to be removed: also a `fault` where its list lets others read what comes into it. */
+/** As `ownTrash`; also a `fault` where its list lets others read what comes into it. */
 export async function trashOf({ room, user }) {
   const its = await ownTrash({ room, user });
   if (!its.path || isPrivate(await room.aside("GETLIST", its.path), user)) return its;
   return { fault: t.openTrash(its.path) };
 }
 
-/** It tells where it came from, as far as a name has room; the command `room` gives it its place back by that. */
+/** It tells where it came from, as far as a name has room: by that the command `room` puts it back. */
 function nameInTrash(path, now) {
   const stamp = now.toISOString().replace(/[^0-9]/g, "").slice(0, 14);
   const [name, ...folders] = [lastName(path), ...namesOf(folderOf(path))];
-  const bytes = (it) => fromText(it).length;
   const whole = [name, ...folders, stamp].join("~");
-  if (bytes(whole) <= MOST_NAME && !/[~…]/.test(path)) return whole;
+  if (!isTooLong(whole) && !/[~…]/.test(path)) return whole;
   const end = `~…~${stamp}`;
-  if (bytes(name + end) <= MOST_NAME) return name + end;
-  const ending = /\.[^.]{1,6}$/.exec(name)?.[0] ?? "";
+  if (!isTooLong(name + end)) return name + end;
   const letters = [...name];
-  while (bytes(`${letters.join("")}…${ending}${end}`) > MOST_NAME) letters.pop();
-  return `${letters.join("")}…${ending}${end}`;
+  const cut = () => `${letters.join("")}…${/\.[^.]{1,6}$/.exec(name)?.[0] ?? ""}${end}`;
+  while (isTooLong(cut())) letters.pop();
+  return cut();
 }
 
-/** What to do where the trash is what does not take it, by the room's code. */
-const NOT_TAKEN = { [TOO_DEEP]: t.trashDeep, [FOLDER_FULL]: t.trashFull };
-
-/** Where it is then. */
 export async function toTrash(room, path, trash) {
   for (let more = 0; ; more += 1) {
     const to = inFolder(trash, nameInTrash(path, new Date(Date.now() + more * 1_000)));
@@ -68,7 +56,8 @@ export async function toTrash(room, path, trash) {
       await room.run("RENAME", path, { to });
       return to;
     } catch (fault) {
-      if (isRefused(fault, TOO_DEEP, FOLDER_FULL)) throw new Error(NOT_TAKEN[fault.code]);
+      if (isRefused(fault, TOO_DEEP)) throw new Error(t.trashDeep);
+      if (isRefused(fault, FOLDER_FULL)) throw new Error(t.trashFull);
       if (!isRefused(fault, EXIST) || more === 30) throw fault;
     }
   }
@@ -79,8 +68,7 @@ function timeOf(stamp) {
   return year ? new Date(Date.UTC(year, month - 1, ...rest)) : null;
 }
 
-/** What the name of something in a trash tells: the `name` that it had, its `place`, or null where there was no room
- * for that, and `when` it was removed. Null of anything else. */
+/** What a name in a trash tells: `name`, `place` or null where that had no room, and `when`. Null of anything else. */
 export function toldBy(path) {
   const parts = lastName(path).split("~");
   const when = timeOf(parts.pop());
@@ -93,15 +81,13 @@ export function toldBy(path) {
   return path.includes("…") || pathFault(place) ? null : { name: parts[0], place, when };
 }
 
-/** The name that people know it by. */
+/** The name that people know it by; and the same, or the path of what is in no trash. */
 export const nameAt = (path) => toldBy(path)?.name ?? lastName(path);
-
-/** As `nameAt`, the path of what is in no trash. */
 export const calledAt = (path) => shown(toldBy(path)?.name ?? path);
 
-/** Where it was, and since when it is in a trash, in words, or nothing. */
 export function beforeWords(path) {
   const its = toldBy(path);
   const when = its?.when.toLocaleString(language, { dateStyle: "medium", timeStyle: "short" });
-  return its ? t.wasIn(its.place && shown(folderOf(its.place)), when) : "";
+  const where = its?.place ? [t.wasIn(shown(folderOf(its.place)))] : [];
+  return its ? [...where, t.removedAt(when)].join(", ") : "";
 }

@@ -5,7 +5,7 @@ import { button, make, nameText } from "./dom.js";
 import { icon } from "./icons.js";
 import { isPart } from "./manifest.js";
 import { byName, clean, shown } from "./names.js";
-import { tellFault } from "./notices.js";
+import { tellIt } from "./notices.js";
 import { ROOT, foldersAbove, inFolder, isWithin, lastName, nameFault } from "./places.js";
 import { FOLDER, LARGE } from "./rights.js";
 import { kindBy, lookInto } from "./trees.js";
@@ -17,7 +17,6 @@ const MOST_RECENT = 4;
 const recentKey = (app) => `fileroom/recent/${app.user}/${app.room.name}`;
 const recentOf = (app) => JSON.parse(localStorage.getItem(recentKey(app)) ?? "[]");
 
-/** Something went into that folder. */
 export function keepRecent(app, folder) {
   const all = [folder, ...recentOf(app).filter((it) => it !== folder)];
   localStorage.setItem(recentKey(app), JSON.stringify(all.slice(0, MOST_RECENT)));
@@ -38,15 +37,14 @@ export class FolderTree {
   constructor(app, barred, value) {
     Object.assign(this, { app, barred, value, items: new Map() });
     this.told = make("p", { role: "status" });
-    this.legend = make("legend", {});
-    this.list = make("ul", { role: "tree", className: "tree", "aria-label": t.folderTree });
+    this.legend = make("legend");
+    this.list = make("ul.tree", { role: "tree", "aria-label": t.folderTree });
     this.list.onkeydown = (event) => this.key(event);
     this.list.onclick = (event) => this.click(event);
     const recent = recentOf(app).filter((it) => it !== value && !this.isBarred(it)).map((it) =>
       button(nameText(this.nameOf(it)), () => this.goTo(it), { className: "small", title: shown(it) }));
-    this.element = make("fieldset", { className: "chooser" }, this.legend,
-      ...recent.length ? [make("p", {}, t.recent, " ", ...recent)] : [], this.list, this.told,
-      make("p", {}, button(t.newFolderHere, () => this.makeHere(), { className: "small" })));
+    this.element = make("fieldset.chooser", this.legend, recent.length > 0 && make("p", t.recent, " ", recent),
+      this.list, this.told, make("p", button(t.newFolderHere, () => this.makeHere(), "small")));
     this.list.append(this.item(ROOT));
     this.tell();
     this.goTo(value);
@@ -62,12 +60,12 @@ export class FolderTree {
 
   tell() {
     const path = this.value === ROOT ? this.app.room.name : this.value;
-    this.legend.replaceChildren(t.toFolder, make("b", {}, nameText(path)));
+    this.legend.replaceChildren(t.toFolder, make("b", nameText(path)));
   }
 
   item(path) {
     const it = make("li", { role: "treeitem", tabIndex: -1, "aria-expanded": "false", "aria-selected": "false" },
-      make("span", {}, icon("folder"), nameText(this.nameOf(path))));
+      make("span", icon("folder"), nameText(this.nameOf(path))));
     it.path = path;
     this.items.set(path, it);
     return it;
@@ -82,7 +80,6 @@ export class FolderTree {
     this.tell();
   }
 
-  /** Opens it, and each above it. */
   async goTo(path) {
     this.value = path;
     for (const folder of foldersAbove(path)) await this.open(this.items.get(folder));
@@ -102,11 +99,11 @@ export class FolderTree {
       const found = await foldersIn(this.app.room, it.path);
       const folders = found.filter((path) => !this.isBarred(path));
       if (folders.length === 0) it.removeAttribute("aria-expanded");
-      else it.append(make("ul", { role: "group" }, ...folders.map((path) => this.item(path))));
+      else it.append(make("ul", { role: "group" }, folders.map((path) => this.item(path))));
     } catch (fault) {
       it.setAttribute("aria-expanded", "false");
       this.told.textContent = fault.message;
-      if (fault instanceof GaveUp) tellFault(fault.message); // (its button is out of reach until the dialog is closed)
+      if (fault instanceof GaveUp) tellIt(fault); // (its button is out of reach until the dialog is closed)
     }
     it.removeAttribute("aria-busy");
   }
@@ -146,7 +143,7 @@ export class FolderTree {
   async makeHere() {
     const [name, above] = [nameInput(), this.value];
     const path = () => inFolder(above, clean(name.value));
-    const isDone = await ask({ title: t.newFolder, does: t.make, fields: { name: { label: t.name, field: name } },
+    const isDone = await ask({ title: t.newFolder, does: t.make, fields: [[t.name, name]],
       faultOf: () => nameFault(clean(name.value)), task: () => this.app.room.run("MKDIR", path()) });
     if (!isDone) return;
     const it = this.items.get(above);

@@ -2,15 +2,14 @@
 import { MOST_BYTES } from "./bytes.js";
 import { EXIST, orElse } from "./codes.js";
 import { ask } from "./dialogs.js";
-import { button, make } from "./dom.js";
+import { button, make, pickFiles } from "./dom.js";
 import { readFile, writeCopy, writeFile } from "./files.js";
 import { DEEPEST, sizeFault } from "./manifest.js";
 import { clean, shown } from "./names.js";
-import { makeLike, mayOverflow } from "./overflow.js";
-import { pickFiles } from "./pick.js";
 import { settle, tellFault } from "./notices.js";
-import { MAX_NAMES, MOST_THINGS, folderOf, inFolder, isTooLong, lastName, nameFault, namesOf, shortened,
-  withMark } from "./places.js";
+import { makeLike, mayOverflow } from "./overflow.js";
+import { MAX_NAMES, MOST_THINGS, besideIt, folderOf, inFolder, isTooLong, lastName, nameFault, namesOf, numbered,
+  pathOf, shortened } from "./places.js";
 import { forEach } from "./room.js";
 import { sizeWords, transferring } from "./transfers.js";
 import { t } from "./words.js";
@@ -20,7 +19,7 @@ const AT_ONCE = 3; // files; the pieces of each go beside each other too
 
 export function filesButton(words, how, chosen, label = words) {
   const { field, click } = pickFiles(label, how, chosen);
-  return make("span", {}, button(words, click, { "aria-label": label }), field);
+  return make("span", button(words, click, { "aria-label": label }), field);
 }
 
 /** What an entry of a drop has in it: files, and folders with `file` null. */
@@ -38,37 +37,34 @@ async function within(entry, above = []) {
 export async function dropped(data) {
   const items = [...data.items].filter((it) => it.kind === "file");
   const entries = items.map((it) => it.webkitGetAsEntry() ?? it.getAsFile());
-  const found = await Promise.all(entries.map((it) => (it instanceof File ? [{ names: [it.name], file: it }]
-    : within(it))));
-  return found.flat();
+  return (await Promise.all(entries.map((it) =>
+    (it instanceof File ? [{ names: [it.name], file: it }] : within(it))))).flat();
 }
 
 /** Why one of them cannot be sent into that folder, before anything is. */
 function faultOf({ names, file }, folder) {
   const depth = namesOf(folder).length + names.length;
+  const name = shown(names.join("/"));
   const fault = names.map(clean).map(nameFault).find((it) => it !== "") || (depth > MAX_NAMES ? t.pathLong(MAX_NAMES) :
     file?.size > MOST_BYTES && depth > DEEPEST ? t.tooDeep : "");
-  if (fault) return t.about(shown(names.join("/")), fault);
+  if (fault) return t.about(name, fault);
   const its = sizeFault(file?.size ?? 0);
-  return its ? `${shown(names.join("/"))} ${its}.` : "";
+  return its ? `${name} ${its}.` : "";
 }
 
 /** The same with names that the room takes: two that are alike then are told apart by a number. */
 function withShorter(chosen) {
-  const taken = new Map();
+  const taken = new Map(); // from the path that something had to the one that it gets
+  const isFree = (path) => ![...taken.values()].includes(path);
   const shorter = (above, name) => {
     if (!isTooLong(clean(name))) return name;
-    const key = [...above, name].join("/");
-    for (let count = 1; !taken.has(key); count += 1) {
-      const its = count > 1 ? withMark(clean(name), String(count)) : shortened(clean(name));
-      if (![...taken.values()].includes([...above, its].join("/"))) taken.set(key, [...above, its].join("/"));
-    }
-    return taken.get(key).split("/").at(-1);
+    const [key, its] = [pathOf([...above, name]), pathOf([...above, shortened(clean(name))])];
+    if (!taken.has(key)) taken.set(key, isFree(its) ? its : numbered(pathOf([...above, clean(name)]), isFree));
+    return lastName(taken.get(key));
   };
   return chosen.map(({ names, file }) => ({ names: names.map((it, at) => shorter(names.slice(0, at), it)), file }));
 }
 
-/** What an upload to these paths is, among all that is done. */
 const aboutOf = (room, ...paths) => `upload ${room.name} ${paths.join(" ")}`;
 const goalOf = (folder, names) => inFolder(folder, ...names.map(clean));
 
@@ -83,29 +79,17 @@ async function fitting(app, folder, chosen) {
     tellFault(t.nothingSent(told[0]), aboutOf(app.room, goalOf(folder, chosen[0].names)));
     return [];
   }
-  const others = fit.length ? { words: t.uploadOthers(fit.length), value: "fit" } : null;
-  const shorter = isLong ? { words: t.uploadShorter, value: "shorter" } : null;
-  const [first, ...rest] = [shorter, others].filter((it) => it);
-  const answer = await ask({ title: t.cannotUpload(told.length, chosen.length), words: listed(told), others: rest,
+  const [first, ...others] = [...isLong ? [{ words: t.uploadShorter, value: "shorter" }] : [],
+    ...fit.length ? [{ words: t.uploadOthers(fit.length), value: "fit" }] : []];
+  const answer = await ask({ title: t.cannotUpload(told.length, chosen.length), words: listed(told), others,
     does: first?.words ?? t.close });
   if (!answer || !first) return [];
   return (answer === true ? first.value : answer) === "fit" ? fit : fitting(app, folder, withShorter(chosen));
 }
 
-/** Some of many words, and how many more there are. */
-function listed(words) {
-  const more = words.length > MOST_TOLD ? [make("p", {}, t.andMore(words.length - MOST_TOLD))] : [];
-  return [make("ul", {}, ...words.slice(0, MOST_TOLD).map((it) => make("li", {}, it))), ...more];
-}
+const listed = (words) => [make("ul", words.slice(0, MOST_TOLD).map((it) => make("li", it))),
+  words.length > MOST_TOLD && make("p", t.andMore(words.length - MOST_TOLD))];
 
-/** Asks what to do with names that are there already: true to replace them, "both", "skip", or null. */
-function askAbout(clashes) {
-  return ask({ title: t.thereAlready(clashes.length),
-    words: listed(clashes.map(shown)), does: t.replaceThere,
-    others: [{ words: t.keepBoth, value: "both" }, { words: t.leaveOut, value: "skip" }] });
-}
-
-/** The names that are in each folder, asked once. */
 class Folders {
   constructor(room) {
     Object.assign(this, { room, asked: new Map() });
@@ -124,10 +108,8 @@ class Folders {
   /** A path that is free there, and not among those that are taken, as it is from now on. */
   async free(path, taken = new Set()) {
     const names = await this.names(folderOf(path));
-    let its = path;
-    for (let count = 2; names.has(lastName(its)) || taken.has(its); count += 1) {
-      its = inFolder(folderOf(path), withMark(lastName(path), String(count)));
-    }
+    const isFree = (it) => !names.has(lastName(it)) && !taken.has(it);
+    const its = isFree(path) ? path : numbered(path, isFree);
     taken.add(its);
     return its;
   }
@@ -135,31 +117,18 @@ class Folders {
 
 export const freePath = (room, path) => new Folders(room).free(path);
 
-async function clashesOf(wanted, folders) {
-  const found = [];
-  for (const it of wanted) {
-    if (it.file && (await folders.names(folderOf(it.path))).has(lastName(it.path))) found.push(it);
-  }
-  return found;
-}
-
-/** The folders that the files need, from the top down. */
 function foldersOf(wanted, folder) {
   const found = new Set();
   for (const { path, file } of wanted) {
     const names = namesOf(path).slice(0, file ? -1 : undefined);
-    for (let count = namesOf(folder).length + 1; count <= names.length; count += 1) {
-      found.add(inFolder("/", ...names.slice(0, count)));
-    }
+    for (let at = namesOf(folder).length; at < names.length; at += 1) found.add(pathOf(names.slice(0, at + 1)));
   }
   return [...found].sort((a, b) => namesOf(a).length - namesOf(b).length);
 }
 
-/** Each folder that would have more in it than it may, with its names. */
 async function overfull(wanted, folder, folders) {
   const inside = new Map();
-  const paths = [...foldersOf(wanted, folder), ...wanted.filter((it) => it.file).map((it) => it.path)];
-  for (const path of paths) {
+  for (const path of [...foldersOf(wanted, folder), ...wanted.filter((it) => it.file).map((it) => it.path)]) {
     const above = folderOf(path);
     if (!inside.has(above)) inside.set(above, new Set(await folders.names(above)));
     inside.get(above).add(lastName(path));
@@ -167,12 +136,11 @@ async function overfull(wanted, folder, folders) {
   return [...inside].filter(([, names]) => names.size > MOST_THINGS);
 }
 
-/** What became of what was there before these, in words. */
 function beforeWords(replaced) {
   const [one, ...others] = replaced;
   if (!one) return "";
-  const what = others.length ? t.countOf(replaced.length) : shown(lastName(one.path));
-  return t.tookPlace(what, one.kept && shown(lastName(one.kept)));
+  return t.tookPlace(others.length ? t.countOf(replaced.length) : shown(lastName(one.path)),
+    one.kept ? t.keptUnder(shown(lastName(one.kept))) : t.notKept);
 }
 
 async function sendAll(app, transfer, wanted, folder) {
@@ -181,8 +149,7 @@ async function sendAll(app, transfer, wanted, folder) {
   for (const { goal, like } of likes.filter((it) => it.like === folder)) await makeLike(room, goal, like);
   for (const path of foldersOf(wanted, folder)) await orElse(room.step("MKDIR", path), null, EXIST);
   for (const { goal, like } of likes.filter((it) => it.like !== folder)) await makeLike(room, goal, like);
-  const [start, files, isOne] = [performance.now(), wanted.filter((it) => it.file), wanted.length === 1];
-  const replaced = [];
+  const [files, isOne, replaced] = [wanted.filter((it) => it.file), wanted.length === 1, []];
   let [count, size] = [0, 0];
   await forEach(files, async (it) => {
     const { path, file, isNew } = it;
@@ -200,17 +167,19 @@ async function sendAll(app, transfer, wanted, folder) {
   const failed = files.length - count;
   if (failed && !isOne) transfer.title = t.someFailed(failed, files.length);
   if (failed && count === 0) return "";
-  const seconds = (performance.now() - start) / 1_000;
-  return t.uploaded(count, sizeWords(size), seconds.toFixed(1)) + beforeWords(replaced);
+  return t.uploaded(count, sizeWords(size), transfer.seconds) + beforeWords(replaced);
 }
 
-/** What is to be sent of what was chosen, and how, by the user's word. */
 async function wantedOf(app, folder, chosen) {
   const fit = await fitting(app, folder, chosen);
   const folders = new Folders(app.room);
   let wanted = fit.map(({ names, file }) => ({ path: goalOf(folder, names), file, isNew: true }));
-  const clashes = await clashesOf(wanted, folders);
-  const answer = clashes.length ? await askAbout(clashes.map((it) => it.path)) : true;
+  const isThere = await Promise.all(wanted.map(async ({ path, file }) =>
+    file && (await folders.names(folderOf(path))).has(lastName(path))));
+  const clashes = wanted.filter((_, at) => isThere[at]);
+  const answer = clashes.length === 0 || await ask({ title: t.thereAlready(clashes.length),
+    words: listed(clashes.map(({ path }) => shown(path))), does: t.replaceThere,
+    others: [{ words: t.keepBoth, value: "both" }, { words: t.leaveOut, value: "skip" }] });
   if (answer === null) return [];
   if (answer === "skip") wanted = wanted.filter((it) => !clashes.includes(it));
   const taken = new Set(wanted.map((it) => it.path));
@@ -231,26 +200,21 @@ export async function upload(app, folder, chosen) {
   }
 }
 
-/** Makes a copy of a file beside it, before it is replaced. Its path. */
 async function keepOld(room, path) {
-  const day = new Date().toISOString().slice(0, 10);
-  const beside = await freePath(room, inFolder(folderOf(path), withMark(lastName(path), t.before(day))));
+  const beside = await freePath(room, besideIt(path, t.before(new Date().toISOString().slice(0, 10))));
   return writeCopy(room, path, beside, await readFile(room, path));
 }
 
 /** Asks whether a file shall take the place of what is there. Whether it may; `kept` of it is where the old one is. */
 function askToReplace(app, wanted, mayKeep) {
   const { path, file } = wanted;
-  const words = t.takesPlace(shown(file.name), sizeWords(file.size));
-  const kept = { words: t.keepOld, value: true, task: async () => {
-    wanted.kept = await keepOld(app.room, path);
-  } };
-  return ask({ title: t.replaceTitle(shown(lastName(path))), does: t.replaceIt, words: make("p", {}, words),
-    others: mayKeep ? [kept] : [] });
+  const keep = async () => { wanted.kept = await keepOld(app.room, path); };
+  return ask({ title: t.replaceTitle(shown(lastName(path))), does: t.replaceIt,
+    words: make("p", t.takesPlace(shown(file.name), sizeWords(file.size))),
+    others: mayKeep ? [{ words: t.keepOld, value: true, task: keep }] : [] });
 }
 
-/** A new version of one file. `replaces` is null where nothing whole is there yet; `mayKeep` of it tells whether a copy
- * may lie beside it. */
+/** A new version. `replaces` is null where nothing whole is there yet; `mayKeep` of it allows a copy beside it. */
 export async function newVersion(app, path, [it], replaces) {
   const fault = faultOf({ ...it, names: [lastName(path)] }, folderOf(path));
   if (fault) return tellFault(t.nothingSent(fault), aboutOf(app.room, path));

@@ -14,8 +14,7 @@ async function turn() {
   if (ready > now) await new Promise((goOn) => setTimeout(goOn, ready - now));
 }
 
-/** No answer of the room came. Whether it acted is not known, and the very same message may be sent again; `isShut`:
- * not before somebody has logged in again, since each wrong login counts as a guess. */
+/** Whether it acted is not known. `isShut`: sent again only after a login, since each wrong one counts as a guess. */
 class NoAnswer extends Error {
   constructor(words, isShut = false) {
     super(words);
@@ -23,24 +22,17 @@ class NoAnswer extends Error {
   }
 }
 
-const isReply = (it) => typeof it === "object" && it !== null && Number.isInteger(it.code);
-
 function readReply(text) {
   try {
     const it = JSON.parse(text);
-    return isReply(it) ? it : null;
+    return Number.isInteger(it?.code) ? it : null;
   } catch {
     return null;
   }
 }
 
-function whyNoReply(status) {
-  if (status === 401) return t.loginGone;
-  if (status === 404) return t.roomGone;
-  if (status === 429) return t.tooMuch;
-  if (status >= 500) return t.restarting;
-  return t.status(status);
-}
+const whyNoReply = (status) =>
+  ({ 401: t.loginGone, 404: t.roomGone, 429: t.tooMuch }[status] ?? (status >= 500 ? t.restarting : t.status(status)));
 
 async function fetchText(url, how) {
   try {
@@ -53,7 +45,6 @@ async function fetchText(url, how) {
   }
 }
 
-/** What the room answers to one message. */
 async function exchange(url, body) {
   const headers = { "content-type": "application/json" };
   const { status, text } = await fetchText(url, { method: "POST", headers, body });
@@ -70,18 +61,16 @@ export async function untilAnswered(url, body, patience, before = () => {}) {
     for (let times = 1; ; times += 1) {
       before();
       await turn();
-      const reply = await exchange(url, body).catch(noAnswer);
-      if (!(reply instanceof NoAnswer)) return reply;
-      await waiting.wait(reply.message, times, reply.isShut);
+      try {
+        return await exchange(url, body);
+      } catch (fault) {
+        if (!(fault instanceof NoAnswer)) throw fault;
+        await waiting.wait(fault.message, times, fault.isShut);
+      }
     }
   } finally {
     waiting.over();
   }
-}
-
-function noAnswer(fault) {
-  if (fault instanceof NoAnswer) return fault;
-  throw fault;
 }
 
 /** A file of the front's, as text; null where it has none. */

@@ -2,13 +2,14 @@
 from club import of_user
 
 SHAPES = """const [done] = arguments;
-const shape = (it) => typeof it === 'function' ? `of ${it.length}` : it && typeof it === 'object' ?
-  Object.entries(it).map(([key, its]) => `${key} ${shape(its)}`).sort().join() : typeof it;
+const blanks = (it) => [...new Set([...it.matchAll(/{([0-9])/g)].map(([, at]) => at))].sort().join();
+const shape = (it) => it && typeof it === 'object' ?
+  Object.entries(it).map(([key, its]) => `${key} ${shape(its)}`).sort().join() : `${typeof it} ${blanks(it)}`;
 import('/words.js').then(async ({ LANGUAGES }) => {
   const tables = await Promise.all(Object.keys(LANGUAGES).map((it) => import(`/words.${it}.js`)));
   done(tables.map(({ t }) => Object.fromEntries(Object.entries(t).map(([key, it]) => [key, shape(it)])))); });"""
 HELP = ("const [done] = arguments; Promise.all(['en', 'de'].map((it) => import(`/help.${it}.js`)))"
-        ".then((all) => done(all.map((it) => it.help.length)))")
+        ".then((all) => done(all.map((it) => it.help.split('\\n').length)))")
 
 
 def lacking(club, differs):
