@@ -22,7 +22,6 @@ function knownNames(roster, entries) {
 }
 
 let isDetailed = false; // whether the editor is open, from one list to the next
-
 const ownOf = (list) => list.entries.filter((it) => !isInherited(it));
 const isSame = (one, other) => JSON.stringify(one) === JSON.stringify(other);
 

@@ -19,7 +19,6 @@ export const fromBase64 = (text) =>
 
 export const hexOf = (bytes) => [...bytes].map((it) => it.toString(16).padStart(2, "0")).join("");
 export const randomHex = (count) => hexOf(crypto.getRandomValues(new Uint8Array(count)));
-
 export const fromText = (text) => new TextEncoder().encode(text);
 
 /** The text that bytes are, or null where they are none to be shown; with `isStart` they may end within a letter. */

@@ -9,7 +9,6 @@ import { t } from "./words.js";
 
 const OUR_PIECE = /^[0-9]{3}$/; // as a version names them that is made here
 const MOST_KEPT = 40; // letters of a name that a mark follows
-
 const isFolder = async (room, path) => (await room.aside("STAT", path)).kind === FOLDER;
 const namesIn = async (room, path) => (await room.aside("LIST", path)).names;
 

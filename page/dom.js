@@ -20,7 +20,6 @@ export const button = (words, onclick, how = {}) =>
   make("button", { type: "button", onclick, ...typeof how === "string" ? { className: how } : how }, words);
 
 export const link = (href, ...words) => make("a", { href }, ...words);
-
 export const faultLine = (...words) => make("p.fault", ...words);
 
 export const onSubmit = (task) => (event) => {

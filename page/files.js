@@ -14,9 +14,7 @@ const TRIES = 5; // of a reader that meets one new version after another
 
 /** The transfer of who waits for no end and shows none. */
 export const NOBODY = { add() {}, check() {}, note() {}, fail() {}, overtaken: () => null };
-
 const bytesAt = async (room, path, more) => fromBase64((await room.aside("READ", path, more)).data);
-
 const manifestBytes = (room, path) => orElse(bytesAt(room, inFolder(path, form.NAME)), null, NOENT, ISDIR, NOTDIR);
 
 export async function manifestAt(room, path) {

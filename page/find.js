@@ -10,7 +10,6 @@ import { t } from "./words.js";
 
 const MOST = 500; // names that are shown
 const kept = new Map(); // each place's view, so that who comes back finds it
-
 const small = (name) => clean(name).toLowerCase();
 
 class Search {

@@ -8,7 +8,6 @@ import { nameAt } from "./trash.js";
 import { t } from "./words.js";
 
 const VIEWS = [["open", t.contents], ["access", t.share], ["who", t.whoMay]];
-
 const nameOf = (place, path) => (path === ROOT ? place.room : nameAt(path));
 
 function way(place, app) {

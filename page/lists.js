@@ -138,7 +138,6 @@ export function deciding(object, user, groups, { rights, allowed }) {
 const OF_FOLDERS = { view: [[VIEW, BOTH]], edit: [[EDIT, BOTH]],
   work: [[CHANGE & ~DELETE, 0], [CHANGE, BOTH | NOT_HERE]], all: [[ALL, BOTH]] };
 const OF_FILES = { view: [[VIEW, 0]], edit: [[EDIT, 0]], change: [[CHANGE, 0]], all: [[ALL, 0]] };
-
 export const presetsOf = (kind) => (kind === FOLDER ? OF_FOLDERS : OF_FILES);
 
 export const entriesOf = (name, whom, kind) => presetsOf(kind)[name].map(([mask, flag]) => {

@@ -4,7 +4,6 @@ import { tellIt } from "./notices.js";
 
 const EDGE = 8; // pixels that stay free beside it
 let open = null;
-
 export const isMenuOpen = () => open !== null;
 
 /** What an item is: a link, a choice of files (with the field that asks for them), or something to be done. */
@@ -86,7 +85,6 @@ class Menu {
 
 /** Opens a menu of `items`, `{words, does}`, `{words, href}` or `{words, files, chosen}`. */
 export const openMenu = (anchor, items, label, at) => new Menu(anchor, items, label, at).show();
-
 export const pointOf = (event) => ({ x: event.clientX, y: event.clientY });
 
 /** A button that opens a menu; `itemsOf` may ask the room for what is in it. */

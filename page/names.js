@@ -29,13 +29,11 @@ export const forDisk = (name) => partsOf(name).map((it) => (it.isMark ? "_" : it
 
 /** As it is sent: one way to write each letter, and no blanks at the ends. */
 export const clean = (name) => name.normalize("NFC").trim();
-
 const { compare } = new Intl.Collator(language, { numeric: true });
 
 /** The order in which people look for names: capitals do not count before others, and 2 stands before 10. */
 export const inOrder = (one, other) => compare(one, other) || (one < other ? -1 : 1);
 export const byName = ([one], [other]) => inOrder(one, other);
-
 let people = {};
 
 /** The users' names as people write them, where the front tells any. */

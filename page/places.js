@@ -5,14 +5,12 @@ import { t } from "./words.js";
 const MAX_NAME_BYTES = 64;
 export const MAX_NAMES = 16;
 export const MOST_THINGS = 256; // in a folder
-
 export const ROOT = "/";
 export const namesOf = (path) => path.split("/").filter((it) => it !== "");
 export const pathOf = (names) => `/${names.join("/")}`;
 export const inFolder = (folder, ...names) => pathOf([...namesOf(folder), ...names]);
 export const folderOf = (path) => pathOf(namesOf(path).slice(0, -1));
 export const lastName = (path) => namesOf(path).at(-1) ?? ROOT;
-
 export const isWithin = (path, folder) => path === folder || path.startsWith(`${folder}/`);
 
 /** The folders that a walk to the path goes through, from the root down. */
@@ -62,7 +60,6 @@ export function shortened(name, mark = "") {
 }
 
 const withMark = (name, words) => shortened(name, ` (${words})`);
-
 export const besideIt = (path, words) => inFolder(folderOf(path), withMark(lastName(path), words));
 
 /** Beside it, the first one with a number that will do. */

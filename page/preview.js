@@ -57,11 +57,9 @@ const PICTURES = [
   ["image/webp", [0x52, 0x49, 0x46, 0x46, null, null, null, null, 0x57, 0x45, 0x42, 0x50], pixelsOfWebp],
 ];
 const PDF = ["application/pdf", [0x25, 0x50, 0x44, 0x46, 0x2d]];
-
 const begins = (bytes, [, start]) => start.every((it, at) => it === null || it === bytes[at]);
 export const isPdf = (bytes) => begins(bytes, PDF);
 const pictureOf = (bytes) => PICTURES.find((it) => begins(bytes, it));
-
 export const canShow = (start) => Boolean(pictureOf(start)) || isPdf(start) || toText(start, true) !== null;
 
 /** How many pixels a picture has by its head, which may be more than memory takes; 0 of none, Infinity of a cut one. */

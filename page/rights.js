@@ -5,7 +5,6 @@ export const FILE = "file";
 export const FOLDER = "folder";
 export const LARGE = "large"; // a document in pieces, whose list is that of the folder that holds them
 export const UNFINISHED = "unfinished"; // one whose first version was never whole
-
 export const [READ, WRITE, APPEND, ADD_FILE, ADD_FOLDER] = [0x1, 0x2, 0x4, 0x2, 0x4];
 export const [PASS_THROUGH, DELETE_CHILD, DELETE, READ_LIST] = [0x20, 0x40, 0x10000, 0x20000];
 export const OF_OWNERS = 0x60000; // to see its list and to change it, which an owner always may

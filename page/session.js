@@ -10,7 +10,6 @@ const ASIDE = 6; // how many requests go beside each other: as many as a browser
 const FALSE_RETRY = 23;
 const NOT_KEPT = 25;
 const OWN_REFUSALS = new Set([20, 21, 22, 23, 24, 25]); // of the session, slot or number, and not of the request
-
 const fresh = () => ({ name: randomHex(16), isOpen: false });
 const read = (key) => JSON.parse(localStorage.getItem(key));
 const write = (key, it) => localStorage.setItem(key, JSON.stringify(it));

@@ -1,7 +1,6 @@
 /** Where the page stands: what was done somewhere leaves the reader there. */
 
 const seen = new Map(); // how far each place was scrolled when it was left
-
 const part = (id) => document.getElementById(id);
 const wordsOf = (it) => it.getAttribute("aria-label") ?? it.textContent;
 const within = () => [...part("main").querySelectorAll("a, button, input, select, summary")];

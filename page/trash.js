@@ -15,7 +15,6 @@ function placesFor(user) {
 }
 
 export const isInTrash = (path) => isWithin(path, TRASH);
-
 export const isTrash = (path) => isInTrash(path) && placesFor(lastName(path)).includes(path);
 export const isOwnTrash = ({ user }, path) => placesFor(user).includes(path);
 

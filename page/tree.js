@@ -13,7 +13,6 @@ import { t } from "./words.js";
 
 const LIKE_FILE = /\.[^.]{1,5}$/; // of such folders it is asked whether they are large files
 const MOST_RECENT = 4;
-
 const recentKey = (app) => `fileroom/recent/${app.user}/${app.room.name}`;
 const recentOf = (app) => JSON.parse(localStorage.getItem(recentKey(app)) ?? "[]");
 

@@ -3,7 +3,6 @@ import { t } from "./words.js";
 
 const WAIT = 30_000; // milliseconds for an answer
 const DELAY = 30; // the code of 'later': the message did nothing
-
 const STEP = 10.2; // milliseconds a request: the front takes 100 of a login each second, and some 200 at once
 const BURST = 150;
 let ready = 0; // when the next request may go

@@ -2,7 +2,6 @@
 
 export const t = {
   and: "und", bytes: "{0} {0|Byte|Bytes}", allThings: "{0} {0|Ding|Dinge}", ofAll: "{0} von {1}",
-
   // the frame
   room: "Raum", skip: "Zur Liste", help: "Hilfe", howItWorks: "Wie es geht", logOut: "Abmelden", logIn: "Anmelden",
   close: "Schließen", cancel: "Abbrechen", loading: "Wird geladen …", underWayLabel: "Die laufende Anfrage",
@@ -16,7 +15,6 @@ export const t = {
   loggedOut: "Sie sind abgemeldet", notLoggedOut: "Nicht abgemeldet",
   forgotten: "Dieser Browser hat Ihre Anmeldung vergessen. Was Sie heruntergeladen haben, ist noch auf diesem Rechner.",
   notForgotten: "Der Server nimmt Ihre Anmeldung noch an: schließen Sie alle Fenster dieses Browsers.",
-
   // requests
   gaveUp: "Aufgegeben. Ob es getan wurde, ist nicht bekannt: sehen Sie nach, bevor Sie es wiederholen.",
   waits: "{0} {1|Die Anfrage ist|{1} Anfragen sind} aufbewahrt und {1|wird|werden} gesendet, bis eine Antwort kommt. " +
@@ -34,7 +32,6 @@ export const t = {
   leftAt: "Ein Hochladen, Kopieren oder Entfernen von {0} lief, als die Seite endete, und ist nicht fertig. Sehen " +
     "Sie nach, was da ist, und tun Sie es noch einmal.",
   about: "{0}: {1}",
-
   // refusals of the room, by their codes
   refusals: {
     1: "Unter diesem Pfad ist nichts. Sehen Sie im Ordner darüber nach: es wurde vielleicht umbenannt oder entfernt.",
@@ -59,7 +56,6 @@ export const t = {
   askOwner: "Fragen Sie {0}, dem es gehört, oder wer sonst die Liste ändern darf.",
   askAbove: "Fragen Sie, wem es gehört, oder {0}, dem der Ordner darüber gehört.",
   askAnyOwner: "Fragen Sie, wem es gehört, oder wer sonst die Liste ändern darf.",
-
   // names
   blank: "leer", notComposed: "nicht zusammengesetzt", nameWanted: "Es fehlt ein Name; . und .. sind keine.",
   nameLetters: "Ein Name hat kein / und kein Steuerzeichen.",
@@ -67,11 +63,9 @@ export const t = {
     "zählen doppelt oder mehr.",
   pathBegins: "Ein Pfad beginnt mit /.", shorten: "Kürzen zu {0}", pathLong: "Ein Pfad hat höchstens {0} Namen.",
   copyOf: "Kopie von {0}", before: "vor {0}",
-
   // dialogs
   unsaved: "Was Sie geschrieben haben, ist nicht gespeichert.", typeOn: "Weiterschreiben", discard: "Verwerfen",
   leave: "Hier weggehen?", working: "Läuft …", showThem: "Alle zeigen",
-
   // rights: with a document, with a folder, with a large file
   rights: {
     0x1: ["lesen", "sehen, was darin ist"],
@@ -99,7 +93,6 @@ export const t = {
     unknown: ["?", "Sie dürfen diese Liste nicht sehen, es ist also nicht bekannt"],
   },
   sets: { view: "ansehen", edit: "bearbeiten", change: "ändern", all: "alles tun" },
-
   // lists in words
   whom: { "": "noch niemand", "EVERYONE@": "alle", "OWNER@": "sein Eigentümer", "GROUP@": "seine Gruppe",
     user: "Benutzer", group: "Gruppe" },
@@ -108,7 +101,6 @@ export const t = {
   doNothing: "nichts tun", ruling: "{0|Verboten|Erlaubt} für {1}: {2}.", countsNowhere: "Gilt nirgends.",
   countsHere: "Gilt nur hier.", children: ["Dokumente", "Ordner"],
   handsDown: "{0|Gilt hier und|Gilt hier nicht,} für {1} darin{2| und weiter unten|, weiter unten nicht}.",
-
   // sharing
   sharedWith: "Freigegeben für", sharedWithNone: "Durch diese Liste hat noch niemand etwas davon.",
   presets: { view: "ansehen", edit: "bearbeiten und hinzufügen", work: "darin arbeiten", change: "ändern und entfernen",
@@ -133,7 +125,6 @@ export const t = {
   stillShut: "Ein Verbot steht davor: für {0} gibt es noch keinen Weg. Siehe: Wer darf was.",
   allCan: "Geprüft: {0} – der Weg ist frei, und die Rechte gelten.",
   cannot: "Nicht alle kommen hin oder dürfen es: {0}.",
-
   // the editor of lists
   allow: "Erlaubt", deny: "Verboten", allowOrDeny: "Erlaubt oder verboten", whomLabel: "Für wen", nameLabel: "Name",
   rightsLabel: "Rechte", to: ":", chosenBelow: "was unten gewählt ist",
@@ -160,7 +151,6 @@ export const t = {
     "ist verboten. Wer an {0|diesen Ordner|dieses Dokument} kommen will, muss auch durch jeden Ordner darüber " +
     "hindurch dürfen.",
   nobodyKnows: "Der Raum hält nicht fest, wer es war.",
-
   // the matrix
   whyEntries: " Durch die Einträge: {0}", noEntry: " Kein Eintrag ist für {0}.",
   ownersAlways: " Ein Eigentümer darf die Liste immer sehen und ändern.", mayUnknown: "Was {0} mit {1} darf: {2}.",
@@ -174,7 +164,6 @@ export const t = {
   noGroup: "in keiner Gruppe", haveLevel: "{0}: {1} ({2}).",
   narrow: "Benutzer und Gruppen, deren Name diese Buchstaben hat ({0}{1} Benutzern, {2} Gruppen)",
   shownOf: "{0} zu sehen von ",
-
   // what is shown of an object
   owned: "Eigentümer {0}, Gruppe {1}", inIt: "{0} darin", folder: "Ordner", document: "Dokument",
   failedOf: "{0} von {1} nicht gelungen", unfinished: "unfertig hochgeladen",
@@ -195,7 +184,6 @@ export const t = {
   noPicture: "Dieses Bild lässt sich nicht zeigen. Laden Sie es herunter.",
   openPdf: "Dieses PDF in einem eigenen Fenster öffnen", emptyDocument: "Dieses Dokument ist leer.",
   beginning: "Das ist der Anfang. Laden Sie es herunter, um alles zu lesen.",
-
   // what is done with an object
   new: "Neu", upload: "Hochladen", share: "Freigeben", undo: "Rückgängig",
   undone: "{0} {1|ist|sind} wieder am alten Platz.", newFolder: "Neuer Ordner", newDocument: "Neues Dokument",
@@ -215,7 +203,6 @@ export const t = {
   keepCopy: "Meines als Kopie behalten", theirsStands: "Das andere bleibt, wie es ist.",
   theirsNow: "Das andere, wie es jetzt ist", theirBytes: "Das sind Bytes, die kein Text sind.",
   goOnWithMine: "Mit meinem weitermachen", isNow: "{0} {2|ist|sind} jetzt {1}.",
-
   // move, copy, remove
   toFolder: "In den Ordner ", folderTree: "Ordner", recent: "Zuletzt:", newFolderHere: "Hier neuer Ordner",
   isDocument: "Das ist ein Dokument.", put: "Ablegen",
@@ -249,7 +236,6 @@ export const t = {
   downloadTitle: "Herunterladen von {0}", downloaded: "{0}: {1} in {2} Sekunden.", zipTitle: "Zip von {0}",
   shutInZip: "{0} ist darin leer: Sie dürfen nicht hineinsehen.", notInZip: "{0} ist nicht darin. {1}",
   zipMade: "{0}.zip ist gemacht, aus {1} {2|Ding|Dingen}.", zipFull: "Das ist mehr, als ein zip fasst.",
-
   // uploads and large files
   tooLarge: "hat {0} MiB, und {1} MiB sind das meiste", nothingSent: "{0} Nichts wurde gesendet.",
   notSent: "{0} {1}. Es wurde nicht gesendet.", cannotUpload: "{0} von {1} lassen sich nicht hochladen",
@@ -282,7 +268,6 @@ export const t = {
   otherFirst: "Eine andere Fassung von {0} kam zuerst.", otherStands: "Die andere Fassung von {0} bleibt.",
   otherBehind: "Eine andere Fassung von {0} kam gleich nach Ihrer und bleibt.",
   changedMeanwhile: "Jemand hat es inzwischen geändert.", isLeft: "Vom Hochladen nach {0} blieb ein Rest",
-
   // search
   search: "Suchen", stop: "Anhalten", stopped: "Angehalten.", lettersBelow: "Buchstaben eines Namens unter {0}",
   found: "{0} gefunden unter {1} Namen.", shutIn: " In {0} dürfen Sie nicht hineinsehen.",

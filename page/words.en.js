@@ -2,7 +2,6 @@
 
 export const t = {
   and: "and", bytes: "{0} {0|byte|bytes}", allThings: "{0} {0|thing|things}", ofAll: "{0} of {1}",
-
   // the frame
   room: "Room", skip: "To the list", help: "Help", howItWorks: "How it works", logOut: "Log out", logIn: "Log in",
   close: "Close", cancel: "Cancel", loading: "Loading …", underWayLabel: "The request under way",
@@ -15,7 +14,6 @@ export const t = {
   loggedOut: "You are logged out", notLoggedOut: "Not logged out",
   forgotten: "This browser has forgotten your login. What you downloaded is still on this machine.",
   notForgotten: "The front still takes your login: close all windows of this browser.",
-
   // requests
   gaveUp: "Given up. Whether it was done is not known: look before you do it again.",
   waits: "{0} {1|The request is|{1} requests are} kept, and sent again until {1|it is|they are} answered. Tried {2} " +
@@ -30,7 +28,6 @@ export const t = {
   leftAt: "An upload, a copy or a removal of {0} was under way as the page ended, and is not whole. Look at what is " +
     "there, and do it again.",
   about: "{0}: {1}",
-
   // refusals of the room, by their codes
   refusals: {
     1: "There is nothing at this path. Look at the folder above: it may have been renamed or removed.",
@@ -54,18 +51,15 @@ export const t = {
   askOwner: "Ask its owner, {0}, or whoever may change its list.",
   askAbove: "Ask its owner, or {0}, who owns the folder above.",
   askAnyOwner: "Ask its owner, or whoever may change its list.",
-
   // names
   blank: "blank", notComposed: "not composed", nameWanted: "A name is wanted, other than . and ..",
   nameLetters: "A name has no / and no control character.",
   nameLong: "This name counts as {0} letters, and 64 are the most: letters with accents count double or more.",
   pathBegins: "A path begins with /.", shorten: "Shorten it to {0}", pathLong: "A path has at most {0} names.",
   copyOf: "copy of {0}", before: "before {0}",
-
   // dialogs
   unsaved: "What you typed is not saved.", typeOn: "Go on typing", discard: "Discard it", leave: "Leave this?",
   working: "Under way …", showThem: "Show them",
-
   // rights: with a document, with a folder, with a large file
   rights: {
     0x1: ["read it", "see what is in it"],
@@ -93,7 +87,6 @@ export const t = {
     several: ["view / edit", "not the same for all of the group, most first: press the cell, or open the group"],
   },
   sets: { view: "view", edit: "edit", change: "change", all: "do all" },
-
   // lists in words
   whom: { "": "nobody yet", "EVERYONE@": "everyone", "OWNER@": "its owner", "GROUP@": "its group", user: "the user",
     group: "the group" },
@@ -103,7 +96,6 @@ export const t = {
   countsHere: "Counts here alone.", children: ["documents", "folders"],
   handsDown: "{0|Counts here, and is|Does not count here, but is} handed down to {1} in it{2|, and further down|, " +
     "and no further}.",
-
   // sharing
   sharedWith: "Shared with", sharedWithNone: "Nobody has anything of it by this list yet.",
   presets: { view: "view", edit: "edit, and add to it", work: "work in it", change: "change, and remove it",
@@ -125,7 +117,6 @@ export const t = {
   leaveSo: "Leave it so", others: "{0} {0|other|others}",
   stillShut: "An entry that denies stands before: {0} cannot get there yet. See who may do what.",
   allCan: "Checked: {0} can get there, and do it.", cannot: "Not all can get there, or do it: {0}.",
-
   // the editor of lists
   allow: "Allow", deny: "Deny", allowOrDeny: "Allow or deny", whomLabel: "Whom", nameLabel: "Name",
   rightsLabel: "Rights", to: "to", chosenBelow: "do what is chosen below",
@@ -149,7 +140,6 @@ export const t = {
   aboutList: "For each right, the first entry that names it and the person decides; what no entry decides is denied. " +
     "To get at this {0|folder|document} one must also pass through each folder above it.",
   nobodyKnows: "The room keeps no record of who it was.",
-
   // the matrix
   whyEntries: " By its entries: {0}", noEntry: " No entry of it is for {0}.",
   ownersAlways: " An owner may always see the list and change it.", mayUnknown: "What {0} may do with {1}: {2}.",
@@ -162,7 +152,6 @@ export const t = {
   chooseCell: "Choose a cell to read it in words.", showMore: "Show more of the {0} objects that are left",
   noGroup: "in no group", haveLevel: "{0}: {1} ({2}).",
   narrow: "Users and groups whose name has these letters ({0}{1} users, {2} groups)", shownOf: "{0} shown of ",
-
   // what is shown of an object
   owned: "owner {0}, group {1}", inIt: "{0} in it", folder: "folder", document: "document",
   failedOf: "{0} of {1} failed", unfinished: "unfinished upload", emptyFolder: "Nothing is in this folder.",
@@ -181,7 +170,6 @@ export const t = {
   noText: "This is no text that can be shown. Download it to look at its bytes.",
   noPicture: "This picture cannot be shown. Download it to look at it.", openPdf: "Open this PDF in a tab of its own",
   emptyDocument: "This document is empty.", beginning: "This is its beginning. Download it to read all.",
-
   // what is done with an object
   new: "New", upload: "Upload", share: "Share", undo: "Undo", undone: "{0} {1|is|are} where {1|it was|they were}.",
   newFolder: "New folder", newDocument: "New document", uploadFiles: "Upload files", uploadFolder: "Upload a folder",
@@ -199,7 +187,6 @@ export const t = {
   keptAs: "Yours is kept as {0}.", documentChanged: "Somebody changed this document meanwhile",
   keepCopy: "Keep mine as a copy", theirsStands: "Theirs stands as it is.", theirsNow: "Theirs, as it is now",
   theirBytes: "These are bytes that are no text.", goOnWithMine: "Go on with mine", isNow: "{0} {2|is|are} now {1}.",
-
   // move, copy, remove
   toFolder: "To the folder ", folderTree: "Folders", recent: "Recent:", newFolderHere: "New folder here",
   isDocument: "This is a document.", put: "Put",
@@ -232,7 +219,6 @@ export const t = {
   downloadTitle: "Download of {0}", downloaded: "{0}: {1} in {2} seconds.", zipTitle: "Zip of {0}",
   shutInZip: "{0} is empty in it: you may not look into it.", notInZip: "{0} is not in it. {1}",
   zipMade: "{0}.zip is made, of {1} {2|thing|things}.", zipFull: "This is more than a zip can hold.",
-
   // uploads and large files
   tooLarge: "has {0} MiB, and {1} MiB is the most", nothingSent: "{0} Nothing was sent.",
   notSent: "{0} {1}. It was not sent.", cannotUpload: "{0} of {1} cannot be uploaded",
@@ -262,7 +248,6 @@ export const t = {
   otherFirst: "Somebody else's version of {0} came first.", otherStands: "The other version of {0} stands.",
   otherBehind: "Somebody else's version of {0} came right behind yours, and stands.",
   changedMeanwhile: "Somebody changed it meanwhile.", isLeft: "Something is left of the upload to {0}",
-
   // search
   search: "Search", stop: "Stop", stopped: "Stopped.", lettersBelow: "Letters of a name below {0}",
   found: "{0} found among {1} {1|name|names}.", shutIn: " You may not look into {0}.",

@@ -3,7 +3,6 @@
 export const LANGUAGES = { en: "English", de: "Deutsch" };
 const KEPT = "fileroom/language";
 const CHOICE = /\{(\d)\|((?:[^{}|]|\{\d\})*)\|((?:[^{}]|\{\d\})*)\}/g;
-
 const asked = [localStorage.getItem(KEPT), ...navigator.languages.map((it) => it.split("-")[0])];
 export const language = asked.find((it) => Object.hasOwn(LANGUAGES, it ?? "")) ?? "en";
 const { t: table } = await import(`./words.${language}.js`);
