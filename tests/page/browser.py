@@ -163,7 +163,10 @@ class Browser:
 
     def sees(self, text, where="body"):
         """Waits until that text is shown. The texts in `where` are what it looks at."""
-        look = ("return [...document.querySelectorAll(arguments[0])].filter((it) => it.checkVisibility())"
-                ".map((it) => it.innerText).join('\\n')")
-        self.until(text, lambda: text in self.script(look, where))
+        self.until(text, lambda: text in self.text_of(where))
         return True
+
+    def text_of(self, where):
+        """What is shown there."""
+        return self.script("return [...document.querySelectorAll(arguments[0])].filter((it) => it.checkVisibility())"
+                           ".map((it) => it.innerText).join('\\n')", where)

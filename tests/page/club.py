@@ -2,6 +2,7 @@
 import base64
 import json
 import os
+import time
 
 from browser import Browser
 from lossy import Lossy
@@ -9,6 +10,7 @@ from nginx import Front
 from served import HERE, Line, Room, session, slot
 
 PAGE = os.path.join(HERE, "..", "page")
+A_MINUTE = 60  # seconds
 USERS = {"ann": ["eng"], "bob": ["eng", "staff"], "eve": []}
 
 
@@ -40,10 +42,20 @@ class Club:
         return f"http://{login}127.0.0.1:{self.port}/{place}"
 
     def log_in(self, user):
+        self.browser.until(f"the login of {user}", lambda: self.is_logged_in(user))
+
+    def is_logged_in(self, user):
+        """Whether the page is that user's, after a minute at the latest. (On a busy machine Chromium once stayed with the
+        login of before: it then goes once more.)"""
         # (an address that is new to the browser: a page from its cache would ask for no password)
         self.logins += 1
         self.browser.go(self.address(f"?{self.logins}", user))
-        self.browser.sees(user, "#user")
+        end = time.monotonic() + A_MINUTE
+        while time.monotonic() < end:
+            if user in self.browser.text_of("#user"):
+                return True
+            time.sleep(0.03)
+        return False
 
     def go(self, place):
         """Goes to a place of the page, and waits until it is shown."""
