@@ -45,8 +45,8 @@ class Club:
         self.browser.until(f"the login of {user}", lambda: self.is_logged_in(user))
 
     def is_logged_in(self, user):
-        """Whether the page is that user's, after a minute at the latest. (On a busy machine Chromium once stayed with the
-        login of before: it then goes once more.)"""
+        """Whether the page is that user's, after a minute at the latest. (On a busy machine Chromium once stayed with
+        the login of before: it then goes once more.)"""
         # (an address that is new to the browser: a page from its cache would ask for no password)
         self.logins += 1
         self.browser.go(self.address(f"?{self.logins}", user))
