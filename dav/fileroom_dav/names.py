@@ -1,0 +1,100 @@
+"""Paths: of a URL, and of a room. What a request names is looked at here before anybody is asked."""
+import re
+from urllib.parse import quote, unquote_to_bytes, urlsplit
+
+from room_client.manifest import PART, is_hidden
+from room_client.words import neat
+
+from .faults import Answered
+
+BASE = "/dav/"
+ROOM = re.compile("[A-Za-z0-9_-]{1,32}")
+CONTROLS = re.compile("[\x00-\x1f\x7f-\x9f]")
+MOST_NAMES, MOST_BYTES = 16, 64
+# What Finder and Explorer lay beside each file, and nobody looks at.
+PASSING = re.compile(r"\._.*|\.DS_Store|\.Spotlight-V100|\.TemporaryItems|\.Trashes|\.fseventsd|\.hidden|"
+                     r"\.metadata_never_index.*|desktop\.ini|Thumbs\.db", re.DOTALL | re.IGNORECASE)
+# What office programs lay beside a document while it is open: it goes for good, and not to the trash.
+SHORT_LIVED = re.compile(r"\.~lock\..*#|~\$.*|.*\.tmp|~WRL.*|\.~.*|.*~", re.DOTALL | re.IGNORECASE)
+
+
+def split_target(raw: bytes) -> tuple[str | None, str]:
+    """The room that a URL's path names, whose escapes were read once, or None above the rooms, and the path in it. What
+    has `.` or `..` in it, or is no UTF-8, names nothing."""
+    try:
+        path = raw.decode()
+    except UnicodeDecodeError:
+        raise Answered(400, "the address is no UTF-8") from None
+    if not path.startswith(BASE):
+        if path in ("", "/", BASE.rstrip("/")):
+            return None, "/"
+        raise Answered(404, f"rooms are below {BASE}")
+    names = [it for it in path.removeprefix(BASE).split("/") if it]
+    if any(it in (".", "..") for it in names):
+        raise Answered(400, "the address has . or .. in it")
+    if not names:
+        return None, "/"
+    if not ROOM.fullmatch(names[0]):
+        raise Answered(404, f"no room has the name {names[0]}")
+    return names[0], "/" + "/".join(names[1:])
+
+
+def split_destination(field: str, host: str) -> tuple[str | None, str]:
+    """The same of a field Destination, which may name this server alone."""
+    try:
+        parts = urlsplit(field)
+    except ValueError:
+        raise Answered(400, "the field Destination is no URL") from None
+    if parts.netloc and parts.netloc.lower() != host.lower():
+        raise Answered(502, "the destination is another server")
+    return split_target(unquote_to_bytes(parts.path))
+
+
+def href(room: str, path: str, is_folder: bool) -> str:
+    end = "/" if is_folder and path != "/" else ""
+    return quote(f"{BASE}{room}{path}{end}", safe="/~!$'()*,;:@=+")
+
+
+def last(path: str) -> str:
+    return path.rpartition("/")[2]
+
+
+def above(path: str) -> str:
+    return path.rpartition("/")[0] or "/"
+
+
+def below(path: str, name: str) -> str:
+    return f"{path.rstrip('/')}/{name}"
+
+
+def is_below(path: str, top: str) -> bool:
+    return path != top and (top == "/" or path.startswith(top + "/"))
+
+
+def is_possible(path: str) -> bool:
+    """Whether something may be there: what cannot is not asked for."""
+    names = path.split("/")[1:] if path != "/" else []
+    return len(names) <= MOST_NAMES and all(
+        0 < len(it.encode()) <= MOST_BYTES and not CONTROLS.search(it) and not is_hidden(it) for it in names)
+
+
+def spellings(path: str) -> list[str]:
+    """What a path may be in the room: as it was given, or as it would have been made."""
+    return [it for it in dict.fromkeys([path, neat(path)]) if is_possible(it)]
+
+
+def for_making(path: str) -> str:
+    """The path of what is made."""
+    made = neat(path)
+    if made == "/" or last(made).startswith(PART) or not is_possible(made):
+        raise Answered(403, f"{made}: a name has 1 to 64 bytes of UTF-8 and no control characters, does not begin with "
+                            f"{PART}, and a path has at most 16 names")
+    return made
+
+
+def is_passing(path: str) -> bool:
+    return path != "/" and PASSING.fullmatch(last(neat(path))) is not None
+
+
+def is_short_lived(path: str) -> bool:
+    return SHORT_LIVED.fullmatch(last(path)) is not None

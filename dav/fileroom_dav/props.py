@@ -1,0 +1,96 @@
+"""PROPFIND, PROPPATCH, and the properties that a thing has."""
+import mimetypes
+from email.utils import formatdate
+
+from . import bodies
+from .asked import Asked, Reply
+from .bodies import DAV
+from .faults import Answered
+from .locks import Lock
+from .names import href
+from .rules import Rules
+from .tree import Thing, listed, shown
+from .visit import Visit
+
+XML = ("Content-Type", "application/xml; charset=utf-8")
+SUMS = {DAV + "getetag", DAV + "getlastmodified"}
+TAKEN = "{urn:schemas-microsoft-com:}"  # times and attributes, which Explorer sets behind each file: they are forgotten
+SCOPES = "".join(f"<D:lockentry><D:lockscope><D:{it}/></D:lockscope><D:locktype><D:write/></D:locktype></D:lockentry>"
+                 for it in ("exclusive", "shared"))
+KINDS = mimetypes.MimeTypes(filenames=())  # (what this machine has in its files is not looked at)
+
+
+def kind_of(path: str) -> str:
+    return KINDS.guess_type(path, strict=False)[0] or "application/octet-stream"
+
+
+def active(lock: Lock) -> str:
+    scope, depth = "shared" if lock.is_shared else "exclusive", "infinity" if lock.is_deep else "0"
+    owner = f"<D:owner>{lock.owner}</D:owner>" if lock.owner else ""
+    return (f"<D:activelock><D:locktype><D:write/></D:locktype><D:lockscope><D:{scope}/></D:lockscope>"
+            f"<D:depth>{depth}</D:depth>{owner}<D:timeout>Second-{lock.seconds}</D:timeout>"
+            f"<D:locktoken><D:href>{lock.token}</D:href></D:locktoken>"
+            f"<D:lockroot><D:href>{bodies.text(href(lock.room, lock.path, False))}</D:href></D:lockroot>"
+            "</D:activelock>")
+
+
+def properties(its: Thing, locks: list[Lock], time: int | None) -> dict[str, str]:
+    """Each property's name, and what is in its element. Only the caller's own locks are among them."""
+    found = {DAV + "resourcetype": "<D:collection/>" if its.is_folder else "",
+             DAV + "supportedlock": SCOPES, DAV + "lockdiscovery": "".join(map(active, locks))}
+    if its.is_folder:
+        return found
+    found[DAV + "getcontenttype"] = bodies.text(kind_of(its.path))
+    if its.size is not None:
+        found[DAV + "getcontentlength"] = str(its.size)
+    if its.etag:
+        found[DAV + "getetag"] = bodies.text(its.etag)
+    if time is not None:
+        found[DAV + "getlastmodified"] = formatdate(time, usegmt=True)
+    return found
+
+
+def told_of(wanted: list[str] | str, found: dict[str, str]) -> str:
+    if wanted == "allprop":
+        return bodies.propstat(200, "".join(bodies.element(it, found[it]) for it in found))
+    if wanted == "propname":
+        return bodies.propstat(200, "".join(map(bodies.element, found)))
+    has = "".join(bodies.element(it, found[it]) for it in dict.fromkeys(wanted) if it in found)
+    lacks = "".join(bodies.element(it) for it in dict.fromkeys(wanted) if it not in found)
+    return (bodies.propstat(200, has) if has or not lacks else "") + (bodies.propstat(404, lacks) if lacks else "")
+
+
+def propfind(gate, visit: Visit, asked: Asked) -> Reply:
+    wanted = bodies.propfind_of(asked.body(bodies.MOST_BYTES))
+    if asked.depth == "infinity":
+        raise Answered(403, "ask for one folder at a time (Depth 0 or 1)", "propfind-finite-depth")
+    wants_sums = wanted == "allprop" or bool(SUMS & set(wanted))
+    if asked.depth == "1":
+        top, inside = listed(visit, asked.path, wants_sums, gate.memory, asked.room)
+    else:
+        top, inside = shown(visit, asked.path), []
+    things = [top, *inside]
+    times = gate.seen.times(asked.room, {it.path: it.sum for it in things if it.sum}) if wants_sums else {}
+    mine = [it for it in gate.locks.of(asked.room) if it.user == asked.user]
+    told = []
+    for it in things:
+        found = properties(it, [lock for lock in mine if lock.covers(it.path)], times.get(it.path))
+        told.append(bodies.response(href(asked.room, it.path, it.is_folder), told_of(wanted, found)))
+    return Reply(207, bodies.multistatus(told), [XML])
+
+
+def proppatch(gate, visit: Visit, asked: Asked) -> Reply:
+    """The room has no place for properties. What Explorer sets is taken, or it would report each file as failed."""
+    names = list(dict.fromkeys(bodies.proppatch_of(asked.body(bodies.MOST_BYTES))))
+    its = shown(visit, asked.path)
+    rules = Rules(visit, asked, gate.locks)
+    rules.need()
+    rules.need_free(its.path)
+    rules.need_right(its.path)
+    refused = [it for it in names if not it.startswith(TAKEN)]
+    taken = [it for it in names if it.startswith(TAKEN)]
+    inside = bodies.propstat(403, "".join(map(bodies.element, refused))) if refused else ""
+    if taken:
+        inside += bodies.propstat(424 if refused else 200, "".join(map(bodies.element, taken)))
+    inside = inside or bodies.propstat(200, "")
+    return Reply(207, bodies.multistatus([bodies.response(href(asked.room, its.path, its.is_folder), inside)]), [XML])

@@ -1,0 +1,106 @@
+"""What has to hold before something is done: If, If-Match, If-None-Match, and that nobody else has a lock."""
+import re
+
+from room_client.faults import Refused
+
+from . import locks as form
+from .asked import Asked
+from .faults import Answered, is_refused
+from .locks import Condition, Locks
+from .names import above, spellings, split_destination
+from .tree import Thing, opened
+from .visit import Visit
+
+WRITE = 0x2  # on a folder: to add a document
+ALL_BELOW = WRITE | 0x4 | 0x40  # on a folder: to add what one likes, and to take away what is in it
+TAGS = re.compile(r'(?:W/)?"[^"]*"')
+
+
+class Rules:
+    """Of one request: what the caller says has to hold, and which locks they name."""
+
+    def __init__(self, visit: Visit, asked: Asked, locks: Locks):
+        self.visit, self.asked, self.locks = visit, asked, locks
+        told = asked.field("If")
+        self.conditions = form.conditions_of(told) if told else []
+        self.tokens = form.tokens_of(self.conditions)
+        self.tags: dict[str, str | None] = {}
+
+    def tag(self, path: str) -> str | None:
+        """Of what is at a path, `""` where it has none, or None where nothing is there."""
+        if path not in self.tags:
+            try:
+                self.tags[path] = opened(self.visit, path).etag or ""
+            except Answered as fault:
+                if fault.status != 404:
+                    raise
+                self.tags[path] = None
+        return self.tags[path]
+
+    def known(self, its: Thing) -> None:
+        """(So that it is not asked for twice.)"""
+        self.tags[self.asked.path] = its.etag or ""
+
+    def need(self) -> None:
+        """What the fields say of the state in which the caller saw it."""
+        if self.conditions and not any(self._holds(*it) for it in self.conditions):
+            raise Answered(412, "none of what If says holds")
+        wanted, unwanted = self.asked.field("If-Match"), self.asked.field("If-None-Match")
+        if wanted is not None and not self._fits(wanted):
+            raise Answered(412, "it is another version than If-Match says")
+        if unwanted is not None and self.asked.method not in ("GET", "HEAD") and self._fits(unwanted):
+            raise Answered(412, "something is there that If-None-Match excludes")
+
+    def _fits(self, told: str) -> bool:
+        tag = self.tag(self.asked.path)
+        if told.strip() == "*":
+            return tag is not None
+        return bool(tag) and tag in [it.removeprefix("W/") for it in TAGS.findall(told)]
+
+    def _holds(self, address: str | None, listed: list[Condition]) -> bool:
+        path = self.asked.path
+        if address is not None:
+            try:
+                room, path = split_destination(address, self.asked.host)
+            except Answered:
+                return False
+            if room != self.asked.room:
+                return False
+        return all(self._is_so(path, it) != it.is_not for it in listed)
+
+    def _is_so(self, path: str, it: Condition) -> bool:
+        if it.kind == "etag":
+            return bool(self.tag(path)) and self.tag(path) == it.value.removeprefix("W/")
+        held = [lock for one in spellings(path) for lock in self.locks.at(self.asked.room, one)]
+        return any(lock.token == it.value and lock.user == self.asked.user for lock in held)
+
+    def need_free(self, path: str, *, is_deep: bool = False, is_member: bool = False) -> None:
+        """That no lock keeps the caller from changing what is there. Whoever may not change it anyway is told what the
+        room says, and not that it is locked."""
+        lock = self.locks.foreign(self.asked.room, path, self.asked.user, self.tokens, is_deep=is_deep,
+                                  is_member=is_member)
+        if lock is None:
+            return
+        self.need_right(path)
+        raise Answered(423, f"{path} is locked", "lock-token-submitted")
+
+    def need_right(self, path: str, wanted: int = WRITE) -> bool:
+        """That the caller may write what is there, or make it. Whether it is there."""
+        try:
+            allowed = self.visit.access(path, wanted)
+            is_there = True
+        except Refused as fault:
+            if not is_refused(fault, "NOENT") or path == "/":
+                raise
+            allowed, wanted, is_there = self.above(path), WRITE, False
+        if allowed & wanted != wanted:
+            raise Answered(403, f"the list of {path if is_there else above(path)} does not let you write there")
+        return is_there
+
+    def above(self, path: str) -> int:
+        try:
+            return self.visit.access(above(path), WRITE)
+        except Refused as fault:
+            if is_refused(fault, "NOENT", "NOTDIR"):
+                raise Answered(409, f"no folder is at {above(path)}") from None
+            raise

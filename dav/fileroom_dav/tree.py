@@ -1,0 +1,183 @@
+"""What is in a room, as WebDAV shows it: a document or a large file is a file, and has a sum of its bytes."""
+import base64
+import hashlib
+from dataclasses import dataclass
+
+from room_client import files
+from room_client.faults import Refused
+from room_client.manifest import Manifest, NAME, is_hidden, is_large
+from room_client.manifest import read_manifest
+from room_client.words import FOLDER
+
+from .faults import Answered, is_refused, not_there
+from .memory import Memory, Told
+from .names import below, spellings
+from .visit import Visit
+
+AT_ONCE = 32  # documents that are read for a listing: each has up to 64 KiB
+DIGITS = 32  # of a sum
+
+
+@dataclass
+class Thing:
+    """What is at a path. A file may have its bytes with it, and its sum where the caller may read it."""
+
+    path: str
+    is_folder: bool
+    size: int | None = None
+    sum: str | None = None
+    large: Manifest | None = None
+    data: bytes | None = None
+
+    @property
+    def etag(self) -> str | None:
+        return f'"{self.sum}"' if self.sum else None
+
+
+def sum_of(data: bytes) -> str:
+    return hashlib.sha256(data).hexdigest()[:DIGITS]
+
+
+def document(path: str, data: bytes) -> Thing:
+    return Thing(path, False, len(data), sum_of(data), data=data)
+
+
+def large(path: str, its: Manifest) -> Thing:
+    return Thing(path, False, its.size, its.sha256[:DIGITS], its)
+
+
+def first_found(path: str, look):
+    """What `look` finds at a path as it was given, or else as it would have been made."""
+    for it in spellings(path):
+        try:
+            return look(it)
+        except Refused as fault:
+            if not is_refused(fault, "NOENT", "NOTDIR"):
+                raise
+    raise not_there(path)
+
+
+def opened(visit: Visit, path: str) -> Thing:
+    """For who wants the bytes: a document comes with them, a large file with its manifest. One that may not be read is
+    refused."""
+    if path == "/":
+        return Thing(path, True)
+    return first_found(path, lambda it: _opened(visit, it))
+
+
+def _opened(visit: Visit, path: str) -> Thing:
+    try:
+        return document(path, visit.read(path))
+    except Refused as fault:
+        if not is_refused(fault, "ISDIR"):
+            raise
+    its = files.manifest_in(visit, path)
+    return large(path, its) if its else Thing(path, True)
+
+
+def shown(visit: Visit, path: str) -> Thing:
+    """For who wants to be told of it: also what may not be read, as far as the room tells it."""
+    if path == "/":
+        visit.stat(path)
+        return Thing(path, True)
+    return first_found(path, lambda it: _shown(visit, it))
+
+
+def _shown(visit: Visit, path: str) -> Thing:
+    try:
+        return document(path, visit.read(path))
+    except Refused as fault:
+        if is_refused(fault, "NOENT", "NOTDIR"):
+            raise
+    its = visit.stat(path)
+    if its["kind"] != FOLDER:
+        return Thing(path, False, its["size"])
+    whole = files.large_at(visit, path)
+    return large(path, whole) if whole else Thing(path, True)
+
+
+def bytes_of(visit: Visit, its: Thing) -> bytes:
+    """All bytes of one version. (That may be another than was looked at: its sum is then, too.)"""
+    if its.data is None:
+        its.data = files.read(visit, its.path)
+        its.size, its.sum = len(its.data), sum_of(its.data)
+    return its.data
+
+
+# Listings
+
+def listed(visit: Visit, path: str, wants_sums: bool, memory: Memory, room: str) -> tuple[Thing, list[Thing]]:
+    """What is at a path, and what is in it. The names are the room's of now."""
+    user, mark = visit.settings.user, memory.mark(room)
+    try:
+        path, names = first_found(path, lambda it: (it, visit.children(it)))
+    except Answered:  # (a document is no folder)
+        return shown(visit, path), []
+    except Refused as fault:
+        if is_refused(fault, "ACCESS"):
+            return shown_without_names(visit, path, fault), []
+        raise
+    if is_large(names):
+        its = files.manifest_in(visit, path)
+        if its:
+            return large(path, its), []
+    names = {name: kind for name, kind in names.items() if not is_hidden(name)}
+    before = memory.recall(room, user, path)
+    told = {name: before[name] for name, kind in names.items()
+            if name in before and before[name].kind == kind and (before[name].has_sum or not wants_sums)}
+    told |= ask_of(visit, path, {name: kind for name, kind in names.items() if name not in told}, wants_sums)
+    memory.keep(room, user, path, told, mark)
+    return Thing(path, True), [thing_of(below(path, name), told[name]) for name in names]
+
+
+def shown_without_names(visit: Visit, path: str, fault: Refused) -> Thing:
+    """A large file is one to whom the room shows no names, too; a folder is refused."""
+    its = shown(visit, path)
+    if its.is_folder:
+        raise fault
+    return its
+
+
+def thing_of(path: str, told: Told) -> Thing:
+    is_folder = told.kind == FOLDER and not told.is_large
+    return Thing(path, is_folder, None if is_folder else told.size, told.sum)
+
+
+def ask_of(visit: Visit, path: str, names: dict[str, str], wants_sums: bool) -> dict[str, Told]:
+    """What the room tells of names in a folder: a request for each, and two for those that may be large files."""
+    told: dict[str, Told] = {}
+    wanted = list(names)
+    for at in range(0, len(wanted), AT_ONCE):
+        some = wanted[at:at + AT_ONCE]
+        cmds = ["READ" if names[it] == FOLDER or wants_sums else "STAT" for it in some]
+        commands = [{"cmd": cmd, "keep": False, "path": below(path, it) + (f"/{NAME}" if names[it] == FOLDER else "")}
+                    for cmd, it in zip(cmds, some)]
+        for name, reply in zip(some, visit.ask_all(commands)):
+            told[name] = told_by(names[name], reply, wants_sums)
+    unread = [it for it in wanted if told[it].kind != FOLDER and told[it].size is None]
+    sizes = visit.ask_all({"cmd": "STAT", "keep": False, "path": below(path, it)} for it in unread)
+    for name, reply in zip(unread, sizes):
+        told[name] = Told(names[name], reply.get("size"), None, False, wants_sums)
+    need_large(visit, path, told)
+    return told
+
+
+def told_by(kind: str, reply: dict, wants_sums: bool) -> Told:
+    if "data" not in reply:
+        return Told(kind, None if kind == FOLDER else reply.get("size"), None, False, wants_sums)
+    data = base64.b64decode(reply["data"])
+    if kind != FOLDER:
+        return Told(kind, len(data), sum_of(data), False, wants_sums)
+    its = read_manifest(data)
+    if its is None:
+        return Told(kind, None, None, False, wants_sums)
+    return Told(kind, its.size, its.sha256[:DIGITS], True, wants_sums)
+
+
+def need_large(visit: Visit, path: str, told: dict[str, Told]) -> None:
+    """A folder that has other things beside its manifest is shown as a folder."""
+    large_ones = [name for name, it in told.items() if it.is_large]
+    replies = visit.ask_all({"cmd": "LIST", "keep": False, "path": below(path, it)} for it in large_ones)
+    for name, reply in zip(large_ones, replies):
+        if reply["code"] != 0 or not is_large(dict(reply["names"])):
+            told[name] = Told(FOLDER, None, None, False, told[name].has_sum)

@@ -1,0 +1,191 @@
+"""One request's way to a room: the caller's own login to the front, over its socket, in a session that is kept.
+
+What `room_client` has is used as it is. Other than at a desk are four things: the front is reached by a socket's path; a
+file is not flushed, since what a start of the machine ends is not late either, and another session begins then; what was
+left pending is never done late; and a refusal by the front is known by its status.
+"""
+import base64
+import contextlib
+import http.client
+import json
+import os
+import socket
+from dataclasses import replace
+
+from room_client import Room, Settings
+from room_client.faults import Fault, LocalFault, NoAnswer, SessionLost
+from room_client.line import Line, Lost, NotSent
+from room_client.room import CHANGES
+from room_client.slots import Pace, Slot
+from room_client.state import Session, State
+
+RATE = 240.0  # requests a second of one user, below what the front's socket takes of one (front/dav-http.conf)
+WIDTH = 4  # slots of a session: with four sessions of a user that is what a front takes of one at once
+BOOT = "/proc/sys/kernel/random/boot_id"
+
+
+def boot_id() -> str:
+    """(Where systemd starts the gateway it says so, and /proc does not tell.)"""
+    if "BOOT_ID" in os.environ:
+        return os.environ["BOOT_ID"]
+    with open(BOOT, encoding="ascii") as file:
+        return file.read().strip()
+
+
+class SocketConnection(http.client.HTTPConnection):
+    def __init__(self, path: str):
+        super().__init__("localhost")
+        self.path = path
+
+    def connect(self) -> None:
+        self.sock = socket.socket(socket.AF_UNIX)
+        self.sock.settimeout(self.timeout)
+        self.sock.connect(self.path)
+
+
+def line_to(front: str) -> type[Line]:
+    """Lines to the front: at the path of its socket, or at 127.0.0.1:PORT."""
+    class FrontLine(Line):
+        def __init__(self, settings, context=None):
+            super().__init__(settings, context)
+            if front.startswith("/"):
+                self.connection = SocketConnection(front)
+            else:
+                host, _, port = front.rpartition(":")
+                self.connection = http.client.HTTPConnection(host, int(port))
+
+        def _connect(self, seconds: float) -> None:
+            self.connection.timeout = seconds
+            try:
+                self.connection.connect()
+            except OSError as fault:
+                self.close()
+                raise NotSent(fault.strerror or str(fault)) from None
+
+    return FrontLine
+
+
+class KeptState(State):
+    """As a desk has it, and no flush: it lasts over a kill of this program, and a start of the machine is seen."""
+
+    def __init__(self, *how):
+        super().__init__(*how)
+        if not self.session.is_open:
+            self.session = replace(self.session, slots=WIDTH)
+
+    def begin_anew(self) -> None:
+        self.save(replace(Session.fresh(self.session.url, self.session.user), slots=WIDTH))
+
+    def _read(self, path: str, kind: type):
+        """(What a halt of the machine cut is as if it was not there: another session begins.)"""
+        try:
+            return super()._read(path, kind)
+        except LocalFault:
+            return None
+
+    def _write(self, path: str, what: dict) -> None:
+        new = path + ".new"
+        with open(os.open(new, os.O_WRONLY | os.O_CREAT | os.O_TRUNC, 0o600), "w", encoding="utf-8") as file:
+            json.dump(what, file)
+        os.replace(new, path)
+
+    @property
+    def boot_path(self) -> str:
+        return self.path + ".boot"
+
+    def is_of_this_start(self) -> bool:
+        with contextlib.suppress(OSError), open(self.boot_path, encoding="ascii") as file:
+            return file.read() == boot_id()
+        return False
+
+    def note_start(self) -> None:
+        with open(self.boot_path, "w", encoding="ascii") as file:
+            file.write(boot_id())
+
+
+class Seat(Slot):
+    """A slot that tells its visit what the front answered in the room's place."""
+
+    front_status = 0
+
+    def need_done(self, answer, command=None):
+        if answer.reply is None:
+            self.front_status = answer.status
+        return super().need_done(answer, command)
+
+
+class Visit(Room):
+    """A room during one request of WebDAV. `has_changed` says whether a change was done by it."""
+
+    slot_kind, state_kind = Seat, KeptState
+
+    def __init__(self, settings: Settings, front: str, pace: Pace):
+        super().__init__(settings, self._heard)
+        self.line_kind, self.pace = line_to(front), pace
+        self.has_changed, self.told = False, []
+
+    def _heard(self, text: str) -> None:
+        """(What a desk would print: of uploads that were stopped, and what is left of them.)"""
+        self.told.append(text)
+
+    @property
+    def front_status(self) -> int:
+        return next((it.front_status for it in self.slots.values() if it.front_status), 0)
+
+    def _begin(self) -> None:
+        its = self.state
+        if its.session.is_open and not its.is_of_this_start():
+            with contextlib.suppress(Fault):
+                self.close_session()  # (the room forgets what it held)
+            its.begin_anew()
+        if not its.session.is_open:
+            its.note_start()
+            its.save(its.session)
+            self._open()
+        for number in its.pending():
+            self.slot(number).settle_part(json.loads(its.kept[number].pending))
+            its.told(number)
+
+    def __exit__(self, *_) -> None:
+        """(What was answered is pending no longer, however the visit ends.)"""
+        super().__exit__(None, None, None)
+
+    def begin_anew(self) -> None:
+        """Another session, at the next visit, where the room does not know this one."""
+        self.state.begin_anew()
+
+    def ask(self, command: dict, is_step: bool = False) -> dict:
+        reply = super().ask(command, is_step)
+        self.has_changed |= command["cmd"] in CHANGES
+        return reply
+
+    def ask_all(self, commands, heard=lambda _: None) -> list[dict]:
+        commands = list(commands)
+        try:
+            return super().ask_all(commands, heard)
+        finally:
+            self.has_changed |= any(it["cmd"] in CHANGES for it in commands)
+
+    # (what only looks needs no reply that is kept: if it is lost, it is asked anew)
+
+    def read(self, path: str) -> bytes:
+        return base64.b64decode(self.ask({"cmd": "READ", "keep": False, "path": path})["data"])
+
+    def children(self, path: str) -> dict[str, str]:
+        return dict(self.ask({"cmd": "LIST", "keep": False, "path": path})["names"])
+
+    def stat(self, path: str) -> dict:
+        return self.ask({"cmd": "STAT", "keep": False, "path": path})
+
+
+def file_of_front(front: str, user: str, password: str, target: str) -> tuple[int, bytes]:
+    """What the front answers to a caller's own login, beside the rooms."""
+    settings = Settings(url="http://localhost", login=user, password=password, state="")
+    line = line_to(front)(settings)
+    try:
+        line.open(10.0)
+        return line._answered("GET", target, b"")
+    except (Lost, NotSent) as fault:
+        raise NoAnswer(str(fault)) from None
+    finally:
+        line.close()

@@ -1,0 +1,196 @@
+"""What the tests of the gateway share: a room with front and gateway, and a proxy between the two that loses things."""
+import contextlib
+import http.client
+import os
+import random
+import re
+import socket
+import subprocess
+import tempfile
+import threading
+import time
+import unittest
+from dataclasses import dataclass
+from urllib.parse import quote
+
+from nginx import Front, login
+from room_client import Room, Settings
+from served import HERE, WAIT, Room as Served, end_with_parent, started_here
+
+GATEWAY = os.path.join(HERE, "..", "dav", "fileroom-dav")
+PYTHON = "/usr/bin/python3"  # (Debian's, which has Debian's packages)
+PAGE = os.path.join(HERE, "..", "page")
+ROSTER = '[users]\nann = ["eng"]\nbob = ["eng", "staff"]\ncat = []\n'
+PASSWORDS = {it: f"{it}-word" for it in ("ann", "bob", "cat")}
+
+
+@dataclass
+class Answer:
+    status: int
+    fields: dict
+    body: bytes
+
+    @property
+    def hrefs(self):
+        return re.findall(r"<D:href>([^<]*)</D:href><D:propstat>", self.body.decode())
+
+
+class Counter(unittest.TestCase):
+    """A room of ann and eng by WebDAV, once for all tests of a class."""
+
+    is_lossy = False
+    patience = "60"
+
+    @classmethod
+    def setUpClass(cls):
+        held = tempfile.TemporaryDirectory(prefix="fileroom-")
+        cls.folder = held.name
+        cls.addClassCleanup(held.cleanup)
+        cls.served = Served(cls.folder, ROSTER).start()
+        cls.addClassCleanup(cls.served.kill)
+        front = cls.path("front")
+        os.mkdir(front)
+        cls.front = Front(front, PASSWORDS, {"plans": cls.served.port}, PAGE, dav=cls.path("gate.sock"),
+                          opens="600r/m")
+        cls.addClassCleanup(stop, cls.front.server)
+        cls.at_front = os.path.join(front, "work", "dav.sock")
+        cls.loser = None
+        if cls.is_lossy:
+            cls.loser = Loser(cls.path("lossy.sock"), cls.at_front)
+            cls.addClassCleanup(cls.loser.end)
+        cls.gateway = None
+        cls.start_gateway()
+        cls.addClassCleanup(lambda: stop(cls.gateway))
+
+    @classmethod
+    def path(cls, name):
+        return os.path.join(cls.folder, name)
+
+    @classmethod
+    def start_gateway(cls):
+        with contextlib.suppress(FileNotFoundError):
+            os.remove(cls.path("gate.sock"))
+        to = cls.path("lossy.sock") if cls.is_lossy else cls.at_front
+        words = [PYTHON, "-B", GATEWAY, to, cls.path("state"), cls.path("gate.sock")]
+        env = {**os.environ, "PATIENCE": cls.patience}
+        cls.gateway = subprocess.Popen(words, preexec_fn=end_with_parent, env=env)
+        started_here.append(cls.gateway)
+        wait_for_socket(cls.path("gate.sock"), cls.gateway)
+
+    @classmethod
+    def url(cls, path=""):
+        return f"http://127.0.0.1:{cls.front.port}/dav/plans/{quote(path)}"
+
+    def ask(self, user, method, path, body=b"", raw=False, timeout=120, **fields):
+        """The answer to one request. A name of a field has _ for -."""
+        its = {name.replace("_", "-"): value for name, value in fields.items()}
+        if user:
+            name, _, value = login(user, PASSWORDS.get(user, "wrong")).partition(": ")
+            its[name] = value
+        if "Destination" in its and its["Destination"].startswith("/"):
+            its["Destination"] = f"http://127.0.0.1:{self.front.port}/dav/plans{quote(its['Destination'])}"
+        line = http.client.HTTPConnection("127.0.0.1", self.front.port, timeout=timeout)
+        try:
+            line.request(method, path if raw else quote(f"/dav/plans{path}"), body, its)
+            got = line.getresponse()
+            return Answer(got.status, {name.lower(): it for name, it in got.getheaders()}, got.read())
+        finally:
+            line.close()
+
+    def does(self, user, method, path, status, body=b"", **how):
+        got = self.ask(user, method, path, body, **how)
+        self.assertEqual(got.status, status, f"{user} {method} {path}: {got.body[:300]}")
+        return got
+
+    def names(self, user, path, depth="1"):
+        """The names in a folder, as a file manager is shown them."""
+        got = self.does(user, "PROPFIND", path, 207, Depth=depth)
+        return got.hrefs
+
+    @contextlib.contextmanager
+    def room(self, user):
+        """Past the gateway and the front."""
+        state = self.path(f"desk-{user}")
+        with Room(Settings(url=f"http://127.0.0.1:{self.served.port}", room_user=user, state=state), print) as room:
+            yield room
+
+
+def stop(child):
+    if child:
+        child.kill()
+        child.wait()
+
+
+def wait_for_socket(path, server):
+    end = time.monotonic() + WAIT
+    while time.monotonic() < end and server.poll() is None:
+        with contextlib.suppress(OSError), socket.socket(socket.AF_UNIX) as it:
+            it.connect(path)
+            return
+        time.sleep(0.02)
+    raise RuntimeError("the gateway does not listen")
+
+
+class Loser:
+    """Hands on what comes to a socket, and loses requests and answers, or cuts answers, by a seed."""
+
+    def __init__(self, at, to, seed=1):
+        self.to, self.random, self.lock = to, random.Random(seed), threading.Lock()
+        self.lost, self.share = dict.fromkeys(("request", "answer", "cut"), 0), 0.0
+        self.count = 0  # of requests that came
+        self.listener = socket.socket(socket.AF_UNIX)
+        self.listener.bind(at)
+        self.listener.listen(256)
+        threading.Thread(target=self._serve, daemon=True).start()
+
+    def end(self):
+        self.listener.close()
+
+    def _serve(self):
+        with contextlib.suppress(OSError):
+            while True:
+                peer, _ = self.listener.accept()
+                threading.Thread(target=self._hand_on, args=(peer,), daemon=True).start()
+
+    def _fate(self):
+        with self.lock:
+            draw = self.random.random()
+            kind = next((kind for at, kind in enumerate(self.lost) if draw < self.share * (at + 1) / 3), "none")
+            if kind != "none":
+                self.lost[kind] += 1
+            return kind
+
+    def _hand_on(self, peer):
+        with contextlib.suppress(OSError), peer, socket.socket(socket.AF_UNIX) as front:
+            front.connect(self.to)
+            while message := read_message(peer):
+                self.count += 1
+                fate = self._fate()
+                if fate == "request":
+                    return
+                front.sendall(message)
+                answer = read_message(front)
+                if fate == "answer" or not answer:
+                    return
+                peer.sendall(answer[:-1] if fate == "cut" else answer)
+                if fate == "cut":
+                    return
+
+
+def read_message(sock):
+    """One message with its length, or nothing at the end."""
+    data = b""
+    while b"\r\n\r\n" not in data:
+        more = sock.recv(65536)
+        if not more:
+            return b""
+        data += more
+    head, _, body = data.partition(b"\r\n\r\n")
+    told = re.search(rb"(?i)\r\ncontent-length: *([0-9]+)", head)
+    left = int(told[1]) - len(body) if told else 0
+    while left > 0:
+        more = sock.recv(65536)
+        if not more:
+            return b""
+        data, left = data + more, left - len(more)
+    return data

@@ -1,0 +1,156 @@
+"""Requests and answers that are lost, kills, and two writers: each thing is done once, or not at all."""
+import os
+import threading
+import time
+
+from room_client import files
+from counter import Counter, stop
+
+SHARE = 0.3  # of requests to the room that something happens to
+FILES = 30
+
+
+class Lossy(Counter):
+    is_lossy = True
+
+    def test_losses_change_no_outcome(self):
+        self.loser.share = SHARE
+        large = os.urandom(150_000)
+        for it in range(FILES):
+            folder = f"/d{it}"
+            self.does("ann", "MKCOL", folder, 201)
+            self.does("ann", "PUT", f"{folder}/a", 201, b"first")
+            self.does("ann", "PUT", f"{folder}/a", 204, b"second %d" % it)
+            self.does("ann", "MOVE", f"{folder}/a", 201, Destination=f"{folder}/b")
+            self.does("ann", "COPY", f"{folder}/b", 201, Destination=f"{folder}/c")
+            self.does("ann", "DELETE", f"{folder}/c", 204)
+            self.does("ann", "PUT", f"{folder}/e", 412, b"", If_Match='"no"')
+            self.assertEqual(sorted(self.names("ann", folder)), [f"/dav/plans{folder}/", f"/dav/plans{folder}/b"])
+        self.does("ann", "PUT", "/large", 201, large)
+        self.does("ann", "PUT", "/large", 204, large[::-1])
+        self.assertEqual(self.does("ann", "GET", "/large", 200).body, large[::-1])
+        self.loser.share = 0.0
+        self.assertTrue(all(self.loser.lost.values()), self.loser.lost)
+        with self.room("ann") as room:
+            for it in range(FILES):
+                self.assertEqual(room.children(f"/d{it}"), {"b": "file"})
+                self.assertEqual(room.read(f"/d{it}/b"), b"second %d" % it)
+            names = room.children("/large")
+        self.assertEqual(sorted(it.partition("-")[2].partition("-")[0] for it in names), ["file", "pieces"])
+        print(f"dav: lost on the way: {self.loser.lost}", flush=True)
+
+
+class Kills(Counter):
+    is_lossy = True
+    patience = "3"
+
+    def test_no_answer(self):
+        """What got no answer is not known, and the caller is told so; it is not done later."""
+        self.does("ann", "PUT", "/late", 201, b"before")
+        self.loser.share = 1.0
+        got = self.does("ann", "PUT", "/late", 503, b"during")
+        self.assertIn("retry-after", got.fields)
+        self.loser.share = 0.0
+        with self.room("ann") as room:
+            room.write("/late", b"after")
+        for _ in range(4):  # (each seat)
+            self.assertEqual(self.does("ann", "GET", "/late", 200).body, b"after")
+        with self.room("ann") as room:
+            self.assertEqual(room.read("/late"), b"after")
+
+    def test_killed_in_an_upload(self):
+        """The gateway is killed at some request of an upload: the old version stands, and the next one is whole."""
+        old, new = os.urandom(140_000), os.urandom(150_000)
+        self.does("ann", "PUT", "/kill", 201, old)
+        for pause in range(6):
+            count, done = self.loser.count, threading.Event()
+            one = threading.Thread(target=self.put_until_killed, args=("/kill", new, done))
+            one.start()
+            while self.loser.count < count + 1 + 2 * pause and not done.is_set():
+                time.sleep(0.001)
+            stop(self.gateway)
+            one.join()
+            with self.room("ann") as room:
+                self.assertIn(files.read(room, "/kill"), (old, new))
+            self.start_gateway()
+            self.assertIn(self.does("ann", "GET", "/kill", 200).body, (old, new))
+            self.does("ann", "PUT", "/kill", 204, old)
+            self.assertEqual(self.does("ann", "GET", "/kill", 200).body, old)
+        with self.room("ann") as room:
+            names = room.children("/kill")
+        self.assertEqual(len(names), 2, names)
+
+    def put_until_killed(self, path, data, done):
+        try:
+            self.ask("ann", "PUT", path, data, timeout=30)
+        except OSError:
+            pass
+        done.set()
+
+    def test_the_room_is_made_anew(self):
+        """Sessions that the room does not know any more are replaced, and nobody notices."""
+        self.does("ann", "PUT", "/anew", 201, b"x")
+        with self.served_again():
+            self.does("ann", "PUT", "/anew", 201, b"y")
+            self.assertEqual(self.does("ann", "GET", "/anew", 200).body, b"y")
+
+    def served_again(self):
+        from contextlib import contextmanager
+
+        @contextmanager
+        def anew():
+            self.served.kill()
+            for end in "", "-wal", "-shm":
+                if os.path.exists(self.served.db + end):
+                    os.remove(self.served.db + end)
+            self.remake()
+            yield
+        return anew()
+
+    def remake(self):
+        from served import run, start_program
+        run("init", self.served.db, "ann", "eng")
+        self.served.server = start_program("serve", self.served.db, self.served.roster, str(self.served.port),
+                                           "4294967295")
+        self.assertTrue(self.served.listens())
+
+
+class Two(Counter):
+    def test_two_writers(self):
+        """Of new versions at once one stands, whole; nothing is lost of what goes to different names."""
+        with self.room("ann") as room:
+            entries = room.get_list("/")["entries"]
+            room.set_list("/", 0, [{"flag": 3, "mask": 0x1F07FF, "type": 0, "who": "EVERYONE@"}, *entries])
+        versions = {user: os.urandom(100_000) for user in ("ann", "bob")}
+        self.does("ann", "PUT", "/both", 201, b"0" * 70_000)
+        said = []
+
+        def write(user):
+            for it in range(4):
+                said.append(self.ask(user, "PUT", "/both", versions[user]).status)
+                said.append(self.ask(user, "PUT", f"/{user}{it}", b"%d" % it).status)
+        writers = [threading.Thread(target=write, args=(it,)) for it in versions]
+        for it in writers:
+            it.start()
+        for it in writers:
+            it.join()
+        self.assertLessEqual(set(said), {201, 204, 412}, said)
+        self.assertEqual(said.count(201), 8)
+        self.assertIn(self.does("ann", "GET", "/both", 200).body, versions.values())
+
+    def test_many_at_once(self):
+        """More requests of one user than there are sessions."""
+        self.does("ann", "MKCOL", "/at-once", 201)
+        said = []
+
+        def write(at):
+            for it in range(6):
+                said.append(self.ask("ann", "PUT", f"/at-once/{at}-{it}", b"%d" % it).status)
+        writers = [threading.Thread(target=write, args=(it,)) for it in range(10)]
+        for it in writers:
+            it.start()
+        for it in writers:
+            it.join()
+        self.assertEqual(set(said), {201}, said)
+        with self.room("ann") as room:
+            self.assertEqual(len(room.children("/at-once")), 60)
