@@ -3,7 +3,7 @@ use Rattle.std.proofs.Common.{◌≡◌, ◌≤◌, ◌<◌, refl, ◌+◌, ℕ,
 use Rattle.std.proofs.Common.{zero, suc, sym, ap, ap₂, ◌∙◌, arith}
 use Rattle.std.proofs.Math.Seq.{take-append_seam, drop-append_seam}
 use Rattle.std.proofs.lemmas.List.{map-append, append_assoc, length-append, length-take-le, take-append-drop}
-use Rattle.std.proofs.lemmas.List.{take_more}
+use Rattle.std.proofs.lemmas.List.{take_more, length-drop}
 use Rattle.sqlite_value.specs.declared.value.ValueRef.{ValueRef}
 use Rattle.sqlite_value.specs.Value.{owned}
 use Rattle.sqlite_value.specs.Order.{Row}
@@ -59,6 +59,32 @@ next_place k es st e s low high p q =
       sym (append_assoc (take k es) (e ∷ []) (drop (k + 1) st))
           ∙ ap (λ l. l ++ drop (k + 1) st) (ap (λ x. take k es ++ x ∷ []) p ∙ sym (take_more es k e low)),
     )
+
+-- the same of some elements at once, which are taken from one list and stand in the place of as many of another
+pub next_few : {X : Type 0} (k n m : ℕ) (es st : List X) → m ≡ n → k + n ≤ length es → k + n ≤ length st
+    → (length (take n (drop k st)) ≡ length (take m (drop k es)))
+    × (drop k st ≡ take n (drop k st) ++ drop (k + n) st)
+    × (take k es ++ (take m (drop k es) ++ drop (k + n) st) ≡ take (k + n) es ++ drop (k + n) st)
+next_few k n m es st is low high =
+    let some = take m (drop k es) in
+    let gone = take n (drop k st) in
+    let long : length some ≡ n = length-take-le m (drop k es) (omega (arith, is, low, length-drop k es)) ∙ is in
+    let same : length gone ≡ n = length-take-le n (drop k st) (omega (arith, high, length-drop k st)) in
+    let e = next_batch k es (drop k es) some (drop m (drop k es)) (omega (arith, low)) refl
+    (sym (take-append-drop m (drop k es))) in
+    let s = next_batch k st (drop k st) gone (drop n (drop k st)) (omega (arith, high)) refl
+    (sym (take-append-drop n (drop k st))) in (
+      same ∙ sym long,
+      sym (take-append-drop n (drop k st)) ∙ ap (λ l. gone ++ l) (s.1 ∙ ap (λ i. drop (k + i) st) same),
+      sym (append_assoc (take k es) some (drop (k + n) st))
+          ∙ ap (λ l. l ++ drop (k + n) st) (sym e.0 ∙ ap (λ i. take (k + i) es) long),
+    )
+
+-- a list of one element
+pub single : {X : Type 0} (xs : List X) → length xs ≡ 1 → (x : X) × (xs ≡ x ∷ [])
+single [] is = absurd (omega (arith, is))
+single (x ∷ []) is = (x, refl)
+single (x ∷ y ∷ xs) is = absurd (omega (arith, is))
 
 pub one_is : {X : Type 0} {xs : List X} {a : X} → 1 ≤ length xs → length xs < 2 → a ≡ get_or xs 0 a → xs ≡ a ∷ []
 one_is {xs = []} low high p = absurd (omega arith)

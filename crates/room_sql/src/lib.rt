@@ -10,6 +10,7 @@ mod node_facts;
 mod open;
 mod read_lists;
 mod reads;
+mod renewing;
 mod rows;
 mod sql_shelf;
 mod tables;

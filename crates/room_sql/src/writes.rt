@@ -21,10 +21,11 @@ ghost use Rattle.room_sql.specs.Frames.{RunsOr, InsideFrame};
 ghost use Rattle.room_sql.specs.NodeRows.{HasNone, MakesChange};
 ghost use Rattle.room_sql.specs.ReadLists.{IsStored};
 
+use crate::renewing::renew_entries;
 use crate::rows::placed_entries;
 use crate::values::{
-    entry_row, flag_number, group_text, is_same, kept_number, kept_reply, kept_request,
-    kind_number, list_flags, name_text, node_number, owner_text, parent_value,
+    entry_row, flag_number, group_text, kept_number, kept_reply, kept_request, kind_number,
+    list_flags, name_text, node_number, owner_text, parent_value,
 };
 use room_acl::Entry;
 use room_records::{Node, SessionRow, Sid, SlotRow};
@@ -321,7 +322,7 @@ fn add_four<S: Alter>(
 
 /// The most entries that one statement puts. Each number of them up to this has a text of its own,
 /// and the connection keeps the plans of so few texts.
-const BATCH: usize = 4;
+pub(crate) const BATCH: usize = 4;
 
 /// Puts up to four more entries behind the object's, in their order and by one statement.
 fn add_batch<S: Alter>(
@@ -381,79 +382,6 @@ fn add_entries<S: Alter>(
     Ok(())
 }
 
-/// Writes an entry over the one at its place.
-fn change_entry<S: Alter>(
-    tx: &mut Transaction<'_, S>,
-    id: u32,
-    place: u32,
-    entry: &Entry,
-) -> Result<(), Error>
-    ensures frame { InsideFrame S.Store tx.old tx.new result }
-    ensures ok { HasCleanDisk (state S.Store tx.new.conn.now)
-        → OnOk result ((was : Database) (before behind : _) (stored : EntryModel) → length before ≡ place →
-        Lists was id (before ++ stored ∷ behind) (state S.Store tx.old.conn.now).now
-        → Lists was id (before ++ entry.now ∷ behind) (state S.Store tx.new.conn.now).now) }
-{
-    let row = entry_row(place, entry);
-    run(
-        tx,
-        "UPDATE entry SET type = ?3, flag = ?4, mask = ?5, who = ?6 WHERE node = ?1 AND place = ?2",
-        &[
-            id.to_sql(),
-            row.place,
-            row.kind,
-            row.flags,
-            row.mask,
-            row.who,
-        ],
-    )
-}
-
-/// Writes an entry over the stored one at its place, where the two differ.
-fn renew_entry<S: Alter>(
-    tx: &mut Transaction<'_, S>,
-    id: u32,
-    place: u32,
-    stored: &Entry,
-    entry: &Entry,
-) -> Result<(), Error>
-    requires { HasCleanDisk (state S.Store tx.old.conn.now) → tx.old.conn.now.in_transaction ≡ true }
-    ensures frame { InsideFrame S.Store tx.old tx.new result }
-    ensures ok { HasCleanDisk (state S.Store tx.new.conn.now)
-        → OnOk result ((was : Database) (before behind : _) → length before ≡ place →
-        Lists was id (before ++ stored.now ∷ behind) (state S.Store tx.old.conn.now).now
-        → Lists was id (before ++ entry.now ∷ behind) (state S.Store tx.new.conn.now).now) }
-{
-    if is_same(stored, entry) {
-        Ok(())
-    } else {
-        change_entry(tx, id, place, entry)
-    }
-}
-
-/// Renews the entries of the first places, which the two lists both have.
-fn renew_entries<S: Alter>(
-    tx: &mut Transaction<'_, S>,
-    id: u32,
-    both: u32,
-    stored: &[Entry],
-    entries: &[Entry],
-) -> Result<(), Error>
-    requires inside { HasCleanDisk (state S.Store tx.old.conn.now) → tx.old.conn.now.in_transaction ≡ true }
-    requires stored { both ≤ length stored.now }
-    requires wanted { both ≤ length entries.now }
-    ensures frame { InsideFrame S.Store tx.old tx.new result }
-    ensures ok { HasCleanDisk (state S.Store tx.new.conn.now)
-        → OnOk result ((was : Database) → Lists was id stored.now (state S.Store tx.old.conn.now).now →
-        Lists was id (take both entries.now ++ drop both stored.now) (state S.Store tx.new.conn.now).now) }
-{
-    for place in 0..both {
-        let at = place as usize;
-        renew_entry(tx, id, place, &stored[at], &entries[at])?;
-    }
-    Ok(())
-}
-
 /// Takes the object's entries from a place on away.
 fn drop_behind<S: Alter>(tx: &mut Transaction<'_, S>, id: u32, place: u32) -> Result<(), Error>
     ensures frame { InsideFrame S.Store tx.old tx.new result }
@@ -492,6 +420,9 @@ fn end_list<S: Alter>(
     }
 }
 
+/// The places that two lists share at most, so that the numbers of those behind them are places too.
+const MOST_PLACES: usize = 0xFFFF_FFF0;
+
 /// Makes the stored list of an object another in place: an UPDATE tests no key and no reference, and most lists that a
 /// command renews keep most of their rows.
 fn change_list<S: Alter>(
@@ -506,9 +437,11 @@ fn change_list<S: Alter>(
         → OnOk result ((was : Database) → Lists was id stored.now (state S.Store tx.old.conn.now).now →
         Lists was id entries.now (state S.Store tx.new.conn.now).now) }
 {
-    let Ok(both) = u32::try_from(stored.len().min(entries.len())) else {
+    let shared = stored.len().min(entries.len());
+    if shared > MOST_PLACES {
         return Err(Error::SqliteFailure(ErrorCode::TooBig));
-    };
+    }
+    let both = shared as u32;
     renew_entries(tx, id, both, stored, entries)?;
     end_list(tx, id, both, stored, entries)
 }

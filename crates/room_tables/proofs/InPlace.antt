@@ -59,18 +59,18 @@ use Rattle.room_tables.proofs.Asks.{asks_entries}
 
 -- ---- rows at places
 
-parted : (P : EntryModel → Type 0) (xs ys : List EntryModel) → AllByRecursion P (xs ++ ys)
+pub parted : (P : EntryModel → Type 0) (xs ys : List EntryModel) → AllByRecursion P (xs ++ ys)
     → AllByRecursion P xs × AllByRecursion P ys
 parted P [] ys all = (tt, all)
 parted P (x ∷ xs) ys all = let more = parted P xs ys all.1 in ((all.0, more.0), more.1)
 
-placed_both : (at end : ℕ) (es fs : List EntryModel) → end ≡ at + length es
+pub placed_both : (at end : ℕ) (es fs : List EntryModel) → end ≡ at + length es
     → placed at (es ++ fs) ≡ placed at es ++ placed end fs
 placed_both at end [] fs is = let n : at ≡ end = omega (arith, is) in ap (λ k. placed k fs) n
 placed_both at end (e ∷ es) fs is = ap (λ l. shown_as at e ∷ l) (placed_both (suc at) end es fs (omega (arith, is)))
 
 -- what holds of each entry at each place from one on
-all_placed : (P : Row → Type 0) (at end : ℕ) (es : List EntryModel) → at + length es ≤ end
+pub all_placed : (P : Row → Type 0) (at end : ℕ) (es : List EntryModel) → at + length es ≤ end
     → ((k : ℕ) (e : EntryModel) → at ≤ k → k < end → P (shown_as k e)) → AllByRecursion P (placed at es)
 all_placed P at end [] low each = tt
 all_placed P at end (e ∷ es) low each = (
@@ -79,7 +79,7 @@ all_placed P at end (e ∷ es) low each = (
 )
 
 -- rows that are shown as these entries, in whichever order they stand
-arranged : (rows : List Row) (es : List EntryModel) → IsPermutation (map shown_entry rows) (placed 0 es)
+pub arranged : (rows : List Row) (es : List EntryModel) → IsPermutation (map shown_entry rows) (placed 0 es)
     → in_order rows ≡ placed 0 es
 arranged rows es same =
     let cmp = key_cmp 0 entry_keys in
@@ -89,7 +89,7 @@ arranged rows es same =
     (placed_up 0 es) (ascending-sort_by cmp total shown)
     (IsPermutation-sym _ _ (IsPermutation-trans _ _ _ (IsPermutation-sort_by cmp total shown) same))
 
-scattered : (rows : List Row) (es : List EntryModel) → in_order rows ≡ placed 0 es
+pub scattered : (rows : List Row) (es : List EntryModel) → in_order rows ≡ placed 0 es
     → IsPermutation (map shown_entry rows) (placed 0 es)
 scattered rows es is = let cmp = key_cmp 0 entry_keys in subst (IsPermutation (map shown_entry rows)) is
     (IsPermutation-sym _ _ (IsPermutation-sort_by cmp (key_cmp_total entry_keys 0) (map shown_entry rows)))
@@ -97,10 +97,10 @@ scattered rows es is = let cmp = key_cmp 0 entry_keys in subst (IsPermutation (m
 -- ---- the rows of an object that pass a test of what is shown of them, and the rows that are left
 
 module _ (id : ℕ) (t : Row → Bool) where
-  abbrev passes : Row → Bool
+  abbrev pub passes : Row → Bool
   passes r = has 1 id r && t (shown_entry r)
 
-  shown_passing : (rows : List Row)
+  pub shown_passing : (rows : List Row)
       → map shown_entry (filter passes rows) ≡ filter t (map shown_entry (filter (has 1 id) rows))
   shown_passing [] = refl
   shown_passing (r ∷ rows) = elim (cases_Bool (has 1 id r)) [
@@ -115,13 +115,13 @@ module _ (id : ℕ) (t : Row → Bool) where
       by_test true more = ap (λ l. shown_entry r ∷ l) more
       by_test false more = more
 
-  abbrev left : List Row → List Row
+  abbrev pub left : List Row → List Row
   left rows = map shown_entry (filter (has 1 id) (without passes rows))
 
-  abbrev kept : List Row → List Row
+  abbrev pub kept : List Row → List Row
   kept rows = filter (λ s. not (t s)) (map shown_entry (filter (has 1 id) rows))
 
-  shown_left : (rows : List Row) → left rows ≡ kept rows
+  pub shown_left : (rows : List Row) → left rows ≡ kept rows
   shown_left [] = refl
   shown_left (r ∷ rows) = elim (cases_Bool (has 1 id r)) [
     | inl mine ↦ rw mine (by_test (t (shown_entry r)) mine (shown_left rows))
@@ -134,25 +134,25 @@ module _ (id : ℕ) (t : Row → Bool) where
       by_test true mine more = more
       by_test false mine more = rw mine (ap (λ l. shown_entry r ∷ l) more)
 
-  others_stay : (rows : List Row) (q : ℕ) → q ≢ id → filter (has 1 q) (without passes rows) ≡ filter (has 1 q) rows
+  pub others_stay : (rows : List Row) (q : ℕ) → q ≢ id → filter (has 1 q) (without passes rows) ≡ filter (has 1 q) rows
   others_stay rows q apart =
       others_left passes (has 1 q) rows (λ r h. ap (λ b. b && t (shown_entry r)) (not_both 1 id q r apart h))
 
 -- ---- the entries from a place on
 
 -- as SQL's >= finds the place of a row that is shown
-abbrev reaches : ℕ → Row → Bool
+abbrev pub reaches : ℕ → Row → Bool
 reaches n s = is_true (binary (Compare Ge Binary) (column s 0) (Int (pos n)))
 
 reaches_is : (n k : ℕ) (e : EntryModel) → reaches n (shown_as k e) ≡ is_ge (int_cmp (pos k) (pos n))
 unfolding binary
 reaches_is n k e = truth_back _ ∙ ap is_ge (value_cmp-Int (pos k) (pos n))
 
-reaches_not : (n k : ℕ) (e : EntryModel) → k < n → reaches n (shown_as k e) ≡ false
+pub reaches_not : (n k : ℕ) (e : EntryModel) → k < n → reaches n (shown_as k e) ≡ false
 reaches_not n k e low =
     let less : int_cmp (pos k) (pos n) ≡ Less = grind (arith, ints, nat_tests) in reaches_is n k e ∙ ap is_ge less
 
-reaches_from : (n k : ℕ) (e : EntryModel) → n ≤ k → reaches n (shown_as k e) ≡ true
+pub reaches_from : (n k : ℕ) (e : EntryModel) → n ≤ k → reaches n (shown_as k e) ≡ true
 reaches_from n k e low =
     let high : is_ge (int_cmp (pos k) (pos n)) ≡ true = grind (arith, ints, nat_tests) in reaches_is n k e ∙ high
 
@@ -197,14 +197,14 @@ lists_front old new id n count front back before place was h =
 
 -- ---- an entry at a place
 
-abbrev stands : ℕ → Row → Bool
+abbrev pub stands : ℕ → Row → Bool
 stands at s = has 0 at s
 
-stands_not : (at k : ℕ) (e : EntryModel) → k ≢ at → stands at (shown_as k e) ≡ false
+pub stands_not : (at k : ℕ) (e : EntryModel) → k ≢ at → stands at (shown_as k e) ≡ false
 stands_not at k e apart =
     let row = shown_as k e in false_from_ne_true _ (λ h. apart (has_one 0 k at row (int_has 0 k row refl) h))
 
-stands_at : (at : ℕ) (e : EntryModel) → stands at (shown_as at e) ≡ true
+pub stands_at : (at : ℕ) (e : EntryModel) → stands at (shown_as at e) ≡ true
 stands_at at e = int_has 0 at (shown_as at e) refl
 
 module _ (at : ℕ) (front back : List EntryModel) (place : at ≡ length front) where

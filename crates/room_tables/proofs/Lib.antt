@@ -19,6 +19,7 @@ pub mod Sessions
 pub mod Slots
 pub mod Placed
 pub mod InPlace
+pub mod Neighbours
 pub mod Drops
 pub mod FirstEntries
 pub mod Asks

@@ -5,8 +5,8 @@ use Rattle.room_tables.specs.Steps.{shown_as}
 use Rattle.room_tables.proofs.InPlace.{lists_changed}
 use Rattle.room_sql.proofs.Bound.{columns}
 use Rattle.room_sql.proofs.Frames.{ok_then}
-use Rattle.room_sql.proofs.writes.change_entry.Given.{Over}
-use Rattle.room_sql.proofs.writes.change_entry.Goals as goal
+use Rattle.room_sql.proofs.renewing.change_entry.Given.{Over}
+use Rattle.room_sql.proofs.renewing.change_entry.Goals as goal
 
 params : (g : Over) (c : goal.After-run g) → bound (c.to_sql.result ∷ columns (c.entry_row-row.result ∷ []))
     ≡ Int (pos c.args.id) ∷ shown_as c.args.place c.args.entry.now
