@@ -3,3 +3,4 @@ pub mod AskOf
 pub mod CheckAsk
 pub mod EventModel
 pub mod Routing
+pub mod Targets

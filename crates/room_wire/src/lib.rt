@@ -16,7 +16,7 @@ pub use asks::ask::Ask;
 pub use asks::check_ask::decode_check;
 pub use asks::decoding::decode;
 pub use asks::event::Event;
-pub use asks::laws::check_route_is_one_target;
+pub use asks::laws::{check_route_is_one_target, routes_are_three_targets};
 pub use asks::route::route;
 pub use asks::routed::{Routed, SentRequest};
 pub use asks::routing::{CheckRoute, Routes};

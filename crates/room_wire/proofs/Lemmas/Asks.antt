@@ -1,4 +1,7 @@
 -- What messages ask: routes, the caller, events and questions.
+pub mod Finds
 pub mod Numerals
+pub mod Routes
 pub mod TargetTexts
 pub mod Targets
+pub mod Walks

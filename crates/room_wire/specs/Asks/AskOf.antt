@@ -69,12 +69,12 @@ abbrev pub slots_from : ℕ → Option ℕ
 slots_from n = if nat_le 1 n && nat_le n max_slots then Some n else None
 
 -- one member, exactly
-abbrev pub slots_in : Data → Option ℕ
-slots_in d = if has_count 1 d then option_and_then slots_from (number_at (codes "slots") d) else None
+abbrev pub slots_asked : Data → Option ℕ
+slots_asked d = if has_count 1 d then option_and_then slots_from (number_at (codes "slots") d) else None
 
 -- how many slots the body of an OPEN asks: 1 to 16, the limit
 abbrev pub slots_of_body : List ℕ → Option ℕ
-slots_of_body body = option_and_then slots_in (json_of body)
+slots_of_body body = option_and_then slots_asked (json_of body)
 
 abbrev pub open_by : SubjectModel → Option (List ℕ) → Option ℕ → Option EventModel
 open_by caller None slots = None

@@ -47,8 +47,8 @@ abbrev pub path_at : List ℕ → Data → Option Path
 path_at name d = option_and_then path_from (text_at name d)
 
 -- standard base64 with padding (RFC 4648, section 4)
-abbrev pub bytes_at : List ℕ → Data → Option (List ℕ)
-bytes_at name d = option_and_then (decoded_of standard) (text_at name d)
+abbrev pub decoded_at : List ℕ → Data → Option (List ℕ)
+decoded_at name d = option_and_then (decoded_of standard) (text_at name d)
 
 -- the flags of a whole list
 abbrev pub list_flags_from : ℕ → Option ℕ
@@ -131,7 +131,7 @@ has_parts n d = has_count (n + beside (get (codes "keep") d)) d
 abbrev pub verb_command : Verb → Data → Option CommandModel
 verb_command (V.OfPath verb) d = if has_parts 2 d then option_map (of_path verb) (path_at (codes "path") d) else None
 verb_command (V.OfBytes verb) d =
-    if has_parts 3 d then bytes_by verb (bytes_at (codes "data") d) (path_at (codes "path") d) else None
+    if has_parts 3 d then bytes_by verb (decoded_at (codes "data") d) (path_at (codes "path") d) else None
 verb_command V.Rename d = if has_parts 3 d then rename_by (path_at (codes "path") d) (path_at (codes "to") d) else None
 verb_command V.SetList d =
     if has_parts 4 d then set_list_by (list_flags_at (codes "aclflag") d)

@@ -67,18 +67,18 @@ allow_from n = if n == 0 then Some true else (if n == 1 then Some false else Non
 abbrev pub allow_at : List ℕ → Data → Option Bool
 allow_at name d = option_and_then allow_from (number_at name d)
 
-abbrev pub entry_of : Option ℕ → Option ℕ → Option Bool → Option (List ℕ) → Option EntryModel
-entry_of None mask allow text = None
-entry_of (Some flags) None allow text = None
-entry_of (Some flags) (Some mask) None text = None
-entry_of (Some flags) (Some mask) (Some allow) None = None
-entry_of (Some flags) (Some mask) (Some allow) (Some text) =
+abbrev pub entry_by : Option ℕ → Option ℕ → Option Bool → Option (List ℕ) → Option EntryModel
+entry_by None mask allow text = None
+entry_by (Some flags) None allow text = None
+entry_by (Some flags) (Some mask) None text = None
+entry_by (Some flags) (Some mask) (Some allow) None = None
+entry_by (Some flags) (Some mask) (Some allow) (Some text) =
     option_map (λ who. record { allow = allow; flags = flags; mask = mask; who = who }) (who_from flags text)
 
 -- four members, exactly
 abbrev pub entry_in : Data → Option EntryModel
 entry_in d =
-    if has_count 4 d then entry_of (flags_at (codes "flag") d)
+    if has_count 4 d then entry_by (flags_at (codes "flag") d)
     (mask_at (codes "mask") d) (allow_at (codes "type") d) (text_at (codes "who") d)
     else None
 
@@ -87,19 +87,19 @@ cons None rest = None
 cons (Some x) None = None
 cons (Some x) (Some xs) = Some (x ∷ xs)
 
-abbrev pub entries_in : Items → Option (List EntryModel)
-entries_in no_items = Some []
-entries_in (item d ds) = cons (entry_in d) (entries_in ds)
+abbrev pub entries_among : Items → Option (List EntryModel)
+entries_among no_items = Some []
+entries_among (item d ds) = cons (entry_in d) (entries_among ds)
 
 abbrev pub principal_in : Data → Option (List ℕ)
 principal_in d = option_and_then principal_from (as_str d)
 
-abbrev pub principals_in : Items → Option (List (List ℕ))
-principals_in no_items = Some []
-principals_in (item d ds) = cons (principal_in d) (principals_in ds)
+abbrev pub principals_among : Items → Option (List (List ℕ))
+principals_among no_items = Some []
+principals_among (item d ds) = cons (principal_in d) (principals_among ds)
 
 abbrev pub entries_at : List ℕ → Data → Option (List EntryModel)
-entries_at name d = option_and_then entries_in (option_and_then as_array (get name d))
+entries_at name d = option_and_then entries_among (option_and_then as_array (get name d))
 
 abbrev pub principals_at : List ℕ → Data → Option (List (List ℕ))
-principals_at name d = option_and_then principals_in (option_and_then as_array (get name d))
+principals_at name d = option_and_then principals_among (option_and_then as_array (get name d))

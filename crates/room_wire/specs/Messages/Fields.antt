@@ -9,14 +9,14 @@ use Rattle.room_wire.specs.declared.messages.fields.Found.{Found}
 use Rattle.room_wire.specs.declared.messages.fields.Found.TheVariants.{Absent, One, Many}
 
 -- the field has this name, in any case
-abbrev pub is_named : List ℕ → List ℕ × List ℕ → Bool
-is_named name field = bytes_eq (map to_ascii_lowercase field.0) (map to_ascii_lowercase name)
+abbrev pub has_name : List ℕ → List ℕ × List ℕ → Bool
+has_name name field = bytes_eq (map to_ascii_lowercase field.0) (map to_ascii_lowercase name)
 
 -- the values of the fields of this name, in their order
 abbrev pub values_named : List ℕ → List (List ℕ × List ℕ) → List (List ℕ)
 values_named name [] = []
 values_named name (field ∷ fields) =
-    if is_named name field then field.1 ∷ values_named name fields else values_named name fields
+    if has_name name field then field.1 ∷ values_named name fields else values_named name fields
 
 -- 1 to 10 digits
 abbrev pub is_length_text : List ℕ → Bool

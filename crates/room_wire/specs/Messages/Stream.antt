@@ -14,12 +14,12 @@ is_close part = bytes_eq (map to_ascii_lowercase (trim_ows part)) (map to_ascii_
 abbrev pub lists_close : List ℕ → Bool
 lists_close value = list_any is_close (slice_split (λ b. b == 44) value)
 
-abbrev pub closes : List (List ℕ × List ℕ) → Bool
-closes fields = list_any lists_close (values_named (codes "connection") fields)
+abbrev pub asks_to_close : List (List ℕ × List ℕ) → Bool
+asks_to_close fields = list_any lists_close (values_named (codes "connection") fields)
 
 -- the message is last: HTTP/1.0, or it asks to close
 abbrev pub is_last : MessageModel → Bool
-is_last m = (m.head.minor == 0) || closes (fields_of m)
+is_last m = (m.head.minor == 0) || asks_to_close (fields_of m)
 
 -- these messages stand at the front, none of them last, and then the rest
 abbrev pub Follows : List ℕ → List MessageModel → List ℕ → Type 0

@@ -20,8 +20,8 @@ use Rattle.room_wire.specs.Forms.Texts as T
 abbrev pub subject_of : ListQuestion → SubjectModel
 subject_of q = record { name = q.user; groups = q.groups }
 
-abbrev pub standing_of : ListQuestion → Standing
-standing_of q = record { owner = q.owner; group = q.group }
+abbrev pub standing_in : ListQuestion → Standing
+standing_in q = record { owner = q.owner; group = q.group }
 
 -- the lowest wanted bit that is not allowed, or 0
 abbrev pub bit_of : Decision → ℕ
@@ -32,8 +32,8 @@ abbrev pub allowed_data : (allowed bit : ℕ) → Data
 allowed_data allowed bit = obj ((codes "allowed", num allowed) ∷ (codes "bit", num bit) ∷ ok ∷ [])
 
 -- the wanted bits that are allowed, and the lowest wanted bit that is not
-abbrev pub list_text : List EntryModel → SubjectModel → Standing → ℕ → List ℕ
-list_text entries subject standing mask =
+abbrev pub rights_text : List EntryModel → SubjectModel → Standing → ℕ → List ℕ
+rights_text entries subject standing mask =
     compact_text (allowed_data (bit_and (allowed_mask entries subject standing) mask)
     (bit_of (decision entries subject standing mask)))
 
@@ -52,5 +52,5 @@ abbrev pub child_text : List EntryModel → Kind → List ℕ
 child_text entries kind = child_text_by (own_entries_fault entries Folder) (handed_down entries kind)
 
 abbrev pub answer_text : QuestionModel → List ℕ
-answer_text (OfList q) = list_text q.entries (subject_of q) (standing_of q) q.mask
+answer_text (OfList q) = rights_text q.entries (subject_of q) (standing_in q) q.mask
 answer_text (OfChild q) = child_text q.entries q.kind

@@ -1,7 +1,7 @@
 //! The parts of targets, and the body of an OPEN.
 ghost use Rattle.std.specs.Prelude.{◌≡◌, IfOk, option_and_then};
 ghost use Rattle.serde_json.specs.View.{view};
-ghost use Rattle.room_wire.specs.Asks.AskOf.{sid_from, is_number, number_from, slots_from, slots_in};
+ghost use Rattle.room_wire.specs.Asks.AskOf.{sid_from, is_number, number_from, slots_from, slots_asked};
 ghost use Rattle.room_wire.specs.Asks.AskOf.{slots_of_body, ReadsAs};
 
 use crate::fault::WireFault;
@@ -51,7 +51,7 @@ fn slots_from(number: u64) -> Option<SlotCount>
 }
 
 fn slots_in(value: &Value) -> Option<SlotCount>
-    ensures { result ≡ slots_in (view value.now) }
+    ensures { result ≡ slots_asked (view value.now) }
 {
     if !has_count(value, 1) {
         return None;

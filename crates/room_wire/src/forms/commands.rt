@@ -5,7 +5,7 @@ ghost use Rattle.base64.specs.Engines.{standard};
 ghost use Rattle.base64.specs.GeneralPurpose.{decoded_of};
 ghost use Rattle.room_commands.specs.CommandModel.{command_model};
 ghost use Rattle.room_commands.specs.Lawful.{AreBytes, IsLawful};
-ghost use Rattle.room_wire.specs.Forms.Commands.{path_from, path_at, bytes_at, list_flags_from, list_flags_at};
+ghost use Rattle.room_wire.specs.Forms.Commands.{path_from, path_at, decoded_at, list_flags_from, list_flags_at};
 ghost use Rattle.room_wire.specs.Forms.Commands.{verb_from, verb_at, of_path, of_bytes, bytes_by, rename_by};
 ghost use Rattle.room_wire.specs.Forms.Commands.{set_list_by, chown_by, access_by, verb_command, command_in};
 ghost use Rattle.room_wire.specs.Forms.Commands.{has_parts, keep_at, asked_in, asked_model, command_of_body};
@@ -84,7 +84,7 @@ fn bytes_from(alloc: Global, text: &str) -> Result<Option<Vec<u8>>, AllocError>
 /// Bytes among the members.
 fn bytes_at(alloc: Global, value: &Value, name: &str) -> Result<Option<Vec<u8>>, AllocError>
     ensures { IfOk result (λ found.
-        option_map (λ v. v.items) found ≡ bytes_at name.now (view value.now)) }
+        option_map (λ v. v.items) found ≡ decoded_at name.now (view value.now)) }
 {
     match text_at(value, name) {
         Some(text) => bytes_from(alloc, text),

@@ -4,7 +4,7 @@ ghost use Rattle.serde_json.specs.View.{view, items_view};
 ghost use Rattle.serde_json.specs.Find.{get, as_array, as_str};
 ghost use Rattle.room_wire.specs.Forms.Reading.{json_of, has_count, number_at, text_at, mask_at, flags_at, allow_at};
 ghost use Rattle.room_wire.specs.Forms.Reading.{kind_from, kind_at, mask_from, flags_from, allow_from, principal_from};
-ghost use Rattle.room_wire.specs.Forms.Reading.{principal_in, principal_at, entry_in, entries_in, principals_in};
+ghost use Rattle.room_wire.specs.Forms.Reading.{principal_in, principal_at, entry_in, entries_among, principals_among};
 ghost use Rattle.room_wire.specs.Forms.Reading.{entries_at, principals_at};
 
 use room_acl::{Entry, Flags, Kind, Mask, Principal, Who};
@@ -168,7 +168,7 @@ fn entry_in(alloc: Global, value: &Value) -> Result<Option<Entry>, AllocError>
 }
 
 fn entries_in(alloc: Global, values: &[Value]) -> Result<Option<Vec<Entry>>, AllocError>
-    ensures { IfOk result (λ found. option_map (λ v. v.items) found ≡ entries_in (items_view values.now)) }
+    ensures { IfOk result (λ found. option_map (λ v. v.items) found ≡ entries_among (items_view values.now)) }
 {
     let mut entries = Vec::new(alloc);
     for value in values {
@@ -181,7 +181,7 @@ fn entries_in(alloc: Global, values: &[Value]) -> Result<Option<Vec<Entry>>, All
 }
 
 fn principals_in(alloc: Global, values: &[Value]) -> Result<Option<Vec<Principal>>, AllocError>
-    ensures { IfOk result (λ found. option_map (λ v. v.items) found ≡ principals_in (items_view values.now)) }
+    ensures { IfOk result (λ found. option_map (λ v. v.items) found ≡ principals_among (items_view values.now)) }
 {
     let mut names = Vec::new(alloc);
     for value in values {

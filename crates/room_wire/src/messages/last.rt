@@ -3,7 +3,7 @@ ghost use Rattle.std.specs.Prelude.{◌≡◌, length, map, take, All, ◌||◌,
 ghost use Rattle.std.specs.Prelude.{position, IfSome, ◌+◌, ◌^◌};
 ghost use Rattle.httparse.specs.Grammar.{skip_ows, trim_ows};
 ghost use Rattle.httparse.specs.Spans.{IsHeaderWithin, header_bytes};
-ghost use Rattle.room_wire.specs.Messages.Stream.{is_close, lists_close, closes};
+ghost use Rattle.room_wire.specs.Messages.Stream.{is_close, lists_close, asks_to_close};
 
 use crate::messages::fields::same_name;
 use crate::messages::message::Message;
@@ -66,7 +66,7 @@ fn lists_close(value: &[u8]) -> bool
 
 fn closes(buf: &[u8], headers: &[HeaderSpan]) -> bool
     requires { All (IsHeaderWithin (length buf.now)) headers.now }
-    ensures { result ≡ closes (map (header_bytes buf.now) headers.now) }
+    ensures { result ≡ asks_to_close (map (header_bytes buf.now) headers.now) }
 {
     let mut close = false;
     for header in headers {
@@ -80,7 +80,7 @@ fn closes(buf: &[u8], headers: &[HeaderSpan]) -> bool
 /// Whether the message is the last of its stream.
 pub(crate) fn is_last(message: &Message<'_>) -> bool
     ensures { result ≡ ((message.now.minor == 0)
-        || closes (map (header_bytes message.now.window.now) (take message.now.count message.now.spans))) }
+        || asks_to_close (map (header_bytes message.now.window.now) (take message.now.count message.now.spans))) }
 {
     message.minor == 0 || closes(message.window, &message.spans[..message.count])
 }

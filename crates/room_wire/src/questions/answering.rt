@@ -1,7 +1,7 @@
 //! Answers to questions.
 ghost use Rattle.std.specs.Prelude.{◌≡◌, IfOk};
 ghost use Rattle.serde_json.specs.Written.{compact_text};
-ghost use Rattle.room_wire.specs.Questions.CheckAnswers.{allowed_data, entries_data, answer_text, list_text};
+ghost use Rattle.room_wire.specs.Questions.CheckAnswers.{allowed_data, entries_data, answer_text, rights_text};
 ghost use Rattle.room_wire.specs.Questions.CheckAnswers.{child_text, bit_of};
 ghost use Rattle.room_wire.specs.Questions.QuestionModel.{question_model};
 
@@ -60,7 +60,7 @@ fn list_answer(
     mask: Mask,
 ) -> Result<Vec<u8>, AllocError>
     ensures { IfOk result (λ text.
-        text.items ≡ list_text entries.now subject.now standing.now mask) }
+        text.items ≡ rights_text entries.now subject.now standing.now mask) }
 {
     let allowed = allowed_bits(entries, subject, standing).bits() & mask.bits();
     let bit = bit_of(decide(entries, subject, standing, mask));

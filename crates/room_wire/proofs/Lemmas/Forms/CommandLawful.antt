@@ -17,7 +17,7 @@ use Rattle.room_commands.specs.CommandModel.{CommandModel}
 use Rattle.room_commands.specs.Lawful.{AreBytes, IsWho, IsEntry, IsLawful}
 use Rattle.room_wire.specs.Forms.Reading.{has_count, json_of, number_at, text_at, mask_from, mask_at, flags_from}
 use Rattle.room_wire.specs.Forms.Reading.{flags_at, is_principal, principal_from, principal_at, allow_at, named_who}
-use Rattle.room_wire.specs.Forms.Reading.{who_from, entry_of, entry_in, cons, entries_in, entries_at}
+use Rattle.room_wire.specs.Forms.Reading.{who_from, entry_by, entry_in, cons, entries_among, entries_at}
 use Rattle.room_wire.specs.Forms.Commands.{path_from, path_at, list_flags_from, list_flags_at, verb_at, of_path}
 use Rattle.room_wire.specs.Forms.Commands.{of_bytes, bytes_by, rename_by, set_list_by, chown_by, access_by}
 use Rattle.room_wire.specs.Forms.Commands.{has_parts, verb_command, command_by, command_in, keep_at, asked_by, asked_in}
@@ -109,21 +109,21 @@ who_fact flags text who e =
     (bytes_eq text (codes "EVERYONE@")) (identifier_group flags) (principal_from text) refl
     (λ name made. principal_fact text name made) e
 
-entry_by : (e : EntryModel) (flags mask : Option ℕ) (allow : Option Bool) (text : Option (List ℕ))
+entry_by_fact : (e : EntryModel) (flags mask : Option ℕ) (allow : Option Bool) (text : Option (List ℕ))
     → ((n : ℕ) → flags ≡ Some n → IsFlags n) → ((n : ℕ) → mask ≡ Some n → IsMask n)
-    → entry_of flags mask allow text ≡ Some e → IsEntry e
-entry_by e (Some flags) (Some mask) (Some allow) (Some text) f m made =
+    → entry_by flags mask allow text ≡ Some e → IsEntry e
+entry_by_fact e (Some flags) (Some mask) (Some allow) (Some text) f m made =
     map_some (λ who. record { allow = allow; flags = flags; mask = mask; who = who })
     (who_from flags text) e made (λ who is same.
     let named = who_fact flags text who is in
     let lawful : IsEntry (record { allow = allow; flags = flags; mask = mask; who = who }) =
     record { flags = f flags refl; mask = m mask refl; who = named.0; kind = named.1 } in
     subst IsEntry same lawful)
-entry_by e flags mask allow text f m made = absurd cc
+entry_by_fact e flags mask allow text f m made = absurd cc
 
 entry_fact : (d : Data) (e : EntryModel) → entry_in d ≡ Some e → IsEntry e
 entry_fact d e made =
-    entry_by e (flags_at (codes "flag") d) (mask_at (codes "mask") d) (allow_at (codes "type") d)
+    entry_by_fact e (flags_at (codes "flag") d) (mask_at (codes "mask") d) (allow_at (codes "type") d)
     (text_at (codes "who") d) (flags_at_fact (codes "flag") d) (mask_at_fact (codes "mask") d)
     (then_some (has_count 4 d) _ e made)
 
@@ -135,14 +135,15 @@ entries_by (Some e) (Some more) es one all made =
     subst (AllByRecursion IsEntry) (same_Some (e ∷ more) es made) (one e refl, all more refl)
 entries_by first rest es one all made = absurd cc
 
-entries_fact : (ds : Items) (es : List EntryModel) → entries_in ds ≡ Some es → AllByRecursion IsEntry es
+entries_fact : (ds : Items) (es : List EntryModel) → entries_among ds ≡ Some es → AllByRecursion IsEntry es
 entries_fact no_items es made = subst (AllByRecursion IsEntry) (same_Some [] es made) tt
-entries_fact (item d ds) es made = entries_by (entry_in d) (entries_in ds) es (entry_fact d) (entries_fact ds) made
+entries_fact (item d ds) es made = entries_by (entry_in d) (entries_among ds) es (entry_fact d) (entries_fact ds) made
 
 entries_at_fact : (name : List ℕ) (d : Data) (es : List EntryModel)
     → entries_at name d ≡ Some es → AllByRecursion IsEntry es
 entries_at_fact name d es e =
-    option_and_then_some entries_in (option_and_then as_array (get name d)) es e (λ ds is made. entries_fact ds es made)
+    option_and_then_some entries_among (option_and_then as_array (get name d)) es e
+    (λ ds is made. entries_fact ds es made)
 
 -- ---- commands
 

@@ -16,7 +16,7 @@ use Rattle.room_records.specs.Names.{Path, IsPath, path_text}
 use Rattle.room_commands.specs.Lawful.{IsWho, IsEntry}
 use Rattle.room_wire.specs.Forms.Texts.{who_text, entry_type, entry, entries}
 use Rattle.room_wire.specs.Forms.Reading.{flags_from, mask_from, allow_from, principal_from, named_who, who_from}
-use Rattle.room_wire.specs.Forms.Reading.{entry_of, entry_in, cons, entries_in}
+use Rattle.room_wire.specs.Forms.Reading.{entry_by, entry_in, cons, entries_among}
 use Rattle.room_wire.specs.Forms.Commands.{path_from, list_flags_from}
 use Rattle.room_wire.proofs.Lemmas.Forms.CommandPaths.{path_of_text}
 
@@ -78,11 +78,11 @@ allow_back false = refl
 
 entry_back : (e : EntryModel) → IsEntry e → entry_in (entry e) ≡ Some e
 entry_back e h =
-    (λ i. entry_of (flags_back e.flags h.flags i) (mask_back e.mask h.mask i)
+    (λ i. entry_by (flags_back e.flags h.flags i) (mask_back e.mask h.mask i)
     (allow_back e.allow i) (Some (who_text e.who)))
     ∙ ap (option_map (λ who. record { allow = e.allow; flags = e.flags; mask = e.mask; who = who }))
     (who_back e.flags e.who h.who h.kind)
 
-pub entries_back : (es : List EntryModel) → AllByRecursion IsEntry es → entries_in (entries es) ≡ Some es
+pub entries_back : (es : List EntryModel) → AllByRecursion IsEntry es → entries_among (entries es) ≡ Some es
 entries_back [] h = refl
 entries_back (e ∷ es) h = (λ i. cons (entry_back e h.0 i) (entries_back es h.1 i))

@@ -9,17 +9,17 @@ use Rattle.std.specs.List.{list_all, list_any}
 use Rattle.std.specs.Char.{is_ascii_digit, digit_value}
 use Rattle.httparse.specs.Spans.{header_bytes}
 use Rattle.httparse.specs.declared.spans.HeaderSpan.{HeaderSpan}
-use Rattle.room_wire.specs.Messages.Fields.{values_named, is_named, IsFound}
+use Rattle.room_wire.specs.Messages.Fields.{values_named, has_name, IsFound}
 use Rattle.room_wire.specs.declared.messages.fields.Found.{Found}
 use Rattle.room_wire.specs.declared.messages.fields.Found.TheVariants.{Absent, One, Many}
 
 values_push : (name : List ℕ) (fields : List (List ℕ × List ℕ)) (field : List ℕ × List ℕ) →
-    values_named name (fields ++ field ∷ []) ≡ values_named name fields ++ cond (is_named name field) (field.1 ∷ []) []
+    values_named name (fields ++ field ∷ []) ≡ values_named name fields ++ cond (has_name name field) (field.1 ∷ []) []
 values_push name [] field = refl
 values_push name (other ∷ fields) field =
-    elim (is_named name other) as (λ b. cond b (other.1 ∷ values_named name (fields ++ field ∷ []))
+    elim (has_name name other) as (λ b. cond b (other.1 ∷ values_named name (fields ++ field ∷ []))
     (values_named name (fields ++ field ∷ [])) ≡ cond b (other.1 ∷ values_named name fields)
-    (values_named name fields) ++ cond (is_named name field) (field.1 ∷ []) []) [
+    (values_named name fields) ++ cond (has_name name field) (field.1 ∷ []) []) [
       | true ↦ ap (λ t. other.1 ∷ t) (values_push name fields field)
       | false ↦ values_push name fields field
     ]
@@ -28,7 +28,7 @@ values_push name (other ∷ fields) field =
 pub values_more : (name buf : List ℕ) (headers : List HeaderSpan) (i : ℕ) (d : HeaderSpan) → i < length headers
     → values_named name (map (header_bytes buf) (take (i + 1) headers))
     ≡ values_named name (map (header_bytes buf) (take i headers)) ++ cond
-    (is_named name (header_bytes buf (get_or headers i d))) ((header_bytes buf (get_or headers i d)).1 ∷ []) []
+    (has_name name (header_bytes buf (get_or headers i d))) ((header_bytes buf (get_or headers i d)).1 ∷ []) []
 values_more name buf headers i d inside =
     ap (λ t. values_named name (map (header_bytes buf) t)) (take_more headers i d inside)
     ∙ ap (values_named name) (map-append (header_bytes buf) (take i headers) (get_or headers i d ∷ []))

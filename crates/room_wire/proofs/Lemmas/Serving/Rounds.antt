@@ -10,14 +10,15 @@ use Rattle.room_wire.specs.Answers.AnswerModel.{AnswerModel, answer_bytes}
 use Rattle.room_wire.specs.Messages.MessageModel.{MessageModel, Reads}
 use Rattle.room_wire.specs.Messages.Taken.{Shows}
 use Rattle.room_wire.specs.Serving.Outputs.{AnswersOne, Outputs}
-use Rattle.room_wire.specs.Messages.Stream.{Follows, Ended, is_last, closes}
+use Rattle.room_wire.specs.Messages.Stream.{Follows, Ended, is_last, asks_to_close}
 use Rattle.room_records.specs.Writers.{Sent, AppendsFront}
 use Rattle.room_wire.proofs.Lemmas.Messages.Streams.{follows_then, follows_ended, follows_one, ended_one}
 
 pub shown_last : (message : Message) (m : MessageModel) (last : Bool) → Shows message m
-    → last ≡ ((message.minor == 0) || closes (map (header_bytes message.window.now) (take message.count message.spans)))
+    → last ≡ ((message.minor == 0)
+    || asks_to_close (map (header_bytes message.window.now) (take message.count message.spans)))
     → last ≡ is_last m
-shown_last message m last s e = e ∙ (λ i. (s.minor i == 0) || closes (s.fields i))
+shown_last message m last s e = e ∙ (λ i. (s.minor i == 0) || asks_to_close (s.fields i))
 
 -- the answers to some messages, and then to others
 pub outputs_then : {S : Type 0} (may : S → MessageModel → AnswerModel → S → Type 0)

@@ -3,7 +3,7 @@ use Rattle.std.proofs.Common.{subst, ◌∙◌, append-nil}
 use Rattle.std.specs.Char.{to_ascii_lowercase}
 use Rattle.std.specs.Prelude.{bytes_eq}
 use Rattle.httparse.specs.Spans.{header_bytes}
-use Rattle.room_wire.specs.Messages.Fields.{IsFound, values_named, is_named}
+use Rattle.room_wire.specs.Messages.Fields.{IsFound, values_named, has_name}
 use Rattle.room_wire.specs.declared.messages.fields.Found.TheVariants.{Many}
 use Rattle.room_wire.proofs.Lemmas.Messages.Values.{values_more, found_other, no_header}
 use Rattle.room_wire.proofs.messages.fields.values_of.Goals.{then-same_name+in-Absent, then-same_name+in_default}
@@ -18,7 +18,7 @@ loop-header-preserved c =
     values_named name (map (header_bytes c.args.buf.now) (take c.loop-header.header-index c.args.headers.now)) in
     let more = values_more name c.args.buf.now c.args.headers.now
     c.loop-header.header-index no_header c.loop-header-test.true in
-    let test : is_named name header ≡ c.same_name.result =
+    let test : has_name name header ≡ c.same_name.result =
     sym (c.same_name.ensures
     ∙ ap (λ t. bytes_eq (map to_ascii_lowercase t) (map to_ascii_lowercase name)) c.of.ensures) in
     let add = λ (b : Bool) (e : c.same_name.result ≡ b). more

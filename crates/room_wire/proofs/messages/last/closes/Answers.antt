@@ -5,7 +5,7 @@ use Rattle.std.specs.List.{list_any}
 use Rattle.std.specs.Char.{to_ascii_lowercase}
 use Rattle.std.specs.Prelude.{bytes_eq}
 use Rattle.httparse.specs.Spans.{header_bytes}
-use Rattle.room_wire.specs.Messages.Fields.{values_named, is_named}
+use Rattle.room_wire.specs.Messages.Fields.{values_named, has_name}
 use Rattle.room_wire.specs.Messages.Stream.{lists_close}
 use Rattle.room_wire.proofs.Lemmas.Messages.Values.{values_more, no_header, any_more}
 use Rattle.room_wire.proofs.messages.last.closes.Goals.{then-same_name+then-lists_close, else-same_name}
@@ -24,7 +24,7 @@ loop-header-preserved c =
     values_named name (map (header_bytes c.args.buf.now) (take c.loop-header.header-index c.args.headers.now)) in
     let more = values_more name c.args.buf.now c.args.headers.now
     c.loop-header.header-index no_header c.loop-header-test.true in
-    let test : is_named name header ≡ c.same_name.result =
+    let test : has_name name header ≡ c.same_name.result =
     sym (c.same_name.ensures
     ∙ ap (λ t. bytes_eq (map to_ascii_lowercase t) (map to_ascii_lowercase name)) c.of.ensures) in
     let add = λ (b l : Bool) (e : c.same_name.result ≡ b) (f : lists_close header.1 ≡ l).
