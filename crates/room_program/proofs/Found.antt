@@ -57,7 +57,7 @@ use Rattle.room_program.specs.declared.left.Left.{Left}
 use Rattle.room_program.specs.declared.left.Left.TheVariants.{Nothing, Unopened, Copied, Uncopied, Kept}
 use Rattle.room_program.specs.Machines.{Call}
 use Rattle.room_program.specs.Machines.Call.{opens, closes, leaves, reads, looks, asks, hears}
-use Rattle.room_program.specs.Calls.{Exchange, Accepted}
+use Rattle.room_program.specs.Calls.{Exchange, AcceptsEach}
 use Rattle.room_program.specs.Files.{Adopted, Takes, Untaken, Made, Unmade}
 use Rattle.room_program.specs.Files.{TakesRoster, OpensStore, TakesRoom, IsUnopened}
 use Rattle.room_program.specs.Faults.{done_of_report}
@@ -640,7 +640,7 @@ module _ {D M : Type 0} (g : Ghosts D) (image : Image) (does : M → Call (Held 
       (accepts_so : (old new : M) (e : Exchange) → accepts old e new → left new ≡ left old)
       (fails_so : (old new : M) → fails old new → left new ≡ left old)
       (before later : M) (old new : Streams) (status : ℕ) where
-    accepted_left : (n : ℕ) (from to : M) → Accepted accepts n from to → left to ≡ left from
+    accepted_left : (n : ℕ) (from to : M) → AcceptsEach accepts n from to → left to ≡ left from
     accepted_left zero from to (same, none) = ap left same
     accepted_left (suc n) from to (last, between, each, (e, took, one)) =
         accepts_so last to e took ∙ accepted_left n from last each

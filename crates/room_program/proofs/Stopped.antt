@@ -25,7 +25,7 @@ use Rattle.room_cache.specs.declared.known.Known.{Known}
 use Rattle.room_cache.specs.Cached.{cached_view}
 use Rattle.room_tables.specs.Tables.{Fresh, has_a_table}
 use Rattle.room_tables.specs.Layout.{under}
-use Rattle.room_tables.specs.Fresh.{MayBeMade}
+use Rattle.room_tables.specs.Fresh.{IsFresh, MayBeMade, StandsBeside}
 use Rattle.room_tables.specs.Rows.{records_of}
 use Rattle.room_sql.specs.declared.sql_shelf.SqlShelf.{SqlShelf}
 use Rattle.room_sql.specs.SqlView.{sql_view}
@@ -39,11 +39,12 @@ use Rattle.room_program.specs.declared.fault.Fault.{Fault}
 use Rattle.room_program.specs.declared.fault.Fault.TheVariants as fault
 use Rattle.room_program.specs.declared.left.Left.{Left}
 use Rattle.room_program.specs.Files.{Adopted, Made, Takes, Unmade}
-use Rattle.room_program.specs.Found.{Closes, HoldsNothing, HoldsRoom, IsLeftBy, IsOpenedOver, MayBeLeft}
+use Rattle.room_program.specs.Found.{Closes, Holds, HoldsNothing, HoldsRoom, IsLeftBy, IsOpenedOver, MayBeLeft}
 use Rattle.room_program.specs.Halts.{StandsOrWith, HoldsOldOrNew, HoldsFreshOrNone, HoldsRoomWith, IsTakenOut}
-use Rattle.room_program.specs.Halts.{connection_of}
+use Rattle.room_program.specs.Halts.{HoldsOldOrBeside, connection_of}
 use Rattle.room_program.specs.Restarts.{AnswersOrMore, HoldsStill, KeepsRoomOrMore}
 use Rattle.room_program.proofs.Found.{may_room, was_sound, has_none, found_nothing, closed_holds, closed_in}
+use Rattle.room_program.proofs.Found.{found_database}
 use Rattle.room_words.specs.declared.job.ReportKind.{ReportKind}
 use Rattle.room_program.specs.Rooms.{WritesReport}
 use Rattle.room_program.proofs.Restarts.{open_or_more, keeps_room_or_more, report_still}
@@ -209,6 +210,34 @@ module _ {D : Type 0} (g : Ghosts D) (shut : Held (FileStore D g)) (it : FileSto
                 room = inl fresh.0.room;
                 rows = stand_at_first (fresh_room owner group) _ fresh.1.room fresh.1.sessions fresh.1.slots;
               })
+        ])
+
+    pub init_beside : Ended → (db : Database) → Holds found db → HoldsOldOrBeside image db owner group
+    init_beside ended db held =
+        let either = tried ended in
+        let was : HasCleanDisk (file_state opened) = elim either [
+          | inl same ↦ subst (λ c. HasCleanDisk (file_state c)) same was_in
+          | inr (none, survives) ↦ was_clean survives was_in
+        ] in
+        let (shown, finds, plain) = is was in
+        let now = found_database g found db held opened is was in
+        ∥∥₁_map (opens_again it (out.numbered none_in) (out.sound none_in) image (left_in image may)) (λ one.
+        let (trees, here, holds) = one in
+        let as_it_was : (file_state opened).may_leave trees → Holds image db = λ old.
+        let there = settled_at opened.store stays trees shown.0.is_open old
+        ∙ sym (ap (λ (d : Database). d.trees) shown.0.clean) ∙ ap (λ (d : Database). d.trees) now in
+        record { trees = ∣ subst (HoldsDatabase image) there holds ∣₁; sound = held.sound } in
+        elim either [
+          | inl same ↦
+              inl (as_it_was (subst (λ c. (file_state c).may_leave trees) same (out.quiet.outcomes trees here)))
+          | inr (none, survives) ↦ elim (survives.crash was_in trees (out.quiet.outcomes trees here)) [
+            | inl old ↦ inl (as_it_was old)
+            | inr made ↦
+                let (schema, beside) = made.1 none in
+                let after : Database = record { schema = schema; trees = trees } in
+                let of_db = subst (λ (d : Database). StandsBeside (IsFresh owner group) d after) now beside in
+                inr (after, record { trees = ∣ holds ∣₁; sound = beside.sound }, of_db)
+          ]
         ])
 
 -- A report that is cut off

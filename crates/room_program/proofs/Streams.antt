@@ -28,7 +28,7 @@ use Rattle.room_desk.proofs.Stops.{at_rest}
 use Rattle.room_desk.proofs.StreamStops.{stream_in_doubt, laid_out_in_stream, by_answers}
 use Rattle.room_desk.proofs.StreamStops.{AreAsked, none_asked, asked_in_stream, intact_before}
 use Rattle.room_program.specs.declared.fault.Fault.{Fault}
-use Rattle.room_program.specs.Calls.{Exchange, ServesEach, Accepted}
+use Rattle.room_program.specs.Calls.{Exchange, ServesEach, AcceptsEach}
 use Rattle.room_program.specs.Rooms.{ServesAll}
 use Rattle.room_program.specs.Streams.{GoesOn, Carries, Served, ServesSome}
 use Rattle.room_program.specs.Restarts.{AnswersOrMore}
@@ -96,7 +96,7 @@ goes_further users start past next last a b = record {
 
 -- so many connections were accepted, whatever served them
 pub accepted : {L S : Type 0} (accepts : L → Exchange → L → Type 0) (serves : S → Exchange → S → Type 0) (n : ℕ)
-    (old new : L) (before after : S) → ServesEach accepts serves n old new before after → Accepted accepts n old new
+    (old new : L) (before after : S) → ServesEach accepts serves n old new before after → AcceptsEach accepts n old new
 accepted accepts serves zero old new before after (same, none) = (same, refl)
 accepted accepts serves (suc n) old new before after (last, between, each, (e, took, one)) =
     (last, tt, accepted accepts serves n old last before between each, (e, took, tt))

@@ -35,8 +35,8 @@ ServesEach {L} {S} accepts serves (suc n) old new before after =
     × ServesOne accepts serves last new between after
 
 -- so many were accepted, whatever served them
-abbrev pub Accepted : {L : Type 0} → (accepts : L → Exchange → L → Type 0) → ℕ → L → L → Type 0
-Accepted accepts n old new = ServesEach {S = Unit {0}} accepts (λ before e after. Unit {0}) n old new tt tt
+abbrev pub AcceptsEach : {L : Type 0} → (accepts : L → Exchange → L → Type 0) → ℕ → L → L → Type 0
+AcceptsEach accepts n old new = ServesEach {S = Unit {0}} accepts (λ before e after. Unit {0}) n old new tt tt
 
 -- fewer were, and then none could be accepted
 abbrev pub ServesFewer : {L S : Type 0} → (accepts : L → Exchange → L → Type 0) → (fails : L → L → Type 0)

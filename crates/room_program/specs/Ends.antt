@@ -6,7 +6,7 @@ use Rattle.room_program.specs.declared.fault.Fault.TheVariants.{BadName, Memory,
 use Rattle.room_program.specs.Machines.{Call}
 use Rattle.room_program.specs.Machines.Call.{asks, hears}
 use Rattle.room_program.specs.Files.{MakesAt}
-use Rattle.room_program.specs.Calls.{Exchange, Accepted, AcceptsFewer}
+use Rattle.room_program.specs.Calls.{Exchange, AcceptsEach, AcceptsFewer}
 
 -- a name that is no principal, or want of memory
 abbrev pub IsNameFault : List ℕ → Fault → Type 0
@@ -46,7 +46,7 @@ IsSelftestFault other = ⊥
 -- two connections are accepted; or fewer, and it is a fault
 abbrev pub AcceptsTwo : {M : Type 0} → (accepts : M → Exchange → M → Type 0) → (fails : M → M → Type 0) → (old new : M)
     → Result (Unit {0}) Fault → Type 0
-AcceptsTwo accepts fails old new (Ok done) = Accepted accepts 2 old new
+AcceptsTwo accepts fails old new (Ok done) = AcceptsEach accepts 2 old new
 AcceptsTwo accepts fails old new (Err fault) = (fault ≡ SelftestFailed) × AcceptsFewer accepts fails 2 old new
 
 -- a MKDIR of ann, in her slot 0
@@ -87,7 +87,7 @@ Talks {M} does accepts fails old new done =
     × (((done ≡ Err SelftestFailed) × does first (asks second_sent false) new)
     ⊎ ((second : M) × does first (asks second_sent true) second
     × (((done ≡ Err SelftestFailed) × AcceptsFewer accepts fails 2 second new)
-    ⊎ ((served : M) × Accepted accepts 2 second served × IsAnswered does served new done)))))
+    ⊎ ((served : M) × AcceptsEach accepts 2 second served × IsAnswered does served new done)))))
 
 -- `selftest`: it is done only after two connections to itself were made and sent their messages, two were accepted, and
 -- the later one was answered what is due; and memory may be wanting before anything is asked

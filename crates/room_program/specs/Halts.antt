@@ -14,6 +14,7 @@ use Rattle.sqlite.specs.Held.{Held, AreDatabases, state}
 use Rattle.sqlite.specs.State.{IsLive}
 use Rattle.room_records.specs.Room.{Room, fresh_room}
 use Rattle.room_records.specs.Shelf.{View, LeavesNew}
+use Rattle.room_tables.specs.Fresh.{IsFresh, StandsBeside}
 use Rattle.room_tables.specs.Layout.{IsRoomOfVersion2}
 use Rattle.room_tables.specs.Tables.{schema_0}
 use Rattle.room_tables.specs.Rows.{records_of}
@@ -59,6 +60,11 @@ HoldsOldOrNew image start past event = ∥ (HoldsRoom image start past
 abbrev pub HoldsFreshOrNone : Image → (owner group : List ℕ) → Type 0
 HoldsFreshOrNone image owner group = ∥ (HoldsRoom image (fresh_room owner group) []
     ⊎ ((db : Database) × Holds image db × (db.schema ≡ schema_0))) ∥₁
+
+-- these files hold this database, or it with a fresh room of this owner and group beside its tables
+abbrev pub HoldsOldOrBeside : Image → Database → (owner group : List ℕ) → Type 0
+HoldsOldOrBeside image db owner group = ∥ (Holds image db
+    ⊎ ((made : Database) × Holds image made × StandsBeside (IsFresh owner group) db made)) ∥₁
 
 -- these files hold a room of version 2 with records like these
 abbrev pub HoldsRoomWith : Image → (Records → Type 0) → Type 0

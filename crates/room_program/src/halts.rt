@@ -20,7 +20,7 @@ ghost use Rattle.room_program.specs.Found.{AreJustOpened, Holds, HoldsNothing, H
 ghost use Rattle.room_program.specs.Found.{SeesSums};
 ghost use Rattle.room_program.specs.Rooms.{WritesReport};
 ghost use Rattle.room_program.specs.Halts.{WereClean, MayBeLeftThen, AnsweredThenLeft, HoldsOldOrNew, HoldsRoomWith};
-ghost use Rattle.room_program.specs.Halts.{connection_of, HoldsFreshOrNone};
+ghost use Rattle.room_program.specs.Halts.{connection_of, HoldsFreshOrNone, HoldsOldOrBeside};
 ghost use Rattle.room_program.specs.Restarts.{ActsOnce, AnswersOrMore, HoldsStill, KeepsRoomOrMore};
 
 use crate::left::{Left, closed_off, store_in, store_under};
@@ -130,7 +130,8 @@ pub fn a_report_cut_off_leaves_the_room<D: Disk + Drop>(last: FileShelf<Fuse<D>>
 
 /// What an `init` leaves that is cut off while it makes a room: the files of its connection `shut`, as they act no more
 /// from some call on. A room that they held stays, with its history (`still`). Where they held nothing, they hold the
-/// fresh room then, or a database without a table (`fresh`).
+/// fresh room then, or a database without a table (`fresh`). Any database that they held stays as it was, or has the
+/// fresh room beside its own tables (`beside`).
 pub fn an_init_cut_off_leaves_all_or_nothing<D: Disk + Drop>(
     shut: Connection<FileStore<Fuse<D>>>,
 ) -> Files<Fuse<D>>
@@ -143,6 +144,11 @@ pub fn an_init_cut_off_leaves_all_or_nothing<D: Disk + Drop>(
         ⊎ Unmade ⟦<FileStore<Fuse<D>> as Store>⟧ owner group opened shut why
         → WereClean D.Disk result → (image : Image) → MayBeLeftThen D.Disk result image → HoldsNothing found
         → HoldsFreshOrNone image owner group }
+    ensures beside { (opened : _) (owner group : List ℕ) (why : Fault) (found : Image) → IsOpenedOver found opened
+        → Made ⟦<FileStore<Fuse<D>> as Store>⟧ owner group opened shut
+        ⊎ Unmade ⟦<FileStore<Fuse<D>> as Store>⟧ owner group opened shut why
+        → WereClean D.Disk result → (image : Image) → MayBeLeftThen D.Disk result image
+        → (held : Database) → Holds found held → HoldsOldOrBeside image held owner group }
 {
     store_in(shut).close()
 }
