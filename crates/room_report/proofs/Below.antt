@@ -23,7 +23,7 @@ use Rattle.room_records.proofs.Folders.{child_named, object_child}
 use Rattle.room_records.proofs.RoomsMap.{some_is, none_is_some, path_itself, StandsIn, found_stands, standing_found}
 use Rattle.room_records.proofs.RoomsMap.{nothing_below, nothing_in_a_file, path_of_object}
 use Rattle.room_report.specs.declared.lines.Report.{Report}
-use Rattle.room_report.specs.Lines.{in_order}
+use Rattle.room_report.specs.Lines.{in_path_order}
 use Rattle.room_report.specs.Walk.{is_front, objects_below, text_below, lines_of}
 use Rattle.room_report.proofs.Fronts.{path_total, exact_paths, one_way, front_of, front_itself, front_split}
 use Rattle.room_report.proofs.Fronts.{front_above, below_folder, folder_first, fronts_apart}
@@ -112,21 +112,21 @@ insert_rising k v (e ∷ es) new up =
 
 -- the objects in order, and no others
 record InOrder (es : List Pair) : Type 0 where
-  rises : Rising IsEarlier (in_order es)
-  there : (x : Pair) → In x es → In x (in_order es)
-  back : (x : Pair) → In x (in_order es) → In x es
+  rises : Rising IsEarlier (in_path_order es)
+  there : (x : Pair) → In x es → In x (in_path_order es)
+  back : (x : Pair) → In x (in_path_order es) → In x es
 
 ordered : (es : List Pair) → AreObjects es → InOrder es
 ordered [] once = record { rises = tt; there = λ x h. h; back = λ x h. h }
 ordered (e ∷ es) once =
     let rest = ordered es once.3 in
     let fresh = not_found_is_new e.0 es once.2 in
-    let new : IsNew e.0 (in_order es) = λ x h same. fresh x (rest.back x h) same in
+    let new : IsNew e.0 (in_path_order es) = λ x h same. fresh x (rest.back x h) same in
     record {
-      rises = insert_rising e.0 e.1 (in_order es) new rest.rises;
-      there = λ x h. in_inserted x e.0 e.1 (in_order es) new
+      rises = insert_rising e.0 e.1 (in_path_order es) new rest.rises;
+      there = λ x h. in_inserted x e.0 e.1 (in_path_order es) new
           (elim h [ inl first ↦ inl first | inr later ↦ inr (rest.there x later) ]);
-      back = λ x h. elim (in_insert x e.0 e.1 (in_order es) new h)
+      back = λ x h. elim (in_insert x e.0 e.1 (in_path_order es) new h)
           [ inl first ↦ inl first | inr later ↦ inr (rest.back x later) ];
     }
 
@@ -145,7 +145,7 @@ module _ (room : Room) (lawful : IsRoom room) where
   pub listed_below : (path : Path) (x : Pair) → In x (objects_below room path)
       → (object_at room x.0 ≡ Some x.1) × (is_front path x.0 ≡ true)
   listed_below path x h =
-      let found = in_filter (λ (e : Pair). is_front path e.0) x (in_order room.objects) h in (
+      let found = in_filter (λ (e : Pair). is_front path e.0) x (in_path_order room.objects) h in (
         standing_found room.objects lawful.once x.0 x.1
             (in_stands room.objects x ((ordered room.objects lawful.once).back x found.0)),
         found.1,
@@ -155,13 +155,13 @@ module _ (room : Room) (lawful : IsRoom room) where
   pub below_listed : (path : Path) (x : Pair) → object_at room x.0 ≡ Some x.1
       → is_front path x.0 ≡ true → In x (objects_below room path)
   below_listed path x there begins =
-      in_filtered (λ (e : Pair). is_front path e.0) x (in_order room.objects)
+      in_filtered (λ (e : Pair). is_front path e.0) x (in_path_order room.objects)
       ((ordered room.objects lawful.once).there x
       (stands_in room.objects x.0 x.1 (found_stands room.objects x.0 x.1 there))) begins
 
   below_rises : (path : Path) → Rising IsEarlier (objects_below room path)
   below_rises path = rising_filter IsEarlier (λ (e : Pair). is_front path e.0)
-      (in_order room.objects) (ordered room.objects lawful.once).rises
+      (in_path_order room.objects) (ordered room.objects lawful.once).rises
 
   -- the object itself is the first
   pub first_below : (path : Path) (o : Object) → object_at room path ≡ Some o
@@ -189,8 +189,8 @@ module _ (room : Room) (lawful : IsRoom room) where
           absurd (not_before x begins (before_in IsEarlier x (path, o) es up.0 later))
 
   -- all objects are below the root
-  pub all_below_root : objects_below room [] ≡ in_order room.objects
-  all_below_root = filter_all (λ (e : Pair). is_front [] e.0) (in_order room.objects) (λ e. refl)
+  pub all_below_root : objects_below room [] ≡ in_path_order room.objects
+  all_below_root = filter_all (λ (e : Pair). is_front [] e.0) (in_path_order room.objects) (λ e. refl)
 
 abbrev IsNamedEarlier : Node → Node → Type 0
 IsNamedEarlier a b = name_cmp (name_of a) (name_of b) ≡ Less

@@ -13,9 +13,9 @@ use Rattle.room_records.specs.Names.{Path, path_cmp, path_text}
 use Rattle.room_records.specs.Room.{Object, Room, list_of, standing_of}
 
 -- the objects in path order: a folder before what is in it, names by their bytes
-abbrev pub in_order : List (Path × Object) → List (Path × Object)
-in_order [] = []
-in_order (e ∷ es) = insert_entry path_cmp (in_order es) e.0 e.1
+abbrev pub in_path_order : List (Path × Object) → List (Path × Object)
+in_path_order [] = []
+in_path_order (e ∷ es) = insert_entry path_cmp (in_path_order es) e.0 e.1
 
 abbrev pub hex_digit : ℕ → ℕ
 hex_digit n = if nat_lt n 10 then 48 + n else 87 + n
@@ -39,7 +39,8 @@ access_line room e user = mask_line (allowed_mask (list_of room e.0) user (stand
 
 -- a line for each object in path order and each user in name order
 abbrev pub access_text : Room → List SubjectModel → List ℕ
-access_text room roster = flat_map (λ (e : Path × Object). flat_map (access_line room e) roster) (in_order room.objects)
+access_text room roster =
+    flat_map (λ (e : Path × Object). flat_map (access_line room e) roster) (in_path_order room.objects)
 
 abbrev pub kind_letter : Kind → ℕ
 kind_letter File = 102
@@ -65,7 +66,8 @@ object_line e = head_line e.1.kind e.1.aclflag e.1.owner e.1.group (path_text e.
 -- each object in path order, with its whole list: its own entries and the inherited ones, in their order
 abbrev pub list_text : Room → List ℕ
 list_text room =
-    flat_map (λ (e : Path × Object). object_line e ++ flat_map entry_line (list_of room e.0)) (in_order room.objects)
+    flat_map (λ (e : Path × Object). object_line e ++ flat_map entry_line (list_of room e.0))
+    (in_path_order room.objects)
 
 abbrev pub IsBeginningOf : List ℕ → List ℕ → Type 0
 IsBeginningOf front all = (rest : List ℕ) × (all ≡ front ++ rest)

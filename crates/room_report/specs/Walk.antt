@@ -14,7 +14,7 @@ pub use Rattle.room_records.specs.Writers.{AppendsFront}
 use Rattle.room_report.specs.declared.item.Item.{Item}
 use Rattle.room_report.specs.declared.lines.Report.{Report}
 use Rattle.room_report.specs.declared.lines.Report.TheVariants.{Access, Lists}
-use Rattle.room_report.specs.Lines.{in_order, mask_line, access_line, entry_line, head_line, object_line}
+use Rattle.room_report.specs.Lines.{in_path_order, mask_line, access_line, entry_line, head_line, object_line}
 
 -- what a call says of each room that the rows stand for as it begins, also where a fault has shut the store
 abbrev pub OfIntactRoom : View → View → (ObjectRecords → Room → Type 0) → Type 0
@@ -66,7 +66,7 @@ is_front (a ∷ front) (b ∷ path) = cond (name_eq a b) (is_front front path) f
 
 -- the object at a path and all below it, in path order
 abbrev pub objects_below : Room → Path → List (Path × Object)
-objects_below room path = filter (λ (e : Path × Object). is_front path e.0) (in_order room.objects)
+objects_below room path = filter (λ (e : Path × Object). is_front path e.0) (in_path_order room.objects)
 
 abbrev pub text_below : Report → Room → Path → List ℕ
 text_below report room path = flat_map (lines_of report room) (objects_below room path)
