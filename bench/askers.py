@@ -142,7 +142,6 @@ def measured(seconds, places, pace=0.0, kind=Asker):
 
 def in_c(folder):
     """A room of the server in C, which is started."""
-    os.mkdir(os.path.join(folder, "in-c"))
     Anchored.anchor, _ = built(folder)
     return Anchored(os.path.join(folder, "in-c")).start()
 
@@ -151,7 +150,6 @@ def front_before(names, folder):
     """A front with these rooms and a page of one file, and limits that nobody comes to."""
     page, home = (os.path.join(folder, it) for it in ("page", "front"))
     os.mkdir(page)
-    os.mkdir(home)
     with open(os.path.join(page, PAGE), "wb") as file:
         file.write(bytes(1024))
     return Front(home, {USER: PASSWORD}, names, page, rate="1000000r/s", opens="1000000r/s")

@@ -111,8 +111,8 @@ def ends(process, seconds):
 
 
 class Counted(Room):
-    """A room whose server runs under callgrind."""
-    how, dumps = (), 0
+    """A room whose server runs under callgrind, where an open of a large one takes minutes."""
+    how, dumps, longest = (), 0, 3600
 
     def words(self):
         return [PROGRAM, "serve", self.db, self.roster, str(self.port), "4294967295"]

@@ -33,9 +33,7 @@ class Grown:
     of those that have the shape's size."""
 
     def __init__(self, home, name, shape):
-        folder = os.path.join(home, name)
-        os.mkdir(folder)
-        self.room, self.shape, self.nodes, self.folders = Room(folder, ROSTER), shape, [], []
+        self.room, self.shape, self.nodes, self.folders = Room(os.path.join(home, name), ROSTER), shape, [], []
         if shape.depth == 1:
             self.filled(1, "", AT_THE_ROOT)
             for n in range(FOLDERS_THERE):
