@@ -1,7 +1,8 @@
-"""Many clients of one room at once: each sends requests again at random, while the room is killed and started again.
+"""Clients of a room that is killed and started again.
 
-Each appends its pieces to a document of its own and to one that all share. `tests/hostile/run` plays them at the port,
-`tests/front/run` through the front.
+Many at once send each request again at random, and append their pieces to a document of their own and to one that all
+share: `tests/hostile/run` plays them at the port, `tests/front/run` through the front. One alone (`Pieces`) knows what
+is in flight as the room ends: `tests/crash/run`, `tests/service/run`.
 """
 import base64
 import json
@@ -9,7 +10,7 @@ import random
 import threading
 import time
 
-from served import Tally
+from served import Tally, slot
 
 AGAIN = {429, 502, 503, 504}  # the same request is sent again: the room was busy, or there was none
 SHARED = "/shared"
@@ -105,6 +106,58 @@ class Client(Caller):
             got = self.append(self.own(), piece)
             self.tally.differs("APPEND", got, b'{"code":0,"size":%d}' % ((n + 1) * len(piece)))
             self.append(self.shared, piece)
+
+
+class Pieces:
+    """A slot that appends pieces to documents of its own: what was answered last, and the request in flight. `need`
+    hears whether an answer is the one that is due."""
+    most = 2000  # pieces of a document
+
+    def __init__(self, need, number=0):
+        self.need, self.number, self.seq, self.flight, self.last = need, number, 0, None, None
+        self.path, self.docs = None, {}
+
+    def next(self):
+        """The next request: one more piece, or a new document."""
+        if self.path is None or len(self.docs[self.path]) >= self.most * 8:
+            self.path = f"/d{self.number}-{len(self.docs)}"
+            self.docs[self.path] = b""
+            command = {"cmd": "CREATE", "path": self.path, "data": ""}
+        else:
+            piece = b"%08d" % (self.seq + 1)
+            command = {"cmd": "APPEND", "path": self.path, "data": base64.b64encode(piece).decode()}
+            self.docs[self.path] += piece
+        self.seq += 1
+        size = len(self.docs[self.path])
+        self.flight = (slot(self.number, self.seq, command), b'{"code":0,"size":%d}' % size)
+
+    def send(self, line):
+        """Sends what is in flight, or the next. False where no answer came."""
+        if self.flight is None:
+            self.next()
+        data, body = self.flight
+        try:
+            answer = line.ask(data)
+        except OSError:
+            answer = None
+        if answer is None:
+            return False
+        self.need(answer.body == body, f"{data!r} was answered {answer} and not {body}")
+        self.last, self.flight = (data, answer.whole), None
+        return True
+
+    def repeat(self, line):
+        """The last request that was answered, while none is in flight that may have run."""
+        if self.last and self.flight is None:
+            self.need(line.ask(self.last[0]).whole == self.last[1], f"a repeat of {self.last[0]!r} differs")
+
+    def read(self, line):
+        """Reads each document: it is what was sent, once."""
+        for path, pieces in self.docs.items():
+            self.seq += 1
+            got = line.ask(slot(self.number, self.seq, {"cmd": "READ", "path": path})).body
+            want = b'{"code":0,"data":"%s"}' % base64.b64encode(pieces)
+            self.need(got == want, f"{path} holds {got!r} and not {want!r}")
 
 
 def play_with_kills(room, clients, kills, seed, tally):

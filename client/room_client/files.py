@@ -120,16 +120,21 @@ def pieces_of(room: Room, path: str, its: Manifest, heard: Callable[[dict], None
 
 # Writing
 
-def write(room: Room, path: str, data: bytes, *, is_new: bool = False, fills: bool = False,
-          heard: Callable[[dict], None] = unheard) -> str | None:
+def write(room: Room, path: str, data: bytes, **how) -> str | None:
+    """As `put`. The owner of the file, where that is somebody else."""
+    return other_owner(room, path) if put(room, path, data, **how) else None
+
+
+def put(room: Room, path: str, data: bytes, *, is_new: bool = False, fills: bool = False,
+        heard: Callable[[dict], None] = unheard) -> bool:
     """Makes the file, or a new version of it: with `is_new` only where nothing is there. With `fills` an empty folder
-    is taken for what is left of an upload that was stopped. The owner of the file, where that is somebody else."""
+    is taken for what is left of an upload that was stopped. Whether a file was there before."""
     need_size(data, path)
     if len(data) > MOST_BYTES:
-        return other_owner(room, path) if Upload(room, path, data, heard).run(is_new, fills) else None
+        return Upload(room, path, data, heard).run(is_new, fills)
     try:
         room.create(path, data)
-        return None
+        return False
     except Refused as fault:
         if is_new or not refused_as(fault, "EXIST"):
             raise
@@ -139,7 +144,7 @@ def write(room: Room, path: str, data: bytes, *, is_new: bool = False, fills: bo
         if not refused_as(fault, "ISDIR") or not takes_versions(room, path):
             raise
         Upload(room, path, data, heard).run(is_new, fills)
-    return other_owner(room, path)
+    return True
 
 
 def has_own_list(its: dict) -> bool:

@@ -14,6 +14,7 @@ from .words import shown
 
 MOST = 1 << 20  # bytes of an answer; a room's have at most some 90,000
 OTHER_NAME = (62, 64)  # of OpenSSL's codes: the certificate is for another name, or another address
+EXPIRED = 10
 NO_TLS = ("HTTP_REQUEST", "WRONG_VERSION_NUMBER")
 TRY_AGAIN = (408, 429, 500, 502, 503, 504)
 # Seconds, and tries: so that an address at which nobody is any more does not take all of the patience.
@@ -75,6 +76,8 @@ def untrusted(fault: ssl.SSLError, host: str) -> str | None:
         why = fault.verify_message.rstrip(".")
         if fault.verify_code in OTHER_NAME:
             return f"its certificate is for another name ({why}): write the name that it is for into the URL"
+        if fault.verify_code == EXPIRED:
+            return "its certificate has expired: tell who runs the room, if the clock of this machine is right"
         return (f"its certificate is not trusted ({why}): where the room has an authority of its own, ask who runs it "
                 "for its certificate, and name that by ca-file; else do not go on")
     return f"{host} speaks no TLS there: ask who runs the room for its address" if fault.reason in NO_TLS else None
@@ -116,7 +119,11 @@ class Line:
             if told:
                 raise NoAnswer(f"{self.url}: {told}") from None
             raise NotSent(fault.strerror or str(fault)) from None
-        sock = self.connection.sock
+        self._watch(self.connection.sock)
+
+    @staticmethod
+    def _watch(sock: socket.socket) -> None:
+        """Has the system notice where nobody is at the other end any more."""
         sock.setsockopt(socket.SOL_SOCKET, socket.SO_KEEPALIVE, 1)
         for name in ASK_WHETHER_ALIVE.keys() & vars(socket):
             sock.setsockopt(socket.IPPROTO_TCP, getattr(socket, name), ASK_WHETHER_ALIVE[name])

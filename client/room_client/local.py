@@ -20,7 +20,9 @@ BAR = 1 << 18  # bytes from which on progress is shown
 
 
 def read_local(name: str, most: int = -1) -> bytes:
-    """A file's bytes, or those of standard input for `-`."""
+    """A file's bytes, or those of standard input for `-`, which a terminal is told."""
+    if name == "-" and sys.stdin.isatty():
+        print("room: it reads standard input; Ctrl-D ends it", file=sys.stderr, flush=True)
     with reading(name), sys.stdin.buffer if name == "-" else open(name, "rb") as file:
         return file.read(most)
 

@@ -6,10 +6,13 @@ from .faults import BadWords, Refused, refused
 from .files import give, large_at
 from .room import Room
 from .showing import Told, show
+from .trash import TOP, places_of
 from .trees import batched, join
 from .words import FOLDER, shown
 
 AT_ONCE = 256  # objects
+TOLD = 20  # lines of what is left
+Refusals = dict[str, Refused]  # by path
 
 
 def chown(room: Room, asked) -> None:
@@ -31,20 +34,34 @@ def chown(room: Room, asked) -> None:
 
 def below(room: Room, asked, top: str, owner: str, group: str) -> None:
     """Level by level, the deepest first: who may do it as the owner of a folder above may until then. What is refused
-    is told, and the rest goes on."""
-    given = refusals = 0
-    for paths in reversed([*levels(room, top)]):
+    is told at the end, and the rest goes on."""
+    given, left, shut = 0, {}, {}
+    for paths in reversed([*levels(room, top, shut)]):
         for some in batched(paths, AT_ONCE):
             replies = hand_over(room, some, asked.giver, owner, group)
-            for command, reply in replies:
-                if reply["code"]:
-                    refusals += 1
-                    room.say(f"left as it is: {refused(reply, command)}")
             given += sum(reply["code"] == 0 for _, reply in replies)
-    show(asked, {"code": 0, "given": given, "refused": refusals},
+            left |= {command["path"]: refused(reply, command) for command, reply in replies if reply["code"]}
+    tell_left(room, asked.giver, left, shut)
+    show(asked, {"code": 0, "given": given, "refused": len(left | shut)},
          f"{shown(top)}: {given} objects changed to {owner}:{group}")
-    if refusals:
+    if left or shut:
         raise Told(Refused.status)
+
+
+def tell_left(room: Room, giver: str | None, left: Refusals, shut: Refusals) -> None:
+    """A line for each object of `left`, and each folder of `shut`, which may not be listed, as far as somebody reads
+    them; and one for all in the trash of others, since each is its user's alone."""
+    others = {it for it in left | shut if it.startswith(f"{TOP}/") and it not in places_of(giver or "")}
+    paths = sorted((left | shut).keys() - others)
+    for path in paths[:TOLD]:
+        if path in left:
+            room.say(f"left as it is{', with what is in it' if path in shut else ''}: {left[path]}")
+        else:
+            room.say(f"what is in it is left out: {shut[path]}")
+    if paths[TOLD:]:
+        room.say(f"so are {len(paths) - TOLD} more")
+    if others:
+        room.say(f"left as it is: what is others' in {TOP} ({len(others)} things)")
 
 
 def hand_over(room: Room, paths: Sequence[str], giver: str | None, owner: str, group: str) -> list[tuple[dict, dict]]:
@@ -57,8 +74,9 @@ def hand_over(room: Room, paths: Sequence[str], giver: str | None, owner: str, g
     return [it for it in stats if it[1]["code"]] + list(zip(commands, room.ask_all(commands)))
 
 
-def levels(room: Room, top: str) -> Iterator[list[str]]:
-    """The object, then what is in it, the pieces of large files too, and so on. What may not be listed is told."""
+def levels(room: Room, top: str, shut: Refusals) -> Iterator[list[str]]:
+    """The object, then what is in it, the pieces of large files too, and so on. What may not be listed goes to
+    `shut`."""
     level, folders = [top], [top] if room.stat(top)["kind"] == FOLDER else []
     while level:
         yield level
@@ -66,7 +84,7 @@ def levels(room: Room, top: str) -> Iterator[list[str]]:
         replies, folders = room.ask_all(commands), []
         for command, reply in zip(commands, replies):
             if reply["code"]:
-                room.say(f"what is in it is left out: {refused(reply, command)}")
+                shut[command["path"]] = refused(reply, command)
             for name, kind in reply.get("names", ()):
                 level.append(join(command["path"], name))
                 folders += [level[-1]] * (kind == FOLDER)

@@ -29,6 +29,8 @@ class Room:
     """Used with `with`. What was pending in the state file is finished first, and `say` hears of it. A request is on
     record before it is sent, and until its reply was told: until the next request, or the end of `with`."""
 
+    line_kind, slot_kind, state_kind = Line, Slot, State  # (the gateway of dav/ has its own)
+
     def __init__(self, settings: Settings, say: Callable[[str], None] = say):
         self.settings, self.say = settings, say
         self.state: State | None = None
@@ -42,7 +44,7 @@ class Room:
         its.find_password()
         with contextlib.ExitStack() as opened:
             opened.callback(self._hang_up)
-            state = State(its.state_path, its.url, its.user, its.patience)
+            state = self.state_kind(its.state_path, its.url, its.user, its.patience)
             self.state = opened.enter_context(contextlib.closing(state))
             self._begin()
             self.opened = opened.pop_all()
@@ -63,8 +65,8 @@ class Room:
     def slot(self, number: int = 0) -> Slot:
         if number not in self.slots:
             context = self.slots[0].line.context if 0 in self.slots else None
-            line = Line(self.settings, context)
-            self.slots[number] = Slot(number, line, self.settings, self.state, self.pace, self.say)
+            line = self.line_kind(self.settings, context)
+            self.slots[number] = self.slot_kind(number, line, self.settings, self.state, self.pace, self.say)
         return self.slots[number]
 
     @property

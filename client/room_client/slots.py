@@ -47,8 +47,8 @@ def told(command: dict) -> str:
 class Pace:
     """What the slots share: together they keep below what a front takes, and say once that they wait."""
 
-    def __init__(self, is_free: bool):
-        self.lock, self.is_free = threading.Lock(), is_free
+    def __init__(self, is_free: bool, rate: float = RATE):
+        self.lock, self.is_free, self.rate = threading.Lock(), is_free, rate
         self.left, self.at = BURST, time.monotonic()
         self.has_told = False
 
@@ -63,8 +63,8 @@ class Pace:
             return
         with self.lock:
             now = time.monotonic()
-            self.left, self.at = min(self.left + (now - self.at) * RATE, BURST) - 1, now
-            pause = max(-self.left / RATE, 0)
+            self.left, self.at = min(self.left + (now - self.at) * self.rate, BURST) - 1, now
+            pause = max(-self.left / self.rate, 0)
         time.sleep(pause)
 
 

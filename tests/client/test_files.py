@@ -8,7 +8,6 @@ import signal
 import subprocess
 import sys
 import threading
-import time
 import types
 from unittest import mock
 
@@ -19,7 +18,7 @@ from room_client.files import Upload
 from room_client.line import Line
 from room_client.manifest import MOST, PIECE
 from room_client.state import SLOTS
-from served import end_with_parent
+from served import end_with_parent, text_of, until
 from test_once import STOPPED, steps_to
 
 SEED = 1
@@ -490,13 +489,9 @@ class Slots(Behind):
 
     def wait_for(self, name, text):
         """Until the child has written it into such a file."""
-        end = time.monotonic() + 120
-        while time.monotonic() < end:
-            with contextlib.suppress(OSError), open(self.path(name)) as file:
-                if text in file.read():
-                    return
-            time.sleep(0.002)
-        self.fail("no piece is under way")
+        path = self.path(name)
+        found = until(lambda: os.path.exists(path) and text in text_of(path), 120, 0.002)
+        self.assertTrue(found, "no piece is under way")
 
     def test_lost_answers(self):
         dice = random.Random(SEED)

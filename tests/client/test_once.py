@@ -13,7 +13,7 @@ from desk import Desk, PASSWORDS, clock_of_looks, serve_front
 from room_client import NoAnswer, Refused, SessionLost
 from room_client.line import Line
 from room_client.state import State
-from served import end_with_parent
+from served import end_with_parent, text_of, until
 
 SEED, KILLS = 1, 60
 LONGEST = 20  # seconds of kills at random, however slow the machine is
@@ -365,10 +365,5 @@ class Gone(Desk):
 
     def wait_for_pending(self):
         """Until the request is on record, and some time for its way."""
-        end = time.monotonic() + 120
-        while time.monotonic() < end:
-            with open(self.path("ann.json")) as file:
-                if "APPEND" in file.read():
-                    return time.sleep(0.3)
-            time.sleep(0.01)
-        self.fail("nothing is pending")
+        self.assertTrue(until(lambda: "APPEND" in text_of(self.path("ann.json")), 120), "nothing is pending")
+        time.sleep(0.3)

@@ -1,6 +1,7 @@
 """Owners of all below a folder, at once."""
 from desk import Desk
 from room_client.manifest import PIECE
+from room_client.trash import places_of
 
 ALL = {"flag": 3, "mask": 0x1F07FF, "type": 0}  # what a list hands down to folders and documents
 PASS = {"flag": 0, "mask": 0x1200A9, "type": 0, "who": "EVERYONE@"}
@@ -43,13 +44,43 @@ class Owners(Desk):
         status, said, faults = self.does("chown", "-r", "--from", "bob", "carl:staff", "/")
         self.assertEqual((status, said), (1, "/: 8 objects changed to carl:staff\n"))
         refused = [it.partition(": ACCESS (5) at /shut")[0] for it in faults.splitlines()]
-        self.assertEqual(refused, ["room: what is in it is left out", "room: left as it is"])
+        self.assertEqual(refused, ["room: left as it is, with what is in it"])
         mine = ["/", "/of-ann", "/a/b/of-ann"]
         self.assertEqual(self.owners(*mine), {"ann:eng"})
         self.assertEqual(self.owners(*({*self.below("/a")} - {*mine})), {"carl:staff"})
         self.assertEqual(self.owners("/shut", "/shut/d", user="bob"), {"bob:eng"})
         self.prints("chown", "-r", "--from", "bob", "carl:staff", "/a",
                     want="/a: 0 objects changed to carl:staff\n")
+
+    def test_of_what_is_kept_shut(self):
+        """A line for each; all trashes of others are one. What may not be listed is told though it is given."""
+        with self.room() as room:
+            room.mkdir("/trash")
+            for user in "bob", "carl", "dora":
+                path = places_of(user)[0]
+                room.mkdir(path.rpartition("/")[0])
+                room.mkdir(path)
+                room.set_list(path, 2, [ALL | {"who": "OWNER@"}])
+                room.chown(path, user, "eng")
+        with self.room("bob") as room:
+            room.set_list("/a", 2, [ALL | {"who": "bob"}, ALL | {"who": "ann", "mask": ALL["mask"] - 1}])
+        status, said, faults = self.does("chown", "-r", "--from", "bob", "carl:staff", "/")
+        self.assertEqual((status, said), (1, "/: 1 objects changed to carl:staff\n"))
+        lines = [it.removeprefix("room: ").partition(": you lack")[0] for it in faults.splitlines()]
+        self.assertEqual(lines, ["what is in it is left out: ACCESS (5) at /a",
+                                 "left as it is, with what is in it: ACCESS (5) at /shut",
+                                 f"left as it is, with what is in it: ACCESS (5) at {places_of('bob')[0]}",
+                                 "left as it is: what is others' in /trash (2 things)"])
+
+    def test_of_many(self):
+        """What is refused is told as far as somebody reads it."""
+        with self.room("bob") as room:
+            for it in range(25):
+                room.mkdir(f"/a/b/{it}")
+            room.set_list("/a/b", 2, [ALL | {"who": "bob"}, ALL | {"who": "ann", "mask": ALL["mask"] & ~0x80000}])
+        status, said, faults = self.does("chown", "-r", "--from", "bob", "carl:staff", "/a/b")
+        self.assertEqual((status, said), (1, "/a/b: 0 objects changed to carl:staff\n"))
+        self.assertEqual([len(faults.splitlines()), faults.splitlines()[-1]], [21, "room: so are 7 more"])
 
     def test_of_everybody(self):
         self.prints("chown", "-r", "dora:eng", "/a",

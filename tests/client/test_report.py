@@ -1,9 +1,12 @@
 """The access report as a table and as a page."""
 import csv
 import io
+import os
+import pty
+import subprocess
 from html.parser import HTMLParser
 
-from desk import Desk
+from desk import COMMAND, Desk
 from room_client import BadWords, files, report
 
 MARKUP = '<b>"&\'=x'
@@ -50,6 +53,17 @@ class Reports(Desk):
         self.assertEqual(rows[8][:6], [f"/plans/{MARKUP}", "bob", "add-file,write,add-folder,append,read-named-attrs,"
                                        "traverse,execute,read-attributes,read-acl,synchronize", "001200ae", "", "yes"])
         self.assertEqual(len(rows), 10)
+
+    def test_a_terminal(self):
+        """Whoever types is told that the command reads what is typed."""
+        ours, theirs = pty.openpty()
+        os.write(ours, self.report + b"\x04")
+        done = subprocess.run([COMMAND, "report"], stdin=theirs, capture_output=True, text=True, timeout=60,
+                              env=self.environment())
+        os.close(ours)
+        os.close(theirs)
+        told = "room: it reads standard input; Ctrl-D ends it\n"
+        self.assertEqual((done.returncode, done.stderr, "ann" in done.stdout), (0, told, True))
 
     def test_page(self):
         self.file("access", self.report)

@@ -46,11 +46,11 @@ class Tls(Desk):
         line = ["openssl", kind, *words, *(["-newkey", "rsa:2048", "-nodes"] if kind == "req" else [])]
         subprocess.run(line, cwd=self.folder, check=True, capture_output=True, timeout=60)
 
-    def serve(self, names):
-        """A front whose certificate is for these names."""
+    def serve(self, names, days="2"):
+        """A front whose certificate is for these names, and ends in so many days."""
         self.file("names", f"subjectAltName={names}".encode())
         self.openssl("req", "-keyout", "key", "-out", "asked", "-subj", "/CN=front")
-        self.openssl("x509", "-req", "-in", "asked", "-CA", "ca.pem", "-CAkey", "ca.key", "-days", "2",
+        self.openssl("x509", "-req", "-in", "asked", "-CA", "ca.pem", "-CAkey", "ca.key", "-days", days,
                      "-out", "front.pem", "-extfile", "names", "-CAcreateserial")
         server, url = serve_front(self)
         context = ssl.SSLContext(ssl.PROTOCOL_TLS_SERVER)
@@ -81,6 +81,12 @@ class Tls(Desk):
         self.says("mkdir", "/a", status=3, want=r"its certificate is for another name \(.*\): write the name that it "
                   "is for into the URL")
         self.assertEqual(server.passed, 0)
+
+    def test_an_end(self):
+        self.serve("DNS:localhost,IP:127.0.0.1", days="-1")
+        self.words += ["--ca-file", "ca.pem"]
+        self.says("ls", status=3, want="its certificate has expired: tell who runs the room, if the clock of this "
+                  "machine is right")
 
     def test_what_is_no_authority_or_no_tls(self):
         _, url = serve_front(self)

@@ -278,8 +278,8 @@ class Trees(Behind):
             plant(self.path("here/a.txt"))
             self.prints("get", "/album/a.txt", "here", want="1 bytes to here/a.txt\n")
             self.assertEqual(self.here("here"), {"a.txt": b"a"})
+            self.assertEqual(self.here("")["private"], b"a secret")
             os.remove(self.path("here/a.txt"))
-        self.assertEqual(self.here("")["private"], b"a secret")
 
     def test_one_link_in_the_way_of_many(self):
         self.planted()
