@@ -1,19 +1,13 @@
-/** The view of an access list: what it says, each entry as a sentence that opens into its fields, and changing it. */
-import { Refusal } from "./codes.js";
-import { ask, input } from "./dialogs.js";
-import { button, checkbox, faultLine, link, make, select } from "./dom.js";
+/** The view of an access list. */
+import { FOLDER, LARGE, MOST_ENTRIES, REACH, RIGHTS, ROOT, Refusal, SETS, WHOM, addressOf, asOwn, ask, bothWords,
+  button, carried, checkbox, faultLine, folderOf, follows, input, isDeny, isForNobody, isInherited, isNamed, link, make,
+  nameText, newEntry, orFault, ownOf, personText, select, sentence, setOf, shown, t, tellFault, whomFault, whomOf,
+  withFollows, withWhom } from "./common.js";
 import { head } from "./heads.js";
-import { MOST_ENTRIES, REACH, WHOM, asOwn, carried, follows, isDeny, isForNobody, isInherited, isNamed, newEntry,
-  sentence, whomFault, whomOf, withFollows, withWhom } from "./lists.js";
-import { shown } from "./names.js";
-import { tellFault } from "./notices.js";
-import { ROOT, addressOf, folderOf } from "./places.js";
 import { helpThem, shutOut } from "./questions.js";
-import { FOLDER, LARGE, RIGHTS, SETS, bothWords, setOf } from "./rights.js";
 import { SharePanel } from "./share.js";
 import { standing } from "./stand.js";
 import { standingAt } from "./trees.js";
-import { t } from "./words.js";
 
 function knownNames(roster, entries) {
   const seen = entries.map(whomOf).map((it) => it.name).filter((it) => it !== "");
@@ -22,7 +16,6 @@ function knownNames(roster, entries) {
 }
 
 let isDetailed = false; // whether the editor is open, from one list to the next
-const ownOf = (list) => list.entries.filter((it) => !isInherited(it));
 const isSame = (one, other) => JSON.stringify(one) === JSON.stringify(other);
 
 const sentences = (entries, standing, how = {}) =>
@@ -30,27 +23,34 @@ const sentences = (entries, standing, how = {}) =>
 
 const CHOSEN = "chosen";
 
-/** The fields of an entry; `entry` is what they say now, and `changed` is called with each change. */
-class Fields {
-  constructor(entry, { standing, names, roster }, changed) {
-    Object.assign(this, { entry, kind: standing.kind, names, roster, changed });
-    this.fault = make("p.fault", { role: "status" }, whomFault(entry, roster));
+/** An entry as a sentence that opens into its fields. */
+class Entry {
+  constructor(entry, { standing, roster, changed }) {
+    Object.assign(this, { entry, standing, kind: standing.kind, roster, changed });
+    this.fault = make("p.fault", { role: "status" });
+    this.summary = make("summary");
+    this.tell();
+  }
+
+  tell() {
+    this.fault.textContent = whomFault(this.entry, this.roster);
+    this.summary.textContent = sentence(this.entry, this.kind, this.standing);
   }
 
   set(entry) {
     this.entry = this.kind === LARGE ? carried(entry) : entry;
-    this.fault.textContent = whomFault(entry, this.roster);
+    this.tell();
     this.changed(this.entry);
   }
 
   verb() {
     return select([["0", t.allow], ["1", t.deny]], isDeny(this.entry) ? "1" : "0",
-      (it) => this.set({ ...this.entry, type: Number(it) }), { "aria-label": t.allowOrDeny });
+      (it) => this.set({ ...this.entry, type: Number(it) }), { "aria-label": `${t.allow} / ${t.deny}` });
   }
 
   whom() {
     const now = whomOf(this.entry);
-    const name = input(now.name, { "aria-label": t.nameLabel, list: this.names, hidden: now.name === "" });
+    const name = input(now.name, { "aria-label": t.heads.name, list: "known-names", hidden: now.name === "" });
     const choices = WHOM.filter((id) => id !== "" || now.id === "").map((id) => [id, t.whom[id]]);
     const whom = select(choices, now.id, (id) => {
       name.hidden = !isNamed(id);
@@ -93,24 +93,12 @@ class Fields {
         () => this.set({ ...this.entry, flag: this.entry.flag ^ flag }))));
   }
 
-  all() {
+  element(isOpen, buttons) {
     const rights = this.rights();
-    return [make("p.row", this.verb(), this.whom(), t.to, this.sets), this.fault, rights,
-      this.kind === FOLDER && this.reach()];
+    return make("li", make(`details.${isDeny(this.entry) ? "deny" : "allow"}`, { open: isOpen }, this.summary,
+      make("p.row", this.verb(), this.whom(), t.to, this.sets), this.fault, rights,
+      this.kind === FOLDER && this.reach(), make("p.tools", buttons)));
   }
-}
-
-/** An entry that can be changed. `does` has what its buttons do: up, down, remove. */
-function entryEditor(entry, { standing, names, roster, isOpen, changed, does }) {
-  const words = (it) => sentence(it, standing.kind, standing);
-  const summary = make("summary", words(entry));
-  const fields = new Fields(entry, { standing, names, roster }, (now) => {
-    summary.textContent = words(now);
-    changed(now);
-  });
-  const buttons = Object.entries(does).map(([its, action]) => button(its, action));
-  return make("li", make(`details.${isDeny(entry) ? "deny" : "allow"}`, { open: isOpen }, summary, fields.all(),
-    make("p.tools", buttons)));
 }
 
 class ListView {
@@ -132,13 +120,14 @@ class ListView {
 
   draw() {
     const [own, rest] = [this.own.map((it, at) => this.entry(it, at)), this.inherited];
-    const above = link(addressOf({ ...this.place, path: folderOf(this.place.path) }), t.inThatFolder);
+    const above = folderOf(this.place.path);
     this.element.replaceChildren(this.taking(), make("h2", t.ownEntries),
-      own.length ? make("ol.entries", own) : make("p", t.noneOwn),
+      own.length ? make("ol.entries", own) : make("p", t.nothingThere),
       make("p.tools", button(t.addEntry, () => this.add())),
       make("section.handed", { hidden: rest.length === 0 }, make("h2", t.handedTitle),
-        make("p", `${t.handedBehind} `, above, "."), sentences(rest, this.standing, { start: own.length + 1 })),
-      make("p.actions", button(t.saveList, () => this.save(), "main"), button(t.leaveList, () => this.leave())));
+        make("p", t.handedBehind, link(addressOf({ ...this.place, path: above }), nameText(above))),
+        sentences(rest, this.standing, { start: own.length + 1 })),
+      make("p.actions", button(t.saveList, () => this.save(), "main"), button(t.discard, () => this.leave())));
   }
 
   taking() {
@@ -158,10 +147,10 @@ class ListView {
   }
 
   entry(it, at) {
-    const does = { [t.up]: () => this.move(at, at - 1), [t.down]: () => this.move(at, at + 1),
-      [t.remove]: () => this.drop(at) };
-    return entryEditor(it, { standing: this.standing, names: "known-names", roster: this.roster,
-      isOpen: this.opened === at, does, changed: (now) => { this.own[at] = now; } });
+    const changed = (now) => { this.own[at] = now; };
+    return new Entry(it, { standing: this.standing, roster: this.roster, changed }).element(this.opened === at, [
+      button(t.up, () => this.move(at, at - 1)), button(t.down, () => this.move(at, at + 1)),
+      button(t.remove, () => this.drop(at))]);
   }
 
   add() {
@@ -185,7 +174,6 @@ class ListView {
     this.draw();
   }
 
-  /** Sets it, where nobody set another meanwhile; what was changed here stays until it is set. */
   async save(news = this.news()) {
     const about = t.listOf(shown(this.place.path));
     const count = this.own.length;
@@ -193,7 +181,7 @@ class ListView {
     if (fault) return tellFault(t.about(about, fault));
     const unknown = this.own.map((it) => whomFault(it, this.roster)).filter((it) => it !== "");
     if (unknown.length && !await ask({ title: `${t.setAllTheSame}?`, does: t.setAllTheSame,
-      words: unknown.map((it) => make("p", t.countsForNobody(it))) })) return;
+      words: unknown.map((it) => t.countsForNobody(it)) })) return;
     const now = await this.app.attempt(about, async () => {
       const its = await this.app.room.run("GETLIST", this.place.path);
       if (isSame(its, this.list)) await this.set();
@@ -209,7 +197,6 @@ class ListView {
     await this.app.done(`${t.listSet} ${told}`.trim());
   }
 
-  /** What lets somebody do more than the list that was shown. */
   news() {
     const before = ownOf(this.list);
     return this.own.filter((it) => !isDeny(it) && !before.some((other) => isSame(it, other)));
@@ -230,12 +217,11 @@ class ListView {
     this.start = this.text;
   }
 
-  /** Somebody changed the list meanwhile: both are shown. True where this one was set. */
   async settle(now) {
     const parts = [[t.theirs, ownOf(now)], [t.yours, this.own]].map(([title, entries]) =>
       [make("h3", title), sentences(entries, this.standing)]);
-    const chosen = await ask({ title: t.listChanged, task: () => this.set(), words: [make("p", t.nobodyKnows), parts],
-      does: t.setYours, others: [{ words: t.takeTheirs, value: "theirs" }] });
+    const chosen = await ask({ title: t.changed, task: () => this.set(), words: [t.nobodyKnows, parts],
+      does: t.setAllTheSame, others: [{ words: t.takeTheirs, value: "theirs" }] });
     if (chosen === "theirs") await this.app.show(standing());
     return chosen === true;
   }
@@ -243,15 +229,15 @@ class ListView {
 
 export async function showAccess(app, place) {
   const its = await standingAt(app.room, place.path);
-  const list = await app.room.run("GETLIST", place.path).catch((fault) => fault);
+  const list = await orFault(app.room.run("GETLIST", place.path));
   if (list instanceof Refusal) return [...head(place), faultLine(list.message)];
-  if (list instanceof Error) throw list;
   const roster = await app.room.users();
   const view = new ListView(app, place, its, list, roster);
   view.draw();
   const panel = new SharePanel(its, view.own, roster, (own, news) => view.setTo(own, news));
-  const about = make("p", its.owner && `${t.ownedBy(its.owner, its.group)} `, t.aboutList(its.kind === FOLDER));
-  const more = make("details.exceptions", { open: isDetailed }, make("summary", t.details), about, view.element);
+  const about = make("p.about", its.owner && t.owned(personText(its.owner), its.group));
+  const more = make("details.exceptions", { open: isDetailed }, make("summary", t.details), about,
+    make("p", t.aboutList), view.element);
   more.ontoggle = () => { isDetailed = more.open; };
   return [...head(place), panel.element, more, knownNames(roster, list.entries)];
 }

@@ -1,14 +1,12 @@
-/** Tells that requests wait for their answers, and how often they were sent. */
+/** Tells that requests wait for their answers. */
+import { part } from "./dom.js";
 import { t } from "./words.js";
 
 const SHORTEST = 250; // milliseconds
 const LONGEST = 5_000;
 const waiting = new Set();
 
-/** The user has given up: whether the request acted is not known. */
 export class GaveUp extends Error {}
-
-const part = (id) => document.getElementById(id);
 const section = part("busy");
 
 function tell() {
@@ -17,7 +15,6 @@ function tell() {
   if (told) part("busy-text").textContent = t.waits(told.why, waiting.size, told.times);
 }
 
-/** Waits longer each time, until a button is pressed, or for a login until somebody comes back from another tab. */
 class Waiting {
   times = 0;
 
@@ -27,7 +24,7 @@ class Waiting {
     tell();
     return new Promise((goOn, stop) => {
       this.goOn = goOn;
-      this.stop = () => stop(new GaveUp(t.gaveUp));
+      this.stop = () => stop(new GaveUp(t.unknown(t.gaveUp)));
       if (!isShut) this.timer = setTimeout(goOn, Math.min(SHORTEST * 2 ** (times - 1), LONGEST));
     });
   }

@@ -21,7 +21,7 @@ export const hexOf = (bytes) => [...bytes].map((it) => it.toString(16).padStart(
 export const randomHex = (count) => hexOf(crypto.getRandomValues(new Uint8Array(count)));
 export const fromText = (text) => new TextEncoder().encode(text);
 
-/** The text that bytes are, or null where they are none to be shown; with `isStart` they may end within a letter. */
+/** Null where they are no text to be shown; with `isStart` they may end within a letter. */
 export function toText(bytes, isStart = false) {
   try {
     const text = new TextDecoder("utf-8", { fatal: true, ignoreBOM: true }).decode(bytes, { stream: isStart });

@@ -1,16 +1,10 @@
-/** What uploads made is removed: whatever else has such a name stays. */
-import { NOENT, NOTDIR, isRefused, orElse } from "./codes.js";
+/** What uploads made is removed; whatever else has such a name stays. */
+import { FOLDER, NOENT, NOTDIR, folderOf, forEach, inFolder, isRefused, lastName, orElse, shown, t } from "./common.js";
 import * as form from "./manifest.js";
-import { shown } from "./names.js";
-import { folderOf, inFolder, lastName } from "./places.js";
-import { FOLDER } from "./rights.js";
-import { forEach } from "./room.js";
-import { t } from "./words.js";
 
 const OUR_PIECE = /^[0-9]{3}$/; // as a version names them that is made here
 const MOST_KEPT = 40; // letters of a name that a mark follows
 const isFolder = async (room, path) => (await room.aside("STAT", path)).kind === FOLDER;
-const namesIn = async (room, path) => (await room.aside("LIST", path)).names;
 
 // What is at a path and below it, in the order in which it can be removed, where it is of that form; else null.
 
@@ -18,15 +12,14 @@ const documentAt = async (room, path) => (await isFolder(room, path) ? null : [[
 
 async function piecesIn(room, path) {
   if (!await isFolder(room, path)) return null;
-  const names = await namesIn(room, path);
+  const names = await room.list(path);
   const fits = names.every(([name, kind]) => kind !== FOLDER && OUR_PIECE.test(name));
   return fits ? [names.map(([name]) => inFolder(path, name)), [path]] : null;
 }
 
-/** Of a large file that has its manifest, or has not yet. */
 export async function fileAt(room, path) {
   if (!await isFolder(room, path)) return null;
-  const names = await namesIn(room, path);
+  const names = await room.list(path);
   if (names.length && !form.isLarge(names) && !form.isUnfinished(names)) return null;
   const paths = (isManifest) => names.filter(([name]) => (name === form.NAME) === isManifest)
     .map(([name]) => inFolder(path, name));
@@ -54,19 +47,18 @@ export async function clear(room, at, name, transfer, looks = piecesIn) {
 /** What a stopped replacement left beside a document. A whole file there, maybe somebody's, gets another name. */
 export async function clearBeside(room, path, transfer) {
   const [above, { gone, its }] = [folderOf(path), await form.beside(lastName(path))];
-  const names = (await room.asideIfAllowed("LIST", above))?.names.map(([name]) => name) ?? [];
+  const names = (await room.names(above))?.map(([name]) => name) ?? [];
   if (names.includes(gone)) await clear(room, above, gone, transfer, documentAt);
   if (!names.includes(its)) return;
-  const inside = await orElse(namesIn(room, inFolder(above, its)), [], NOTDIR);
+  const inside = await orElse(room.list(inFolder(above, its)), [], NOTDIR);
   if (!inside.some(([name]) => name === form.NAME)) return clear(room, above, its, transfer, fileAt);
   const left = `${lastName(path).slice(0, MOST_KEPT)} (${form.otherName("").slice(0, 4)})`;
   await room.step("RENAME", inFolder(above, its), { to: inFolder(above, left) });
   transfer.fail(t.wholeLeft(shown(left)));
 }
 
-/** Removes an object with all that is in it, for good: the manifest of a large file first. */
 export async function removeAll(room, path) {
-  const { names } = await orElse(room.aside("LIST", path), { names: [] }, NOTDIR);
+  const names = await orElse(room.list(path), [], NOTDIR);
   const remove = (it) => orElse(room.step("REMOVE", it), null, NOENT);
   if (names.some(([name]) => name === form.NAME)) await remove(inFolder(path, form.NAME));
   const documents = names.filter(([name, kind]) => kind !== FOLDER && name !== form.NAME);

@@ -13,7 +13,7 @@ export const TOO_DEEP = 10;
 export const FOLDER_FULL = 11;
 const OF_DOCUMENTS = new Set(["READ", "WRITE", "APPEND"]);
 
-/** By name, as far as the user may see: `owner` is the object's, `above` that of the folder that it is in. */
+/** By name, as far as the user may see: `owner` is the object's, `above` that of its folder. */
 function whomToAsk({ user, owner, above }) {
   if (owner && owner === user) return t.isYours;
   if (owner) return t.askOwner(owner);
@@ -38,12 +38,13 @@ export class Refusal extends Error {
 
 export const isRefused = (fault, ...codes) => fault instanceof Refusal && codes.includes(fault.code);
 
+export const orFault = (task, fits = () => true) => task.catch((fault) => {
+  if (fault instanceof Refusal && fits(fault)) return fault;
+  throw fault;
+});
+
 /** What the task gives, or `instead` where it is refused with one of these codes. */
 export async function orElse(task, instead, ...codes) {
-  try {
-    return await task;
-  } catch (fault) {
-    if (isRefused(fault, ...codes)) return instead;
-    throw fault;
-  }
+  const found = await orFault(task, (it) => codes.includes(it.code));
+  return found instanceof Refusal ? instead : found;
 }

@@ -1,37 +1,24 @@
 /** The view of what is in a folder, or of a document. */
-import * as actions from "./actions.js";
-import { fromBase64, toText } from "./bytes.js";
-import { ACCESS, Refusal, isRefused } from "./codes.js";
-import { button, faultLine, link, make } from "./dom.js";
+import { asButton, makeDocument, makeFolder, offered, offersFor, rightsAt, textOffers } from "./actions.js";
+import { ACCESS, ADD_FILE, ADD_FOLDER, FILE, FOLDER, LARGE, READ, ROOT, Refusal, UNFINISHED, addressOf, button, byName,
+  faultLine, folderOf, fromBase64, inFolder, lastName, link, make, menuButton, openMenu, orFault, personText, pointOf,
+  shown, t, toText } from "./common.js";
 import { takeFiles } from "./drag.js";
 import { manifestAt, readFile } from "./files.js";
 import { head } from "./heads.js";
 import { NAME, beside, isPart } from "./manifest.js";
-import { menuButton, openMenu, pointOf } from "./menu.js";
 import { emptyTrash } from "./moving.js";
-import { byName, personText, shown } from "./names.js";
-import { asButton, offered, offersFor, rightsAt, textOffers } from "./offers.js";
-import { ROOT, addressOf, folderOf, inFolder, lastName } from "./places.js";
 import { canShow, isPdf, isPicture, nothing, preview } from "./preview.js";
-import { ADD_FILE, ADD_FOLDER, FILE, FOLDER, LARGE, READ, UNFINISHED } from "./rights.js";
 import { Things } from "./things.js";
 import { sizeWords } from "./transfers.js";
 import { beforeWords, isOwnTrash, isTrash, ownTrash } from "./trash.js";
 import { kindBy } from "./trees.js";
 import { filesButton, upload } from "./uploads.js";
-import { t } from "./words.js";
 
-const PREVIEWED = 2 ** 22; // bytes of a large file that are read to be shown without being asked for
+const PREVIEWED = 2 ** 22; // bytes of a large file that are read unasked
 
-/** What the task gives, or the refusal of a right on this very object: then the rest of the view is still of use. */
-async function orRefused(task, path) {
-  try {
-    return await task;
-  } catch (fault) {
-    if (isRefused(fault, ACCESS) && fault.path === path) return fault;
-    throw fault;
-  }
-}
+/** Gives a refusal of a right on this very object: then the rest of the view is still of use. */
+const orShut = (task, path) => orFault(task, (it) => it.code === ACCESS && it.path === path);
 
 function about(place, stat, size) {
   const whose = stat.owner ? t.owned(personText(stat.owner), stat.group) : "";
@@ -41,27 +28,26 @@ function about(place, stat, size) {
 function newsFor(app, path, own) {
   const put = (chosen) => upload(app, path, chosen);
   return offered([
-    [own & ADD_FOLDER, { words: t.newFolder, does: () => actions.makeFolder(app, path) }],
-    [own & ADD_FILE, { words: t.newDocument, does: () => actions.makeDocument(app, path) }],
+    [own & ADD_FOLDER, { words: t.newFolder, does: () => makeFolder(app, path) }],
+    [own & ADD_FILE, { words: t.newDocument, does: () => makeDocument(app, path) }],
     [own & ADD_FILE && own & ADD_FOLDER, { words: t.uploadFolder, files: { isFolder: true }, chosen: put }],
   ]);
 }
 
-/** What stopped replacements of documents left in a folder, by their names, where these are still there. */
+/** What stopped replacements left, by the names of their documents where these are still there. */
 async function leftWords(names) {
   const left = new Set(names.map(([name]) => name).filter(isPart));
   if (left.size === 0) return null;
   if (left.has(NAME)) return faultLine(t.isMixed);
   const marks = await Promise.all(names.map(async ([name]) => ({ name, ...await beside(name) })));
   const called = marks.filter(({ its, gone }) => left.has(its) || left.has(gone)).map(({ name }) => shown(name));
-  return faultLine(t.leftHere(called.length ? t.placeOf(called) : t.placeOfSome));
+  return faultLine(t.leftHere(called.length ? called : t.someDocument));
 }
 
-/** At the top the way to the user's trash, where there is one; in it, where it has something in it, its end. */
 async function trashTool(app, { path, room }, isEmpty) {
   const trash = (path === ROOT || isOwnTrash(app, path)) && (await ownTrash(app)).path;
   if (!trash) return null;
-  if (path === ROOT) return link(addressOf({ room, path: trash }), t.yourTrash);
+  if (path === ROOT) return link(addressOf({ room, path: trash }), t.trashOf(app.user));
   return !isEmpty && path === trash && button(t.emptyTrash, () => emptyTrash(app, path));
 }
 
@@ -75,13 +61,13 @@ async function folder(app, place, stat, rights, found) {
   const top = head(place, { app, menu: () => offersFor(app, path, FOLDER, rights), title: titleOf(place) });
   const bar = make("p.tools.makers",
     news.length > 0 && menuButton(`+ ${t.new}`, { className: "main" }, () => news, t.new),
-    mayPut && filesButton(t.upload, {}, (chosen) => upload(app, path, chosen), t.uploadFiles),
+    mayPut && filesButton(t.upload, {}, (chosen) => upload(app, path, chosen)),
     await trashTool(app, place, found.names?.length === 0));
-  if (found instanceof Refusal) return [...top, bar, about(place, stat, t.folder), faultLine(found.message)];
+  if (found instanceof Refusal) return [...top, bar, about(place, stat, t.kinds.folder), faultLine(found.message)];
   const names = found.names.filter(([name]) => !isPart(name)).sort(byName);
   const things = names.length ? new Things(app, place, names, rights) : null;
   const words = isOwn ? t.inTrash : mayPut && t.dropHere;
-  const area = make("div.drops", await leftWords(found.names), things?.element ?? make("p.empty", t.emptyFolder),
+  const area = make("div.drops", await leftWords(found.names), things?.element ?? make("p.empty", t.nothingThere),
     about(place, stat, t.inIt(names.length)), words && make("p.about", words));
   if (mayPut) takeFiles(area, app, path);
   area.oncontextmenu = (event) => {
@@ -89,11 +75,10 @@ async function folder(app, place, stat, rights, found) {
     event.preventDefault();
     openMenu(bar.querySelector("button"), news, t.new, pointOf(event));
   };
-  app.watched = { path, listing: JSON.stringify(found.names), put: mayPut };
+  app.watched = { path, listing: JSON.stringify(found.names), things, put: mayPut };
   return [...top, bar, ...things ? [things.bar.element] : [], area];
 }
 
-/** What is shown of an object that is no folder: what is offered, with `first` in front, what it is, and the `body`. */
 async function object(app, place, { stat, rights, kind, size, words, first = [] }, body) {
   const offers = [...first, ...offersFor(app, place.path, kind, { ...rights, size })].filter((it) => !it.isView);
   const bar = make("p.tools", offers.map(asButton), await neighbours(app, place));
@@ -102,11 +87,11 @@ async function object(app, place, { stat, rights, kind, size, words, first = [] 
 
 async function document_(app, place, stat, rights) {
   const { path } = place;
-  const found = await orRefused(app.room.run("READ", path), path);
+  const found = await orShut(app.room.run("READ", path), path);
   const isShut = found instanceof Refusal;
   const bytes = isShut ? null : fromBase64(found.data);
   const first = textOffers(app, path, rights.own, bytes, bytes && toText(bytes));
-  const words = isShut ? t.document : t.bytes(bytes.length);
+  const words = isShut ? t.kinds.writing : t.bytes(bytes.length);
   return object(app, place, { stat, rights, kind: FILE, size: bytes?.length, words, first }, isShut ?
     faultLine(found.message) : preview(bytes, lastName(path)));
 }
@@ -122,14 +107,14 @@ async function large(app, place, stat, rights) {
   const isAsked = its.size <= PREVIEWED || bytes && isPdf(bytes);
   if (bytes && !canShow(bytes)) area.append(nothing());
   else if (rights.own & READ && isAsked) await show().catch((fault) => area.append(fault.message));
-  else area.append(button(t.showIt, () => app.attempt(shown(path), show)));
+  else area.append(button(t.show, () => app.attempt(shown(path), show)));
   return object(app, place, { stat, rights, kind: LARGE, size: its.size, words: sizeWords(its.size) }, area);
 }
 
 async function neighbours(app, { path, room }) {
   if (!isPicture(lastName(path))) return [];
-  const found = await app.room.asideIfAllowed("LIST", folderOf(path));
-  const names = (found?.names ?? []).filter(([name]) => isPicture(name)).sort(byName).map(([name]) => name);
+  const all = await app.room.names(folderOf(path)) ?? [];
+  const names = all.filter(([name]) => isPicture(name)).sort(byName).map(([name]) => name);
   const at = names.indexOf(lastName(path));
   const to = (name, words, key) => name && Object.assign(
     link(addressOf({ room, path: inFolder(folderOf(path), name) }), words), { title: shown(name), className: key });
@@ -140,7 +125,7 @@ export async function showContents(app, place) {
   const { room } = app;
   const [stat, rights] = await Promise.all([room.standing(place.path), rightsAt(room, place.path)]);
   if (stat.kind !== FOLDER) return document_(app, place, stat, rights);
-  const found = await orRefused(room.run("LIST", place.path), place.path);
+  const found = await orShut(room.run("LIST", place.path), place.path);
   const kind = found.names ? kindBy(found.names) : FOLDER;
   if (kind === UNFINISHED) {
     const words = t.wasStopped(shown(lastName(place.path)));

@@ -1,33 +1,30 @@
-/** Dialogs: they stay until what they ask for is done, and ask before something typed is lost. */
+/** Dialogs stay until what they ask for is done, and ask before something typed is lost. */
 import { standIn } from "./busy.js";
 import { button, labelled, make } from "./dom.js";
 import { clean, shown } from "./names.js";
 import { isTooLong, nameFault, shortened } from "./places.js";
 import { t } from "./words.js";
 
-const SLOW = 500; // milliseconds after which it is said that something is under way
+const SLOW = 500; // milliseconds after which it is told
 const open = new Set();
 const typed = new Set(); // each tells whether something of its own is typed and not yet done
-const running = new Set(); // the same of what goes on in other places of the page, and ends with it alone
+const running = new Set(); // what ends with the page
 let isEnding = false;
 
-function added(set, look) {
-  set.add(look);
-  return () => set.delete(look);
+function added(set, it) {
+  set.add(it);
+  return () => set.delete(it);
 }
 
-const some = (looks) => [...looks].some((it) => it());
-
-/** From now on whoever would leave is asked where `look` says so, until what is returned is called. */
+/** Whoever would leave is asked where `look` says so, until what is returned is called. */
 export const watch = (look) => added(typed, look);
-export const watchEnd = (look) => added(running, look);
-export const isUnsaved = () => !isEnding && some(typed);
+export const watchEnd = (what) => added(running, what);
+export const isUnsaved = () => !isEnding && [...typed].some((it) => it());
 
-/** The page ends by itself, and nobody is asked. */
 export const end = () => { isEnding = true; };
 
 addEventListener("beforeunload", (event) => {
-  if (isUnsaved() || !isEnding && some(running)) event.preventDefault();
+  if (isUnsaved() || !isEnding && running.size > 0) event.preventDefault();
 });
 
 export const closeAll = () => open.forEach((it) => it.end(null));
@@ -47,9 +44,11 @@ class Dialog {
       " ", button(t.discard, () => this.end(null)));
     this.atWork = make("p", { role: "status" });
     const leave = button(stays, () => this.leave());
-    this.form = make("form", { method: "dialog" }, make("h2", title), words,
+    const texts = [words].flat(Infinity).map((it) => (typeof it === "string" ? make("p", it) : it));
+    const head = make("h2", does ? {} : { tabIndex: -1, autofocus: true }, title);
+    this.form = make("form", { method: "dialog" }, head, texts,
       fields.map(([label, field]) => labelled(label, field)), this.fault, this.fields.length > 0 && this.leaving,
-      this.atWork, make("p.actions", isFinal && leave, make(isFinal ? "button" : "button.main", does),
+      this.atWork, make("p.actions", isFinal && leave, does && make(isFinal ? "button" : "button.main", does),
         others.map((it) => button(it.words, () => this.run(it.task ?? (() => {}), it.value))), !isFinal && leave));
     this.element = make("dialog", { "aria-label": title, closedby: "none" }, this.form);
     this.form.onsubmit = (event) => this.submit(event);
@@ -77,7 +76,6 @@ class Dialog {
     if (!this.fault.textContent) this.run(this.task, true);
   }
 
-  /** Does it while the dialog stands; a refusal is told in it. What takes a while shows that it is at work. */
   async run(task, value) {
     if (this.form.inert) return;
     const focused = document.activeElement;
@@ -132,16 +130,15 @@ class Dialog {
   }
 }
 
-/** Asks for `fields`, `[LABEL, ELEMENT]`; `faultOf` tells why what was put in will not do, or nothing; `task` does it,
- * and the dialog stays until it is done. `others` are further buttons, `{words, value, task}`; `first` is the word of
- * the button that has the focus at first, where that is not the first field, and `stays` that of the one that closes.
- * What it gives is true, the value of another button once its task is done, or null where it was closed. */
+/** Asks for `fields`, `[LABEL, ELEMENT]`. `faultOf` tells why these will not do; `others` are further buttons,
+ * `{words, value, task}`; `first` is the word of the button that has the focus, `stays` that of the one that closes.
+ * Gives true, or the value of another button, once the task is done; null where it was closed. */
 export const ask = (how) => new Dialog(how).show();
 
 export const input = (value = "", how = {}) =>
   make("input", { value, autocomplete: "off", spellcheck: false, ...how });
 
-/** A field for a name, of which all but the ending is marked at first. A shorter one is offered for one too long. */
+/** All but a name's ending is marked at first; in the place of one too long a shorter one is offered. */
 export function nameInput(value = "", how = {}) {
   const [field, hint] = [input(value, how), make("p.about", { role: "status" })];
   const dot = value.lastIndexOf(".");

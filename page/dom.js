@@ -1,6 +1,8 @@
 /** Elements of the page. Whatever comes from the room is put in as text, never as markup. */
 import { partsOf } from "./names.js";
 
+export const part = (id) => document.getElementById(id);
+
 /** An element, `tag.class`, with properties or attributes, and children: texts, elements, lists of them, or null. */
 export function make(name, ...rest) {
   const [tag, ...classes] = name.split(".");
@@ -15,12 +17,12 @@ export function make(name, ...rest) {
   return it;
 }
 
-/** `how` may be its class alone. */
 export const button = (words, onclick, how = {}) =>
   make("button", { type: "button", onclick, ...typeof how === "string" ? { className: how } : how }, words);
 
 export const link = (href, ...words) => make("a", { href }, ...words);
 export const faultLine = (...words) => make("p.fault", ...words);
+export const listOf = (all) => make("ul", all.map((it) => make("li", it)));
 
 export const onSubmit = (task) => (event) => {
   event.preventDefault();
@@ -47,7 +49,6 @@ export function checkbox(words, checked, changed) {
   return make("label.choice", box, ` ${words}`);
 }
 
-/** A choice among `[VALUE, WORD]`. */
 export function select(choices, now, changed, how = {}) {
   const it = make("select", how, choices.map(([value, word]) => make("option", { value }, word)));
   it.value = now;

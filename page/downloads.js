@@ -1,32 +1,26 @@
 /** Files go to the user's disk, folders and several things as a zip. */
-import { save } from "./bytes.js";
+import { FOLDER, ROOT, forDisk, namesOf, save, shown, t } from "./common.js";
 import { readFile } from "./files.js";
-import { forDisk, shown } from "./names.js";
-import { ROOT, namesOf } from "./places.js";
-import { FOLDER } from "./rights.js";
 import { sizeWords, transferring } from "./transfers.js";
 import { nameAt } from "./trash.js";
-import { below, lookInto, whole } from "./trees.js";
-import { t } from "./words.js";
+import { lookInto, whole } from "./trees.js";
 import { Zip } from "./zip.js";
 
 export async function download(app, path, size) {
   const name = nameAt(path);
   const how = { total: size ?? 0, about: `download ${app.room.name} ${path}` };
-  await transferring(app, t.downloadTitle(shown(name)), how, async (transfer) => {
+  await transferring(app, t.doTo(t.download, shown(name)), how, async (transfer) => {
     const bytes = await readFile(app.room, path, transfer);
     save(new Blob([bytes], { type: "application/octet-stream" }), name);
     return t.downloaded(shown(name), sizeWords(bytes.length), transfer.seconds);
   });
 }
 
-async function allOf(room, paths, transfer) {
-  const look = paths.length > 1 ? whole : below;
-  const found = (await Promise.all(paths.map((it) => look(room, it, transfer)))).flat();
-  return found.sort((a, b) => (a.path < b.path ? -1 : 1));
+async function allOf(room, paths, folder, transfer) {
+  const found = (await Promise.all(paths.map((it) => whole(room, it, transfer)))).flat();
+  return found.filter(({ path, isShut }) => path !== folder || isShut).sort((a, b) => (a.path < b.path ? -1 : 1));
 }
 
-/** Where things are in a zip: each at a path of its own, also on a disk that does not tell capitals apart. */
 class Places {
   constructor(top) {
     Object.assign(this, { given: new Map([["", top]]), used: new Set() });
@@ -48,19 +42,18 @@ class Places {
   }
 }
 
-/** A zip that is called as the folder, and has their paths from there on. */
 async function downloadZip(app, paths, folder) {
   const { room } = app;
   const name = folder === ROOT ? room.name : nameAt(folder);
   const how = { total: 0, unit: String, about: `zip ${room.name} ${paths[0]}` };
-  await transferring(app, t.zipTitle(shown(name)), how, async (transfer) => {
-    const found = await allOf(room, paths, transfer);
+  await transferring(app, t.doTo(t.downloadZip, shown(name)), how, async (transfer) => {
+    const found = await allOf(room, paths, folder, transfer);
     const [zip, places, quiet] = [new Zip(), new Places(forDisk(name)), transfer.quiet()];
     transfer.total = transfer.bar.max = found.length;
     for (const { path, kind, isShut } of found) {
       const inside = places.of(namesOf(path).slice(namesOf(folder).length));
       transfer.check();
-      if (isShut) transfer.fail(t.shutInZip(shown(path)));
+      if (isShut) transfer.fail(t.isShut(shown(path)));
       if (kind === FOLDER) zip.add(`${inside}/`);
       else await readFile(room, path, quiet).then((bytes) => zip.add(inside, bytes), (fault) => {
         transfer.check();

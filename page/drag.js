@@ -1,13 +1,11 @@
 /** Rows are dragged onto folders and onto the way above; files of the user's disk are dropped. */
+import { folderOf, isWithin, tellIt } from "./common.js";
 import { moveInto } from "./moving.js";
-import { tellIt } from "./notices.js";
-import { folderOf, isWithin } from "./places.js";
 import { dropped, upload } from "./uploads.js";
 
 const FORM = "application/x-fileroom";
 let dragged = []; // paths
 
-/** What is dragged are all that are chosen, where that row is one of them. */
 export function dragRow(row) {
   row.element.draggable = true;
   row.element.ondragstart = (event) => {
@@ -21,7 +19,6 @@ export function dragRow(row) {
 
 const mayGo = (folder) => dragged.length > 0 && dragged.every((it) => folderOf(it) !== folder && !isWithin(folder, it));
 
-/** The element takes what `fits` says, shows that, and does it. */
 function take(element, fits, does) {
   const over = (event, isOver) => {
     if (isOver && !fits(event.dataTransfer)) return;

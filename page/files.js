@@ -1,18 +1,11 @@
-/** Files of up to 16 MiB: a small one is a document, a large one a folder with pieces (docs/FILES.md). */
-import { MOST_BYTES, fromBase64, toBase64 } from "./bytes.js";
+/** Files: a small one is a document, a large one a folder with pieces (docs/FILES.md). */
 import { clear, clearBeside, fileAt } from "./clearing.js";
-import { EXIST, ISDIR, NOENT, NOTDIR, NOTEMPTY, Refusal, isRefused, orElse } from "./codes.js";
-import { carried, forDocument, ownList } from "./lists.js";
+import { EXIST, FILE, ISDIR, MOST_BYTES, NOENT, NOTDIR, NOTEMPTY, Refusal, carried, folderOf, forDocument, forEach,
+  fromBase64, inFolder, isRefused, lastName, namesOf, orElse, ownList, shown, t, toBase64 } from "./common.js";
 import * as form from "./manifest.js";
-import { shown } from "./names.js";
-import { folderOf, inFolder, lastName, namesOf } from "./places.js";
-import { FILE } from "./rights.js";
-import { forEach } from "./room.js";
-import { t } from "./words.js";
 
 const TRIES = 5; // of a reader that meets one new version after another
 
-/** The transfer of who waits for no end and shows none. */
 export const NOBODY = { add() {}, check() {}, note() {}, fail() {}, overtaken: () => null };
 const bytesAt = async (room, path, more) => fromBase64((await room.aside("READ", path, more)).data);
 const manifestBytes = (room, path) => orElse(bytesAt(room, inFolder(path, form.NAME)), null, NOENT, ISDIR, NOTDIR);
@@ -24,7 +17,6 @@ export async function manifestAt(room, path) {
 
 const isSame = (one, other) => (one === null || other === null ? one === other : toBase64(one) === toBase64(other));
 
-/** All bytes of a file, of one version. */
 export async function readFile(room, path, transfer = NOBODY) {
   const small = await orElse(bytesAt(room, path, { keep: false }), null, ISDIR);
   if (small) transfer.add(small.length);
@@ -62,10 +54,10 @@ async function wholeOf(room, path, its, transfer) {
   return ends.reduce((sum, it) => sum + it, 0) === its.size && await form.sumOf(bytes) === its.sha256 ? bytes : null;
 }
 
-/** Makes the file, or a new version, with `isNew` only where nothing is. Where it is then: it may be kept as a copy. */
+/** Gives where it is: it may be kept as a copy. With `isNew` only where nothing is. */
 export async function writeFile(room, path, bytes, transfer = NOBODY, isNew = false) {
   const fault = form.sizeFault(bytes.length);
-  if (fault) throw new Error(t.notSent(shown(lastName(path)), fault));
+  if (fault) throw new Error(t.nothingSent(`${shown(lastName(path))} ${fault}.`));
   if (bytes.length > MOST_BYTES) return new Upload(room, path, bytes, transfer).run(isNew);
   const data = toBase64(bytes);
   const small = () => room.aside("CREATE", path, { data });
@@ -76,7 +68,6 @@ export async function writeFile(room, path, bytes, transfer = NOBODY, isNew = fa
   return path;
 }
 
-/** Makes a copy of a file, or of a version of it, which has its list before it has its bytes. */
 export async function writeCopy(room, of, path, bytes, transfer = NOBODY) {
   const list = ownList(await room.aside("GETLIST", of));
   if (!list) return writeFile(room, path, bytes, transfer, true);
@@ -87,7 +78,7 @@ export async function writeCopy(room, of, path, bytes, transfer = NOBODY) {
   return path;
 }
 
-/** One new version of a file that is a folder, or becomes one. A new one gets the list, where there is one. */
+/** One new version of a file that is a folder, or becomes one. A new file gets the list. */
 class Upload {
   constructor(room, path, bytes, transfer, list = null) {
     Object.assign(this, { room, path, bytes, transfer, list, names: [], before: null, called: shown(lastName(path)) });
@@ -100,8 +91,7 @@ class Upload {
   async run(isNew) {
     if (namesOf(this.path).length > form.DEEPEST) throw new Error(t.tooDeep);
     this.its = await form.manifestOf(this.bytes);
-    const document = await this.begin(isNew);
-    if (document) return new Replacement(this, document).run();
+    if (await this.begin(isNew)) return this.replaceDocument();
     try {
       if (this.list) await this.room.step("SETLIST", this.path, this.list);
       await this.putPieces(this.path);
@@ -133,23 +123,23 @@ class Upload {
     return this.path;
   }
 
-  /** The document, as STAT has it, that is there instead, or null. */
+  /** Whether a document is there instead. */
   async begin(isNew) {
     this.isMade = Boolean(await orElse(this.room.step("MKDIR", this.path), null, ...(isNew ? [] : [EXIST])));
-    if (this.isMade) return null;
+    if (this.isMade) return false;
     this.stat = await this.room.aside("STAT", this.path);
-    if (this.stat.kind === FILE) return this.stat;
-    this.names = (await this.room.aside("LIST", this.path)).names;
+    if (this.stat.kind === FILE) return true;
+    this.names = await this.room.list(this.path);
     this.before = await manifestBytes(this.room, this.path);
     const isLeft = form.isUnfinished(this.names);
     if (!isLeft && !(this.before && form.readManifest(this.before))) throw new Error(t.isFolder(this.called));
     if (isLeft) await this.needOwn();
     this.clears = isLeft || this.names.some(([name]) => form.isLeft(name));
-    return null;
+    return false;
   }
 
-  /** That this folder is as the user would have made it. (Anyone who may add could make one under a name that somebody
-   * is about to put, open it to others, and give it away.) */
+  /** That this folder is as the user would have made it. (Else anyone who may add could make one under a name that
+   * somebody is about to put, open it to others, and give it away.) */
   async needOwn() {
     const { owner } = this.stat;
     if (owner !== this.room.user) throw new Error(t.notYourUpload(this.called, t.uploadBy(owner)));
@@ -157,7 +147,6 @@ class Upload {
     if (isOpen) throw new Error(t.notYourUpload(this.called, t.ownListed));
   }
 
-  /** All pieces in a folder of that name, which is there once they are. */
   async putPieces(at) {
     const writing = form.otherName(form.WRITING);
     await this.room.step("MKDIR", inFolder(at, writing));
@@ -172,7 +161,7 @@ class Upload {
       await this.room.step("RENAME", inFolder(at, writing), { to: inFolder(at, this.its.folder) });
     } catch (fault) {
       await this.clear(at, writing);
-      if (isRefused(fault, NOENT)) throw new Error(t.otherFirst(shown(this.path)));
+      if (isRefused(fault, NOENT)) throw new Error(t.otherStands(shown(this.path)));
       throw fault;
     }
   }
@@ -193,7 +182,6 @@ class Upload {
     return writeCopy(this.room, this.path, chosen, this.bytes, this.transfer);
   }
 
-  /** The one request that is the new version. */
   async putManifest(at, isFirst) {
     try {
       const data = toBase64(form.bytesOf(this.its));
@@ -204,14 +192,13 @@ class Upload {
     }
   }
 
-  /** Whether the new version is whole, and then clears what was before it. */
   async lookAfter() {
     const now = await manifestAt(this.room, this.path);
     if (now?.folder !== this.its.folder) {
       await this.clear(this.path, this.its.folder);
-      throw new Error(t.otherBehind(shown(this.path)));
+      throw new Error(t.otherStands(shown(this.path)));
     }
-    const { names } = await this.room.aside("LIST", this.path);
+    const names = await this.room.list(this.path);
     // (another writer, who began before, may have taken the pieces for left over)
     if (!names.some(([name]) => name === this.its.folder)) await this.putPieces(this.path);
     const there = new Set(this.names.map(([name]) => name));
@@ -221,15 +208,9 @@ class Upload {
       if (isOld || form.isLeft(name)) await this.clear(this.path, name);
     }
   }
-}
 
-/** A document gives its name to a large file, which keeps its owner and its list. */
-class Replacement {
-  constructor(upload, its) {
-    Object.assign(this, { upload, its, room: upload.room, path: upload.path, transfer: upload.transfer });
-  }
-
-  async run() {
+  /** The document gives its name to a large file, which keeps its owner and its list. */
+  async replaceDocument() {
     const above = folderOf(this.path);
     const names = await form.beside(lastName(this.path));
     const [gone, its] = [inFolder(above, names.gone), inFolder(above, names.its)];
@@ -237,14 +218,15 @@ class Replacement {
     await clearBeside(this.room, this.path, this.transfer);
     await this.room.step("MKDIR", its);
     try {
-      await this.takeList(its);
-      await this.upload.putPieces(its);
-      await this.upload.putManifest(its, true);
+      const list = ownList(await this.room.aside("GETLIST", this.path));
+      if (list) await this.room.step("SETLIST", its, { ...list, entries: list.entries.map(carried) });
+      await this.putPieces(its);
+      await this.putManifest(its, true);
       await this.takeOwner(its);
-      if (!isSame(before, await bytesAt(this.room, this.path))) throw new Error(t.changedMeanwhile);
+      if (!isSame(before, await bytesAt(this.room, this.path))) throw new Error(t.changed);
       await this.room.step("RENAME", this.path, { to: gone });
     } catch (fault) {
-      await this.upload.clear(above, names.its, fileAt);
+      await this.clear(above, names.its, fileAt);
       throw fault;
     }
     await this.takeName(its, gone);
@@ -252,20 +234,13 @@ class Replacement {
     return this.path;
   }
 
-  async takeList(its) {
-    const own = ownList(await this.room.aside("GETLIST", this.path));
-    if (own) await this.room.step("SETLIST", its, { ...own, entries: own.entries.map(carried) });
-  }
-
   async takeOwner(its) {
-    const { owner, group } = this.its;
+    const { owner, group } = this.stat;
     const now = await this.room.aside("STAT", its);
     if (now.owner === owner && now.group === group) return;
-    const levels = [...piecesAt(its, this.upload.its), [inFolder(its, form.NAME)], [its]];
-    await give(this.room, levels, { owner, group });
+    await give(this.room, [...piecesAt(its, this.its), [inFolder(its, form.NAME)], [its]], { owner, group });
   }
 
-  /** Between the two, nothing has the name. */
   async takeName(its, gone) {
     try {
       await this.room.step("RENAME", its, { to: this.path });

@@ -1,12 +1,9 @@
 /** The view that looks for names below a folder. */
-import { button, labelled, link, make, nameText, onSubmit } from "./dom.js";
+import { FOLDER, addressOf, button, clean, inOrder, labelled, lastName, link, make, nameText, onSubmit, shown,
+  t } from "./common.js";
 import { NOBODY } from "./files.js";
 import { head } from "./heads.js";
-import { clean, inOrder, shown } from "./names.js";
-import { addressOf, lastName } from "./places.js";
-import { FOLDER } from "./rights.js";
 import { walk } from "./trees.js";
-import { t } from "./words.js";
 
 const MOST = 500; // names that are shown
 const kept = new Map(); // each place's view, so that who comes back finds it
@@ -19,7 +16,7 @@ class Search {
     this.told = make("p", { role: "status" });
     this.list = make("ul.found");
     const form = make("form", labelled(t.lettersBelow(shown(place.path)), this.field),
-      make("p.tools", make("button.main", t.search), button(t.stop, () => this.stop())));
+      make("p.tools", make("button.main", t.search), button(t.cancel, () => this.stop())));
     form.onsubmit = onSubmit(() => this.run());
     this.element = make("div", form, this.told, this.list);
   }

@@ -1,11 +1,7 @@
-/** What stands above each view: the way to it, its name with its menu, and the other views of the same object. */
-import { link, make, nameText } from "./dom.js";
+/** What stands above each view: the way to it, its name, and the other views of it. */
+import { ROOT, addressOf, foldersAbove, link, make, menuButton, nameText, shown, t } from "./common.js";
 import { takeRows } from "./drag.js";
-import { menuButton } from "./menu.js";
-import { shown } from "./names.js";
-import { ROOT, addressOf, foldersAbove } from "./places.js";
 import { nameAt } from "./trash.js";
-import { t } from "./words.js";
 
 const VIEWS = [["open", t.contents], ["access", t.share], ["who", t.whoMay]];
 const nameOf = (place, path) => (path === ROOT ? place.room : nameAt(path));

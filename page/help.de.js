@@ -1,38 +1,32 @@
 /** The help in German: a line begins a paragraph, `# ` a heading, `1. ` an item of a list. */
 export const help = `
 # Ordner und Dokumente
-Wählen Sie einen Namen, um ihn zu öffnen. Ein Text, der hier geschrieben wird, fasst höchstens 65.536 Bytes, eine Datei,
-  die hochgeladen wird, 16 MiB, ein Ordner 256 Dinge, ein Name etwa 64 Buchstaben und ein Pfad 16 Namen. Umlaute zählen
-  doppelt. Der Knopf ⋯ einer Zeile zeigt, was Sie damit tun dürfen.
+Wählen Sie einen Namen, um ihn zu öffnen; der Knopf ⋯ einer Zeile zeigt, was Sie damit tun dürfen. Ein Text fasst 65.536
+  Bytes, eine hochgeladene Datei 16 MiB, ein Ordner 256 Dinge, ein Pfad 16 Namen, ein Name 64 Buchstaben: Umlaute zählen
+  doppelt.
 **Anhängen** fügt am Ende eines Dokuments Zeilen an, auch wo jemand anderes gleichzeitig anfügt. **Bearbeiten** ersetzt
-  alles; die Seite sieht vorher nach, ob es jemand inzwischen geändert hat, und zeigt dann beide Texte. **Neue Fassung
-  hochladen** ersetzt es durch eine Datei und behält auf Wunsch die alte daneben. Von selbst bewahrt der Raum keine
-  alten Fassungen auf.
-Was Sie anlegen, auch eine Kopie, gehört Ihnen. Was andere damit dürfen, gibt die Liste des Ordners weiter.
-**Entfernen** legt Dinge in Ihren Papierkorb, wo Sie einen haben: der Weg dorthin steht ganz oben im Raum, und von dort
-  lassen sie sich zurücklegen.
-Der Raum kennt keine Zeiten: er kann nicht sagen, wann etwas geändert wurde und von wem. Ein neues Passwort gibt, wer
-  den Raum betreibt.
+  alles und zeigt beide Texte, wenn es jemand inzwischen geändert hat. **Neue Fassung hochladen** ersetzt es durch eine
+  Datei und behält auf Wunsch die alte daneben: von selbst bewahrt der Raum keine alten Fassungen und keine Zeiten auf.
+Was Sie anlegen, auch eine Kopie, gehört Ihnen. **Entfernen** legt Dinge in Ihren Papierkorb, wo Sie einen haben: der
+  Weg dorthin steht ganz oben im Raum. Ein neues Passwort gibt, wer den Raum betreibt.
 Tasten: **/** führt zur Suche, **Alt ↑** zum Ordner darüber, **Strg Z** macht rückgängig; in der Liste benennt **F2**
-  um, **Entf** entfernt, **Strg A** wählt alles, und Buchstaben führen zu einem Namen; **Strg S** beendet, was
-  geschrieben wird.
+  um, **Entf** entfernt, **Strg A** wählt alles, **Strg X** oder **Strg C** und dann **Strg V** verschieben oder
+  kopieren in den gezeigten Ordner, und Buchstaben führen zu einem Namen; **Strg S** beendet, was geschrieben wird.
 # Wenn keine Antwort kommt
-Jede Anfrage wird in diesem Browser aufbewahrt, bevor sie gesendet wird, und gesendet, bis eine Antwort kommt, auch nach
-  einem Neuladen. Der Raum erkennt sie wieder und führt sie einmal aus. **Aufgeben** beendet das: dann kann niemand
-  sagen, ob es getan wurde; sehen Sie nach, bevor Sie es wiederholen.
+Jede Anfrage wird in diesem Browser aufbewahrt und gesendet, bis eine Antwort kommt, auch nach einem Neuladen. Der Raum
+  führt sie einmal aus. **Aufgeben** beendet das: sehen Sie dann nach, ob es getan wurde, bevor Sie es wiederholen.
 # Wer darf was
 Jeder Ordner und jedes Dokument hat eine Liste von Einträgen. Ein Eintrag erlaubt oder verbietet einige Rechte: dem
   Eigentümer, der Gruppe, allen, einem Benutzer oder einer Gruppe.
 1. Für jedes Recht wird die Liste von oben gelesen. Der erste Eintrag, der das Recht und die Person nennt, entscheidet.
 1. Was kein Eintrag entscheidet, ist verboten.
-1. Eine Ausnahme steht also über der Regel: erst „Verboten für Benutzer bob“, dann „Erlaubt für alle“.
+1. Eine Ausnahme steht also über der Regel.
 1. Wer an etwas in einem Ordner kommen will, muss auch durch jeden Ordner darüber **hindurchgehen** dürfen.
 1. Der Eigentümer darf die Liste immer sehen und ändern; keine Liste sperrt ihn aus.
-Vier Wörter stehen für das Übliche. Wer **ansehen** darf, sieht es und was darin ist. Wer **bearbeiten** darf, darf auch
-  ersetzen, anhängen und Neues anlegen. Wer **ändern** darf, darf auch entfernen und umbenennen. Wer **alles** darf,
-  darf auch die Liste und den Eigentümer ändern.
+Wer **ansehen** darf, sieht es und was darin ist. Wer **bearbeiten** darf, darf auch ersetzen, anhängen und Neues
+  anlegen. Wer **ändern** darf, darf auch entfernen und umbenennen. Wer **alles** darf, darf auch die Liste und den
+  Eigentümer ändern.
 Ein Eintrag eines Ordners kann **weitergegeben** werden: an die Dokumente darin, an die Ordner darin oder an beide, und
-  so weiter nach unten, wenn er nicht nur für seine Kinder ist. Was weitergegeben ist, steht hinter den eigenen
-  Einträgen; die eigenen kommen also zuerst.
+  weiter nach unten. Was weitergegeben ist, steht hinter den eigenen Einträgen.
 Die Seite entscheidet nichts selbst: sie fragt den Raum zu jedem Benutzer und jeder Liste.
 `;

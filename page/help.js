@@ -1,8 +1,6 @@
 /** The help, from its text in the language of the page. */
-import { make } from "./dom.js";
-import { language } from "./words.js";
+import { ask, language, make, t } from "./common.js";
 
-/** A text with what stands between ** in bold. */
 const inline = (text) => text.split("**").map((it, at) => (at % 2 ? make("b", it) : it));
 
 function drawn(help) {
@@ -18,6 +16,5 @@ function drawn(help) {
 
 export async function showHelp() {
   const { help } = await import(`./help.${language}.js`);
-  document.getElementById("help-text").replaceChildren(...drawn(help));
-  document.getElementById("help-page").showModal();
+  await ask({ title: t.help, words: drawn(help), stays: t.close });
 }

@@ -21,7 +21,6 @@ const ENDINGS = {
 
 const KINDS = new Map(Object.entries(ENDINGS).flatMap(([kind, all]) => all.split(" ").map((it) => [it, kind])));
 
-/** What a name promises; what it is its bytes say. */
 export function kindBy(name, kind) {
   if (kind === FOLDER) return "folder";
   const at = name.lastIndexOf(".");

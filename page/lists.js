@@ -1,4 +1,4 @@
-/** Entries of a list in words, and back (docs/LISTS.md); and what people mostly give. What is lawful the room says. */
+/** Entries of a list in words, and back (docs/LISTS.md); and what people mostly give. */
 import { ALL, CHANGE, DELETE, EDIT, FILE, FOLDER, LARGE, OF_OWNERS, RIGHTS, VIEW, bothWords, rightsIn,
   setOf } from "./rights.js";
 import { joined, t } from "./words.js";
@@ -11,22 +11,19 @@ const GROUP_FLAG = 0x40;
 const MARK = 0x80; // of what is handed down
 const [AUTO_INHERIT, PROTECTED] = [1, 2];
 
-/** Whom an entry can name: the word of the choice, and whether a name stands behind it. */
 export const WHOM = ["", "EVERYONE@", "OWNER@", "GROUP@", "user", "group"];
 export const isNamed = (id) => ["user", "group"].includes(id);
 
-/** Where an entry of a folder counts: its flag, the word, and whether the flag stands for no. */
+/** Where an entry of a folder counts. A flag that `isTurned` stands for no. */
 export const REACH = [NOT_HERE, TO_FILES, TO_FOLDERS, CHILDREN_ALONE].map((flag, at) =>
   ({ flag, word: t.reach[at], isTurned: [NOT_HERE, CHILDREN_ALONE].includes(flag) }));
 
-/** Of a new entry nobody is chosen yet, and the room would not take it. */
 export const isForNobody = (entry) => entry.who === "";
 export const isInherited = (entry) => (entry.flag & MARK) !== 0;
 export const asOwn = (entry) => ({ ...entry, flag: entry.flag & ~MARK });
 export const isDeny = (entry) => entry.type === DENY;
 export const newEntry = (kind) => ({ type: 0, flag: kind === FILE ? 0 : BOTH, mask: VIEW, who: "" });
 
-/** The choice of `WHOM` that an entry has, with its name where one stands there. */
 export function whomOf(entry) {
   if (isForNobody(entry) || entry.who.endsWith("@")) return { id: entry.who, name: "" };
   return { id: entry.flag & GROUP_FLAG ? "group" : "user", name: entry.who };
@@ -35,11 +32,10 @@ export function whomOf(entry) {
 export const withWhom = (entry, { id, name }) => ({ ...entry, who: isNamed(id) ? name : id,
   flag: (entry.flag & ~GROUP_FLAG) | (id === "group" ? GROUP_FLAG : 0) });
 
-/** Entries by whom they name, each `[WHOM, ENTRIES]`. */
 export const byWhom = (entries) =>
   [...Map.groupBy(entries, (it) => JSON.stringify(whomOf(it))).values()].map((its) => [whomOf(its[0]), its]);
 
-/** Why an entry would count for nobody by the roster, `{"ann":["eng"]}`, or nothing. */
+/** Why an entry would count for nobody by the roster, `{"ann":["eng"]}`. */
 export function whomFault(entry, roster) {
   if (isForNobody(entry)) return t.noWhom;
   const { id, name } = whomOf(entry);
@@ -48,26 +44,27 @@ export function whomFault(entry, roster) {
   return known.includes(name) ? "" : t.notInRoster(name, id === "user");
 }
 
-/** An entry as a document can have it. */
 export const forDocument = (entry) => ({ ...entry, flag: entry.flag & GROUP_FLAG });
 
 // What a folder has to allow, or to deny, beside a document's right.
 const BESIDE = [{ 0x1: 0x20, 0x2: 0x66 }, { 0x2: 0x46, 0x4: 0x46 }];
 const [WRITE, APPEND] = [0x2, 0x4];
 
-/** An entry of a document, as the folder that is a large file needs it, and hands it down to its pieces. Nothing is
- * added at a large file's end: who may append alone may do nothing to it. */
+/** An entry of a document, as the folder that is a large file needs it. Nothing is added at a large file's end: who may
+ * append alone may do nothing to it. */
 export function carried(entry) {
   const more = Object.entries(BESIDE[entry.type]).filter(([bit]) => entry.mask & bit);
   const own = isDeny(entry) || entry.mask & WRITE ? entry.mask : entry.mask & ~APPEND;
   return { ...asOwn(entry), flag: asOwn(entry).flag | BOTH, mask: more.reduce((mask, [, it]) => mask | it, own) };
 }
 
-/** Whether a list names its owner and this user alone, and takes over nothing that its folder may hand down later. */
+/** Whether a list names its owner and this user alone, also later. */
 export const isPrivate = ({ aclflag, entries }, user) => !follows(aclflag) &&
   entries.every(({ who, flag }) => who === "OWNER@" || (who === user && !(flag & GROUP_FLAG)));
 
-/** The list of an object's own, `{aclflag, entries}`; null where all of it is handed down. */
+export const ownOf = ({ entries }) => entries.filter((it) => !isInherited(it));
+
+/** The list without what is handed down; null where that is all of it. */
 export function ownList({ aclflag, entries }) {
   const own = entries.filter((it) => !isInherited(it) || !follows(aclflag));
   return own.length || aclflag !== AUTO_INHERIT ? { aclflag, entries: own } : null;
@@ -103,10 +100,8 @@ function reachWords(flag) {
   return t.handsDown(!(flag & NOT_HERE), to, !(flag & CHILDREN_ALONE));
 }
 
-/** Whether an entry of a large file counts for all of it. */
 const isOfAll = ({ flag }) => (flag & (BOTH | CHILDREN_ALONE | NOT_HERE)) === BOTH;
 
-/** What an entry says, without where it counts. */
 export const ruling = (entry, kind, standing) =>
   t.ruling(isDeny(entry), whomWords(entry, standing), rightsWords(entry, kind));
 
@@ -154,6 +149,5 @@ export function sharesOf(own, kind) {
   return { shares: shares.filter((it) => it.name), others: shares.filter((it) => !it.name) };
 }
 
-/** What entries let somebody do with the object itself. */
 export const givenHere = (entries) =>
   entries.filter((it) => !isDeny(it) && !(it.flag & NOT_HERE)).reduce((mask, it) => mask | it.mask, 0);

@@ -1,28 +1,22 @@
 /** The page: shows the place that the address names, and does what the user asks for. */
 import { showAccess } from "./access.js";
-import { lookAgain, takePastes } from "./beside.js";
+import { lookAgain } from "./beside.js";
 import * as busy from "./busy.js";
-import { Refusal } from "./codes.js";
+import { useClipboard } from "./clipboard.js";
+import { LANGUAGES, ROOT, Refusal, Room, addressOf, ask, button, choose, closeAll, end, faultLine, isMenuOpen,
+  isUnsaved, isWithin, language, learnNames, link, listOf, make, namesOf, onSubmit, openMenu, part, pass, pathOf,
+  placeOf, say, settle, shown, t, tellFault, untilClosed, watch } from "./common.js";
 import { showContents } from "./contents.js";
-import { ask, closeAll, end, isUnsaved, untilClosed, watch } from "./dialogs.js";
-import { button, faultLine, link, make, onSubmit } from "./dom.js";
 import { searchFor, showFind } from "./find.js";
 import { head } from "./heads.js";
 import { showHelp } from "./help.js";
 import { isPart } from "./manifest.js";
 import { showMatrix } from "./matrix.js";
-import { isMenuOpen, openMenu } from "./menu.js";
-import { learnNames, shown } from "./names.js";
-import { pass, say, settle, tellFault } from "./notices.js";
-import { ROOT, addressOf, isWithin, namesOf, pathOf, placeOf } from "./places.js";
-import { Room } from "./room.js";
+import { logOut, sessionOfTab, userNow } from "./session.js";
 import { arrive, leave, standing } from "./stand.js";
-import { logOut, sessionOfTab, userNow } from "./tabs.js";
 import { fileOfFront } from "./wire.js";
-import { LANGUAGES, choose, language, t } from "./words.js";
 
 const VIEWS = new Map([["open", showContents], ["access", showAccess], ["who", showMatrix], ["find", showFind]]);
-const part = (id) => document.getElementById(id);
 
 class App {
   constructor(user, rooms) {
@@ -39,21 +33,21 @@ class App {
     return opening;
   }
 
-  /** Tells how a request ended that was under way when a tab ended. */
   tellLeft(command, reply, fault) {
     const { cmd, path } = command;
     if (!reply && !fault) return tellFault(leftAt(path));
     if (["STAT", "LIST", "READ", "GETLIST", "ACCESS"].includes(cmd)) return;
-    const end = fault?.message ?? (reply.code === 0 ? t.doneOnce : new Refusal(reply, command).message);
-    (reply?.code === 0 ? say : tellFault)(t.sentBefore(cmd, shown(path), end));
+    const isDone = reply?.code === 0;
+    const how = isDone ? t.doneOnce : (fault ?? new Refusal(reply, command)).message;
+    (isDone ? say : tellFault)(t.sentBefore(cmd, shown(path), how));
   }
 
-  /** With the page at rest. What the task gives, true where that is nothing, or null where its fault was told. */
+  /** Gives what the task does, true where that is nothing, or null where its fault was told. */
   async attempt(what, task) {
     const about = `${this.room?.name} ${what}`;
     const main = part("main");
     main.inert = true;
-    main.setAttribute("aria-busy", "true");
+    main.ariaBusy = "true";
     try {
       const given = await task() ?? true;
       settle(about);
@@ -63,11 +57,11 @@ class App {
       return null;
     } finally {
       main.inert = false;
-      main.removeAttribute("aria-busy");
+      main.ariaBusy = null;
     }
   }
 
-  /** Tells what was done, and shows what is there then; `moved` where what was shown is elsewhere now. */
+  /** Tells what was done, and shows what is there then; `moved` is where what was shown is now. */
   async done(words, moved = null, undo = null) {
     const here = placeOf(location.hash);
     const undoIt = undo && (() => this.attempt(t.undo, undo));
@@ -81,7 +75,7 @@ class App {
     }
   }
 
-  /** What went on beside the page has ended: a folder is shown anew, where nobody is at something else. */
+  /** What went on beside the page has ended: a folder is shown anew. */
   async ended() {
     await untilClosed();
     while (isMenuOpen()) await new Promise((goOn) => setTimeout(goOn, 100));
@@ -89,7 +83,7 @@ class App {
     if (placeOf(location.hash)?.view === "open") await this.show(standing());
   }
 
-  /** The address has changed. Plain words of before are of another place, save where an action led here. */
+  /** The address has changed. Words of before are of another place, save where an action led here. */
   async come() {
     if (!part("main")) return; // (logged out: nothing is shown any more)
     if (isUnsaved() && location.hash !== this.here && !this.isLosing) return this.askToLeave();
@@ -102,7 +96,6 @@ class App {
     await this.show(() => arrive(location.hash));
   }
 
-  /** Something is typed and not done: the address stays until the user wants to lose it. */
   async askToLeave() {
     const wanted = location.hash;
     history.pushState(null, "", this.here || "#");
@@ -118,8 +111,8 @@ class App {
     } catch (fault) {
       const told = [...head(place), faultLine(fault.message)];
       if (this.rooms.includes(place.room)) return told;
-      const rooms = this.rooms.map((room) => make("li", link(addressOf({ room, path: ROOT }), room)));
-      return [...told, make("p", t.rooms), make("ul", rooms)];
+      const rooms = this.rooms.map((room) => link(addressOf({ room, path: ROOT }), room));
+      return [...told, make("p", t.rooms), listOf(rooms)];
     }
   }
 
@@ -149,15 +142,13 @@ class App {
   }
 }
 
-/** Of what a step at that path was a part, in words: the path of a large file's part tells the file. */
 function leftAt(path) {
   const names = namesOf(path);
   const part = names.findIndex(isPart);
   return t.leftAt(shown(pathOf(part < 0 ? names : names.slice(0, part))));
 }
 
-const mayLose = () => ask({ title: t.leave, words: make("p", t.unsaved), does: t.discard, stays: t.typeOn,
-  first: t.typeOn });
+const mayLose = () => ask({ title: t.leave, words: t.unsaved, does: t.discard, stays: t.typeOn, first: t.typeOn });
 
 const fail = (words) => part("main").replaceChildren(faultLine(words));
 
@@ -184,7 +175,6 @@ function userMenu(user) {
 }
 
 async function start() {
-  part("help-close").onclick = () => part("help-page").close();
   part("skip").onclick = () => (part("main").querySelector(".things [tabindex='0'], .things a") ??
     part("main").querySelector("h1 button, h1"))?.focus();
   if (!navigator.locks) return fail(t.insecure);
@@ -200,7 +190,7 @@ async function start() {
   watch(() => part("main").querySelector(".typed")?.isUnsaved());
   addEventListener("hashchange", () => app.come());
   lookAgain(app);
-  takePastes(app);
+  useClipboard(app);
   return app.show();
 }
 

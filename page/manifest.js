@@ -1,6 +1,5 @@
-/** The form of large files: the manifest, and the names of what lies in their folder (docs/FILES.md). */
-import { fromText, hexOf, randomHex, toText } from "./bytes.js";
-import { t } from "./words.js";
+/** The form of large files: the manifest, and the names in their folder (docs/FILES.md). */
+import { fromText, hexOf, randomHex, t, toText } from "./common.js";
 
 export const NAME = ".room-file";
 export const [WRITING, PIECES, GONE] = [".room-writing-", ".room-pieces-", ".room-gone-"];
@@ -10,7 +9,6 @@ const MOST = 2 ** 24; // bytes of a file
 const MOST_PIECES = 256;
 export const DEEPEST = 14; // names of the path of a large file
 
-/** Why so many bytes are too many for a file, or nothing. */
 export const sizeFault = (bytes) =>
   (bytes > MOST ? t.tooLarge(Math.ceil(bytes / 2 ** 20 * 10) / 10, MOST / 2 ** 20) : "");
 
@@ -20,7 +18,6 @@ export const otherName = (kind) => kind + randomHex(8);
 /** Of an upload that was stopped, or is under way. */
 export const isLeft = (name) => name.startsWith(WRITING) || name.startsWith(GONE);
 
-/** What is of a large file or its writing, and nobody's name for anything. */
 export const isPart = (name) => /^\.room-(file|(writing|pieces|gone|new)-[0-9a-f]{16})$/.test(name);
 
 export async function manifestOf(bytes) {
@@ -44,7 +41,7 @@ const MEMBERS = {
   size: (it, { length }) => Number.isInteger(it) && it >= PIECE * (length - 1) && it <= PIECE * length,
 };
 
-/** Null where the bytes are of another form, or no such text: whoever may write a document may write any. */
+/** Null where the bytes are of another form: whoever may write a document may write any. */
 export function readManifest(bytes) {
   if (bytes.length > MOST_TEXT) return null;
   try {
@@ -62,15 +59,14 @@ export function readManifest(bytes) {
 const PART_NAME = /^\.room-(writing|pieces|gone)-[0-9a-f]{16}$/;
 const areParts = (names) => names.every(([name, kind]) => kind === "folder" && PART_NAME.test(name));
 
-/** Whether a folder with these names, `[NAME, KIND]`, is a file whose first version was never whole. */
+/** Whether a folder with these names is a file whose first version was never whole. */
 export const isUnfinished = (names) => names.length > 0 && areParts(names);
 
-/** Whether a folder with these names is a large file and nothing besides: anyone who may add to a folder may put a
- * manifest into it, and what lies beside that is neither hidden by it nor removed with it. */
+/** (Anyone who may add to a folder may put a manifest into it: that hides nothing else, nor takes it along.) */
 export const isLarge = (names) => names.some(([name, kind]) => name === NAME && kind !== "folder") &&
   areParts(names.filter(([name]) => name !== NAME));
 
-/** Where a replaced document lies, and what takes its place, till that has its name: the next writer finds both. */
+/** Where a replaced document lies, and what takes its place, till that has its name. */
 export async function beside(name) {
   const mark = (await sumOf(fromText(name))).slice(0, 16);
   return { gone: GONE + mark, its: NEW + mark };

@@ -1,93 +1,95 @@
 /** The view of who may do what: users and objects, and what the room says of each pair. */
-import { button, faultLine, labelled, make, nameText } from "./dom.js";
+import { ALL, FOLDER, LEGEND, NOT_KNOWN, ROOT, SEVERAL, SHUT_OUT, askedOf, button, byName, deciding, displayName,
+  faultLine, forEach, inFolder, inOrder, labelled, lastName, levelOf, make, nameText, personText, rightsIn, ruling,
+  shown, t, whomOf } from "./common.js";
 import { head } from "./heads.js";
-import { deciding, ruling, whomOf } from "./lists.js";
-import { byName, displayName, inOrder, personText, shown } from "./names.js";
-import { ROOT, inFolder, lastName } from "./places.js";
 import { Questions } from "./questions.js";
-import { ALL, FOLDER, LEGEND, NOT_KNOWN, SEVERAL, SHUT_OUT, askedOf, levelOf, rightsIn } from "./rights.js";
-import { forEach } from "./room.js";
 import { standing } from "./stand.js";
 import { kindBy } from "./trees.js";
-import { t } from "./words.js";
 
 const MOST_USERS = 20; // columns of users, or of one group's members
 const MOST_GROUPS = 60; // columns of groups
 const MOST_TOLD = 10; // names of a group's members in a sentence
-const MOST_OBJECTS = 40; // rows shown at first, and added each time: some requests each
+const MOST_OBJECTS = 40; // rows shown at first, and added each time
 
-async function levelAt(questions, { path, kind }, user, groups) {
-  const [allowed, { folders: [barrier], isKnown }] = await Promise.all([questions.mayDo({ path, kind }, user, groups),
-    questions.barriers(path, user, groups)]);
-  const level = barrier ? SHUT_OUT : allowed === null ? NOT_KNOWN : levelOf(allowed, kind);
-  return { allowed, barrier, isPassKnown: isKnown || Boolean(barrier), level };
+/** The cells of the table. Pressed, each tells more in `detail`. */
+class Cells {
+  constructor(questions) {
+    Object.assign(this, { questions, detail: make("p.detail", { role: "status" }, t.chooseCell) });
+  }
+
+  async levelAt({ path, kind }, user, groups) {
+    const [allowed, { folders: [barrier], isKnown }] = await Promise.all([
+      this.questions.mayDo({ path, kind }, user, groups), this.questions.barriers(path, user, groups)]);
+    const level = barrier ? SHUT_OUT : allowed === null ? NOT_KNOWN : levelOf(allowed, kind);
+    return { allowed, barrier, isPassKnown: isKnown || Boolean(barrier), level };
+  }
+
+  /** Which entries decide, in words, where they may be seen and come to what the room says. */
+  async why({ path, kind }, user, groups) {
+    const object = await this.questions.object(path);
+    const how = { rights: askedOf(ALL, kind), allowed: await this.questions.allowed(path, user, groups) };
+    const places = object && groups && deciding(object, user, groups, how);
+    if (!places) return "";
+    const entries = places.map((at) => `${at + 1}. ${ruling(object.entries[at], kind, object)}`).join(" ");
+    return (entries ? t.whyEntries(entries) : t.noEntry(user)) + (user === object.owner ? t.ownersAlways : "");
+  }
+
+  async told(object, user, groups, { allowed, barrier, isPassKnown }) {
+    const name = shown(object.path);
+    if (allowed === null && !barrier) return t.mayUnknown(user, name, NOT_KNOWN.tells);
+    const rights = rightsIn(askedOf(allowed, object.kind), object.kind);
+    const may = allowed === null ? "" :
+      t.mayDo(name, user, rights.length ? rights : t.doNothing, await this.why(object, user, groups));
+    if (barrier) return t.barred(user, shown(barrier), name, may);
+    return isPassKnown ? may : t.barUnknown(may, user);
+  }
+
+  cell(level, word, title, words = title) {
+    return make(`td.${level.name}`, button(word, () => { this.detail.textContent = words; }, { title }));
+  }
+
+  async ofUser(object, [user, groups]) {
+    const its = await this.levelAt(object, user, groups);
+    const isSure = its.isPassKnown || its.level === NOT_KNOWN;
+    return this.cell(its.level, its.level.word + (isSure ? "" : "?"), await this.told(object, user, groups, its));
+  }
+
+  /** What the members of a group may do: the level that all have, or the most frequent two. */
+  async ofGroup(object, users) {
+    const all = await Promise.all(users.map(async ([user, groups]) =>
+      ({ user, level: (await this.levelAt(object, user, groups)).level })));
+    const found = [...Map.groupBy(all, ({ level }) => level.word).values()].sort((a, b) => b.length - a.length);
+    const both = found.slice(0, 2).map(([it]) => it.level.word).join(" / ") + (found.length > 2 ? " …" : "");
+    const words = found.map((its) => t.haveLevel(its[0].level.word, its.length,
+      its.slice(0, MOST_TOLD).map(({ user }) => user).join(", ") + (its.length > MOST_TOLD ? ", …" : ""))).join(" ");
+    const level = found.length === 1 ? found[0][0].level : SEVERAL;
+    return this.cell(level, both, words, t.about(shown(object.path), words));
+  }
+
+  async row(object, columns) {
+    const its = { path: object.path, kind: await this.questions.kindOf(object) };
+    const cells = await Promise.all(columns.map(({ isGroup, users }) =>
+      (isGroup ? this.ofGroup(its, users) : this.ofUser(its, users[0]))));
+    const end = its.kind === FOLDER && its.path !== ROOT && "/";
+    return make("tr", make("th", { scope: "row" }, nameText(lastName(its.path)), end), cells);
+  }
+
+  async table(objects, columns, open) {
+    const titles = columns.map((it) => make("th", { scope: "col", title: it.isGroup ? "" : displayName(it.title) },
+      it.isGroup ? button([nameText(it.title), ` (${it.users.length})`], () => open(it),
+        { "aria-expanded": String(it.isOpen) }) : nameText(it.title)));
+    const rows = [];
+    await forEach([...objects.entries()], async ([at, it]) => { rows[at] = await this.row(it, columns); });
+    return make("div.wide", { tabIndex: 0, role: "region", "aria-label": t.whoMay }, make("table.matrix",
+      make("thead", make("tr", make("th", { scope: "col" }, t.heads.name), titles)), make("tbody", rows)));
+  }
 }
 
-/** Which entries of the object's list decide, in words, where they may be seen and come to what the room says. */
-async function whyWords(questions, { path, kind }, user, groups) {
-  const object = await questions.object(path);
-  const how = { rights: askedOf(ALL, kind), allowed: await questions.allowed(path, user, groups) };
-  const places = object && groups && deciding(object, user, groups, how);
-  if (!places) return "";
-  const entries = places.map((at) => `${at + 1}. ${ruling(object.entries[at], kind, object)}`).join(" ");
-  return (entries ? t.whyEntries(entries) : t.noEntry(user)) + (user === object.owner ? t.ownersAlways : "");
-}
+const legend = () => make("dl.legend", LEGEND.map((it) =>
+  make("div", make(`dt.${it.name}`, it.word), make("dd", it.tells))));
 
-function told({ path, kind }, user, { allowed, barrier, isPassKnown }, why) {
-  const name = shown(path);
-  if (allowed === null && !barrier) return t.mayUnknown(user, name, NOT_KNOWN.tells);
-  const rights = allowed === null ? [] : rightsIn(askedOf(allowed, kind), kind);
-  const may = allowed === null ? "" : t.mayDo(name, user, rights.length ? rights : t.doNothingWith, why);
-  if (barrier) return t.barred(user, shown(barrier), name, may);
-  return isPassKnown ? may : t.barUnknown(may, user);
-}
-
-/** A cell of a level; pressed, it tells more. */
-const cell = (level, word, title, detail, words) => make(`td.level.${level.name}`,
-  button(word, () => { detail.textContent = words; }, { title }));
-
-async function userCell(questions, object, [user, groups], detail) {
-  const its = await levelAt(questions, object, user, groups);
-  const why = its.allowed === null ? "" : await whyWords(questions, object, user, groups);
-  const words = told(object, user, its, why);
-  const isSure = its.isPassKnown || its.level === NOT_KNOWN;
-  return cell(its.level, its.level.word + (isSure ? "" : "?"), words, detail, words);
-}
-
-/** What the members of a group may do: the level that all have, or several, told when it is pressed. */
-async function groupCell(questions, object, { users }, detail) {
-  const all = await Promise.all(users.map(async ([user, groups]) =>
-    ({ user, level: (await levelAt(questions, object, user, groups)).level })));
-  const found = [...Map.groupBy(all, ({ level }) => level.word).values()].sort((a, b) => b.length - a.length);
-  const both = found.slice(0, 2).map(([it]) => it.level.word).join(" / ") + (found.length > 2 ? " …" : "");
-  const words = found.map((its) => t.haveLevel(its[0].level.word, its.length,
-    its.slice(0, MOST_TOLD).map(({ user }) => user).join(", ") + (its.length > MOST_TOLD ? ", …" : ""))).join(" ");
-  const level = found.length === 1 ? found[0][0].level : SEVERAL;
-  return cell(level, both, words, detail, t.about(shown(object.path), words));
-}
-
-async function rowOf(questions, object, columns, detail) {
-  const its = { path: object.path, kind: await questions.kindOf(object) };
-  const cells = await Promise.all(columns.map((it) => (it.isGroup ? groupCell(questions, its, it, detail) :
-    userCell(questions, its, it.users[0], detail))));
-  const end = its.kind === FOLDER && its.path !== ROOT && "/";
-  return make("tr", make("th", { scope: "row" }, nameText(lastName(its.path)), end), cells);
-}
-
-async function table(questions, objects, columns, { detail, open }) {
-  const titles = columns.map((it) => make("th", { scope: "col", title: it.isGroup ? "" : displayName(it.title) },
-    it.isGroup ? button([nameText(it.title), ` (${it.users.length})`], () => open(it),
-      { "aria-expanded": String(it.isOpen) }) : nameText(it.title)));
-  const rows = new Map(objects.map((it) => [it, null]));
-  await forEach(objects, async (it) => rows.set(it, await rowOf(questions, it, columns, detail)));
-  return make("div.wide", { tabIndex: 0, role: "region", "aria-label": t.matrixLabel }, make("table.matrix",
-    make("thead", make("tr", make("th", { scope: "col" }, t.object), titles)), make("tbody", [...rows.values()])));
-}
-
-const legend = () => make("dl.legend", { "aria-label": t.legend }, LEGEND.map((it) =>
-  make("div", make(`dt.level.${it.name}`, it.word), make("dd", it.tells))));
-
-/** The roster's users with their groups; without it those that are seen, whose groups are not known. */
+/** The roster's users with their groups; without it those that are seen. */
 async function usersOf(app, questions, objects) {
   const roster = await app.room.users();
   if (roster) return { users: Object.entries(roster), isWhole: true };
@@ -102,8 +104,8 @@ async function usersOf(app, questions, objects) {
 
 async function objectsOf(app, path) {
   const { kind } = await app.room.standing(path);
-  const inside = kind === FOLDER ? await app.room.runIfAllowed("LIST", path) : null;
-  const names = inside && kindBy(inside.names) === FOLDER ? inside.names : []; // (of a large file it has one row)
+  const inside = kind === FOLDER ? await app.room.names(path) : null;
+  const names = inside && kindBy(inside) === FOLDER ? inside : []; // (a large file has one row)
   const children = [...names].sort(byName).map(([name, its]) => ({ path: inFolder(path, name), kind: its }));
   return [{ path, kind }, ...children];
 }
@@ -115,12 +117,12 @@ function groupsOf(users) {
   return columns.sort((a, b) => a.isLast - b.isLast || inOrder(a.title, b.title));
 }
 
-/** The table: a column for each user, or where they are many, for each group, which opens to its members. */
+/** A column for each user, or where they are many, for each group, which opens to its members. */
 class MatrixView {
   constructor(app, questions, objects, users) {
-    Object.assign(this, { app, questions, objects, users, count: MOST_OBJECTS, word: "", opened: new Set() });
+    Object.assign(this, { app, objects, users, count: MOST_OBJECTS, word: "", opened: new Set() });
     this.groups = users.length > MOST_USERS ? groupsOf(users) : [];
-    this.detail = make("p.detail", { role: "status" }, t.chooseCell);
+    this.cells = new Cells(questions);
     this.element = make("div");
   }
 
@@ -139,9 +141,8 @@ class MatrixView {
   }
 
   async draw() {
-    const columns = this.columns();
     const open = ({ title }) => this.change(() => this.opened.delete(title) || this.opened.add(title));
-    const its = await table(this.questions, this.objects.slice(0, this.count), columns, { detail: this.detail, open });
+    const its = await this.cells.table(this.objects.slice(0, this.count), this.columns(), open);
     this.element.replaceChildren(...this.narrow(), its, ...this.more());
   }
 
@@ -174,5 +175,5 @@ export async function showMatrix(app, place) {
   const view = new MatrixView(app, questions, objects, users);
   await view.draw();
   const note = isWhole ? [] : [faultLine(t.withoutRoster)];
-  return [...head(place), ...note, view.element, view.detail, legend()];
+  return [...head(place), ...note, view.element, view.cells.detail, legend()];
 }

@@ -6,7 +6,6 @@ const EDGE = 8; // pixels that stay free beside it
 let open = null;
 export const isMenuOpen = () => open !== null;
 
-/** What an item is: a link, a choice of files (with the field that asks for them), or something to be done. */
 function itemElements(it, close) {
   const how = { role: "menuitem", tabIndex: -1, className: it.isApart ? "apart" : "" };
   if (it.href) return [Object.assign(link(it.href, it.words), { onclick: close }, how)];
@@ -58,7 +57,6 @@ class Menu {
     this.closed(isIn);
   }
 
-  /** The focus is back where it was, unless it went elsewhere by itself. */
   closed(isIn = document.activeElement === document.body) {
     if (open !== this) return;
     open = null;
@@ -83,7 +81,7 @@ class Menu {
   }
 }
 
-/** Opens a menu of `items`, `{words, does}`, `{words, href}` or `{words, files, chosen}`. */
+/** `items` are `{words, does}`, `{words, href}` or `{words, files, chosen}`. */
 export const openMenu = (anchor, items, label, at) => new Menu(anchor, items, label, at).show();
 export const pointOf = (event) => ({ x: event.clientX, y: event.clientY });
 

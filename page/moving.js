@@ -1,26 +1,20 @@
-/** Files and folders go elsewhere as wholes: moved, copied, removed to the trash or for good, and put back. */
+/** Files and folders are moved, copied, removed to the trash or for good, and put back. */
 import { GaveUp } from "./busy.js";
 import { removeAll } from "./clearing.js";
-import { ACCESS, EXIST, NOENT, NOTDIR, isRefused } from "./codes.js";
-import { ask, nameInput } from "./dialogs.js";
-import { checkbox, faultLine, make } from "./dom.js";
+import { ACCESS, ADD_FILE, ADD_FOLDER, EXIST, FILE, FOLDER, NOENT, NOTDIR, ROOT, ask, checkbox, clean, faultLine,
+  folderOf, forEach, inFolder, isRefused, isWithin, lastName, nameFault, nameInput, shown, t,
+  tellFaults } from "./common.js";
 import { NOBODY } from "./files.js";
-import { clean, shown } from "./names.js";
-import { tellFaults } from "./notices.js";
-import { ROOT, folderOf, inFolder, isWithin, lastName, nameFault } from "./places.js";
-import { ADD_FILE, ADD_FOLDER, FILE, FOLDER } from "./rights.js";
-import { forEach } from "./room.js";
 import { transferring } from "./transfers.js";
 import { calledAt, isInTrash, nameAt, toTrash, toldBy, trashOf } from "./trash.js";
 import { FolderTree, keepRecent } from "./tree.js";
-import { below, copy } from "./trees.js";
-import { freePath } from "./uploads.js";
-import { t } from "./words.js";
+import { copy, whole } from "./trees.js";
+import { freePath, freePaths } from "./uploads.js";
 
-const named = (paths) => (paths.length === 1 ? calledAt(paths[0]) : t.allThings(paths.length));
+export const named = (paths) => (paths.length === 1 ? calledAt(paths[0]) : t.allThings(paths.length));
 const shortNamed = (paths) => (paths.length === 1 ? shown(nameAt(paths[0])) : t.allThings(paths.length));
 
-/** Does the task for each, and tells in one line what failed. What is returned are those with which it went well. */
+/** Does the task for each, and tells in one line what failed. Gives those with which it went well. */
 async function withEach(does, paths, task) {
   const [done, faults] = [[], []];
   await forEach(paths, async (path) => {
@@ -37,14 +31,13 @@ async function withEach(does, paths, task) {
 }
 
 /** Asks for a folder, and of a single thing for its name there; gives the paths there, or null. `task` gets them. */
-async function askWhere(app, paths, { words, does, there, way = make("p", words), start = folderOf(paths[0]),
-  called = nameAt(paths[0]) }, task) {
+async function askWhere(app, paths, { words, does, start = folderOf(paths[0]), called = nameAt(paths[0]) }, task) {
   const [tree, name] = [new FolderTree(app, paths, start), nameInput(called)];
   const isOne = paths.length === 1;
   const goals = () => paths.map((it) => inFolder(tree.value, isOne ? clean(name.value) : lastName(it)));
   const faultOf = () => (isOne ? nameFault(clean(name.value)) : "") || (goals().includes(paths[0]) ? t.isHere : "");
-  const isDone = await ask({ title: t.doTo(does, shortNamed(paths)), does: there, words: [way, tree.element],
-    fields: isOne ? [[t.nameThere, name]] : [], faultOf, task: () => task(goals()) });
+  const isDone = await ask({ title: t.doTo(does, shortNamed(paths)), does, words: [words, tree.element],
+    fields: isOne ? [[t.heads.name, name]] : [], faultOf, task: () => task(goals()) });
   if (isDone) keepRecent(app, tree.value);
   return isDone && goals();
 }
@@ -52,10 +45,9 @@ async function askWhere(app, paths, { words, does, there, way = make("p", words)
 const wayBack = (app, places) => async () => {
   const paths = [...places.keys()];
   await withEach(t.undo, paths, (it) => app.room.aside("RENAME", places.get(it), { to: it }));
-  await app.done(t.undone(named(paths), paths.length));
+  await app.done(t.isBack(named(paths), paths.length));
 };
 
-/** Moves each to its goal; what went well can be undone from the words that tell it. */
 async function moveTo(app, paths, goals) {
   const to = new Map(paths.map((it, at) => [it, goals[at]]));
   const done = await withEach(t.move, paths, (it) => app.room.aside("RENAME", it, { to: to.get(it) }));
@@ -67,7 +59,7 @@ async function moveTo(app, paths, goals) {
 
 export async function move(app, paths) {
   let moved = null;
-  const goals = await askWhere(app, paths, { words: t.moveWords, does: t.move, there: t.there.move },
+  const goals = await askWhere(app, paths, { words: t.moveWords, does: t.move },
     async (to) => { moved = await moveTo(app, paths, to); });
   if (goals && moved.done.length) await moved.tell();
   else if (goals) await app.done("");
@@ -75,28 +67,43 @@ export async function move(app, paths) {
 
 export async function moveInto(app, paths, folder) {
   const moved = await app.attempt(t.doTo(t.move, named(paths)), () =>
-    moveTo(app, paths, paths.map((it) => inFolder(folder, lastName(it)))));
+    moveTo(app, paths, paths.map((it) => inFolder(folder, nameAt(it)))));
   if (moved?.done.length) await moved.tell();
 }
 
-/** Throws what the room would say, where it may not be made at that path. */
+/** Throws what the room would say, where no copy may be made there. */
 async function needPlace(room, path, to) {
   if (isWithin(to, path)) throw new Error(t.intoItself);
   const [bit, above] = [(await room.standing(path)).kind === FILE ? ADD_FILE : ADD_FOLDER, folderOf(to)];
   const { allowed } = await room.aside("ACCESS", above, { mask: bit });
   if (!allowed) throw await room.refusal({ code: ACCESS, bit, path: above });
   const isThere = await room.aside("STAT", to).then(() => true, (fault) => !isRefused(fault, NOENT));
-  if (isThere) throw new Error(t.nameTaken);
+  if (isThere) throw new Error(t.refusals[EXIST]);
+}
+
+async function needPlaces(room, paths, goals) {
+  for (const [at, it] of paths.entries()) await needPlace(room, it, goals[at]);
 }
 
 export async function copyTo(app, paths) {
-  const { room } = app;
-  const goals = await askWhere(app, paths, { words: t.copyWords, does: t.copy, there: t.there.copy }, async (to) => {
-    for (const [at, it] of paths.entries()) await needPlace(room, it, to[at]);
+  const how = { words: `${t.yoursThen} ${t.copyWords}`, does: t.copy };
+  const goals = await askWhere(app, paths, how, (to) => needPlaces(app.room, paths, to));
+  if (goals) await copyAll(app, paths, goals);
+}
+
+export async function copyInto(app, paths, folder) {
+  const goals = await app.attempt(t.doTo(t.copy, named(paths)), async () => {
+    const free = await freePaths(app.room, paths.map((it) => inFolder(folder, nameAt(it))));
+    await needPlaces(app.room, paths, free);
+    return free;
   });
-  if (!goals) return;
+  if (goals) await copyAll(app, paths, goals);
+}
+
+async function copyAll(app, paths, goals) {
+  const { room } = app;
   const how = { total: 1, unit: String, about: `copy ${room.name} ${paths[0]}` };
-  await transferring(app, t.copyTitle(shortNamed(paths)), how, async (transfer) => {
+  await transferring(app, t.doTo(t.copy, shortNamed(paths)), how, async (transfer) => {
     for (const [at, it] of paths.entries()) await copy(room, it, goals[at], transfer);
     const where = paths.length === 1 ? goals[0] : folderOf(goals[0]);
     return t.isCopied(named(paths), shown(where), paths.length);
@@ -104,20 +111,20 @@ export async function copyTo(app, paths) {
 }
 
 async function contentsWords(app, paths) {
-  const all = await Promise.all(paths.map(async (path) =>
-    (await below(app.room, path, NOBODY)).filter((it) => it.path !== path)));
-  const found = all.flat();
+  const all = await Promise.all(paths.map((it) => whole(app.room, it, NOBODY)));
+  const found = all.flat().filter((it) => !paths.includes(it.path));
   if (found.length === 0) return [];
   const folders = found.filter((it) => it.kind === FOLDER).length;
   const [files, shut] = [found.length - folders, found.filter((it) => it.isShut).length];
   const counts = [...files ? [t.documents(files)] : [], ...folders ? [t.folders(folders)] : []];
-  return faultLine(t.goesWith(counts, found.length), shut > 0 && t.shutOf(shut));
+  return faultLine(t.goesWith(counts, found.length), shut > 0 && t.shutIn(t.folders(shut)));
 }
 
 async function trashWords(app, path) {
   if (isInTrash(path)) return { words: t.forGood };
   const { path: trash, fault } = await trashOf(app);
-  return trash ? { trash, words: t.goesToTrash(trash) } : { words: `${t.forGood} ${fault ?? t.noTrash}` };
+  return trash ? { trash, words: t.goesToTrash(trash) } :
+    { words: `${t.forGood} ${t.askTrash(fault ?? t.noTrash)}` };
 }
 
 export async function remove(app, paths) {
@@ -133,7 +140,7 @@ export async function remove(app, paths) {
   };
   const done = await ask({ title: t.doTo(t.remove, shortNamed(paths)), does: t.remove, first: t.remove, task,
     isFinal: isForGood,
-    words: [make("p", words), trash && checkbox(t.notToTrash, false, (it) => { isForGood = it; }), what] });
+    words: [words, trash && checkbox(t.notToTrash, false, (it) => { isForGood = it; }), what] });
   if (!done) return;
   const moved = paths.length === 1 ? { from: paths[0], to: folderOf(paths[0]) } : null;
   await app.done((isForGood ? t.isRemoved : t.isInTrash)(named(gone), gone.length), moved,
@@ -143,17 +150,15 @@ export async function remove(app, paths) {
 export async function emptyTrash(app, path) {
   const what = await app.attempt(t.emptyTrash, () => contentsWords(app, [path]));
   if (!what) return;
-  let isEmpty = false;
+  let gone = [];
   const task = async () => {
-    const paths = (await app.room.aside("LIST", path)).names.map(([name]) => inFolder(path, name));
-    isEmpty = (await withEach(t.emptyTrash, paths, (it) => removeAll(app.room, it))).length === paths.length;
+    const paths = (await app.room.list(path)).map(([name]) => inFolder(path, name));
+    gone = await withEach(t.emptyTrash, paths, (it) => removeAll(app.room, it));
   };
-  const isDone = await ask({ title: t.emptyTrash, does: t.removeAll, isFinal: true, task,
-    words: [make("p", t.forGood), what] });
-  if (isDone) await app.done(isEmpty ? t.trashEmpty : "");
+  const isDone = await ask({ title: t.emptyTrash, does: t.emptyTrash, isFinal: true, task, words: [t.forGood, what] });
+  if (isDone) await app.done(gone.length ? t.isRemoved(named(gone), gone.length) : "");
 }
 
-/** Why it cannot go back to that place, or nothing once it is there. */
 async function whyNotBack(room, path, place) {
   if (!place) return t.noPlace;
   try {
@@ -174,15 +179,14 @@ export async function putBack(app, path) {
   let to = place;
   if (why) {
     const above = folderOf(place ?? ROOT);
-    const start = await app.room.asideIfAllowed("LIST", above) ? above : ROOT;
-    const how = { way: faultLine(why), does: t.put, there: t.there.put, start,
+    const start = await app.room.names(above) ? above : ROOT;
+    const how = { words: faultLine(why), does: t.putBack, start,
       called: lastName(await freePath(app.room, inFolder(start, nameAt(path)))) };
     [to] = await askWhere(app, [path], how, ([it]) => app.room.run("RENAME", path, { to: it })) || [];
   }
   if (to) await app.done(t.isBack(shown(to)), { from: path, to });
 }
 
-/** Each to where it was; those that cannot go there are told, and stay. */
 export async function putAllBack(app, paths) {
   if (paths.length === 1) return putBack(app, paths[0]);
   const done = await app.attempt(t.putBack, () => withEach(t.putBack, paths, async (path) => {

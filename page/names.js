@@ -11,14 +11,12 @@ const PARTS = new RegExp(
 const markOf = (letter) =>
   letter === " " ? `⟨${t.blank}⟩` : `⟨U+${letter.codePointAt(0).toString(16).toUpperCase().padStart(4, "0")}⟩`;
 
-/** Texts, and marks in the place of what could not be seen. (Letters with accents apart look like those with them.) */
 export function partsOf(name) {
   const parts = [...name.matchAll(PARTS)].map(([text, , hidden]) =>
     hidden ? { text: markOf(hidden), isMark: true } : { text, isMark: false });
   return name === name.normalize("NFC") ? parts : [...parts, { text: `⟨${t.notComposed}⟩`, isMark: true }];
 }
 
-/** A name or path in a sentence. */
 export const shown = (name) => partsOf(name).map((it) => it.text).join("");
 
 /** What is in no name of some system: letters, an empty one, . and .., a . at the end, devices of Windows. */
@@ -31,7 +29,7 @@ export const forDisk = (name) => partsOf(name).map((it) => (it.isMark ? "_" : it
 export const clean = (name) => name.normalize("NFC").trim();
 const { compare } = new Intl.Collator(language, { numeric: true });
 
-/** The order in which people look for names: capitals do not count before others, and 2 stands before 10. */
+/** As people look for names: capitals do not count before others, and 2 stands before 10. */
 export const inOrder = (one, other) => compare(one, other) || (one < other ? -1 : 1);
 export const byName = ([one], [other]) => inOrder(one, other);
 let people = {};

@@ -1,10 +1,9 @@
-/** What is told at the top of the page: a fault stays until it is closed, or until what it is about goes well; a plain
- * word goes with the next one, and with the place. */
-import { button, make } from "./dom.js";
+/** What is told at the top: a fault stays until it is closed, or what it is about goes well; a word until the next. */
+import { button, listOf, make, part } from "./dom.js";
 import { t } from "./words.js";
 
 const MOST_SHOWN = 5; // faults of one thing that are shown unasked
-const section = document.getElementById("notices");
+const section = part("notices");
 
 function put(name, how, ...children) {
   const it = make(name, how, ...children);
@@ -14,7 +13,6 @@ function put(name, how, ...children) {
 
 export const pass = () => section.querySelectorAll(".good").forEach((it) => it.remove());
 
-/** Words of what was done, and the way to undo it where there is one. */
 export function say(words, undo = null) {
   pass();
   if (words) put("div.good", {}, words, undo && [" ", button(t.undo, undo, "small undo")]);
@@ -36,8 +34,8 @@ export function tellFaults(words, faults) {
   if (faults.length === 1) {
     tellFault(`${words}: ${faults[0].words}`, faults[0].about);
   } else if (faults.length) {
-    const items = make("ul", faults.map((it) => make("li", { "data-about": it.about }, it.words)));
-    const list = faults.length > MOST_SHOWN ? make("details", make("summary", t.showThem), items) : items;
+    const items = make("ul", faults.map(({ about, words: its }) => make("li", { "data-about": about }, its)));
+    const list = faults.length > MOST_SHOWN ? make("details", make("summary", t.show), items) : items;
     put("div.fault", {}, make("p", `${words}:`), list);
   }
 }

@@ -1,28 +1,18 @@
-/** A folder holds so many things: what is more goes into another one beside it, made with the same list. */
-import { EXIST, TOO_DEEP, orElse } from "./codes.js";
-import { ask } from "./dialogs.js";
-import { make } from "./dom.js";
-import { follows, isInherited } from "./lists.js";
-import { shown } from "./names.js";
-import { MAX_NAMES, MOST_THINGS, ROOT, besideIt, folderOf, inFolder, isWithin, lastName, namesOf,
-  numbered } from "./places.js";
-import { FOLDER } from "./rights.js";
-import { t } from "./words.js";
+/** What a folder has no room for goes into another one beside it, made with the same list. */
+import { EXIST, FOLDER, MAX_NAMES, MOST_THINGS, ROOT, TOO_DEEP, ask, besideIt, folderOf, inFolder, isWithin, lastName,
+  listOf, namesOf, numbered, orElse, ownList, shown, t } from "./common.js";
 
-/** Makes a folder whose own entries are those of another one, where these may be seen and set. */
 export async function makeLike(room, path, like) {
   await orElse(room.step("MKDIR", path), null, EXIST);
   const list = await room.asideIfAllowed("GETLIST", like);
-  const own = list?.entries.filter((it) => !isInherited(it)) ?? [];
-  if (own.length || list && !follows(list.aclflag)) {
-    await room.step("SETLIST", path, { aclflag: list.aclflag, entries: own });
-  }
+  const own = list && ownList(list);
+  if (own) await room.step("SETLIST", path, own);
 }
 
-/** Where something more has a place: in the folder, or in the first beside it that has room, or is not there yet. */
+/** Where one more thing has a place: there, or in the first folder beside it that has room, or is not there yet. */
 export async function placeIn(room, path) {
   if (namesOf(path).length === MAX_NAMES) throw new Error(t.refusals[TOO_DEEP]);
-  const namesIn = async (it) => (await room.asideIfAllowed("LIST", it))?.names ?? [];
+  const namesIn = async (it) => await room.names(it) ?? [];
   if ((await namesIn(path)).length < MOST_THINGS) return path;
   if (path === ROOT) throw new Error(t.topFull);
   const there = new Map(await namesIn(folderOf(path)));
@@ -58,10 +48,10 @@ function spread(wanted, { like, goal, rest }) {
   }
 }
 
-/** Asks what becomes of what has no place. Whether it goes on; `wanted.beside` has the folders that it needs then. */
+/** Asks what becomes of what has no place: whether it goes on; `wanted.beside` has the folders that it needs then. */
 export async function mayOverflow(over, wanted, folders) {
   const rests = await restsOf(over, folders);
-  const words = over.map(([path, names]) => make("li", t.wouldHave(shown(path), names.size, MOST_THINGS)));
+  const words = listOf(over.map(([path, names]) => t.wouldHave(shown(path), names.size, MOST_THINGS)));
   const fits = t.uploadFits;
   const task = () => {
     for (const it of rests.toReversed()) spread(wanted, it); // (a folder below another one first)
@@ -69,5 +59,5 @@ export async function mayOverflow(over, wanted, folders) {
   };
   const goals = rests.map(({ goal }) => shown(lastName(goal))).join(", ");
   const how = rests.length ? { does: t.restInto(goals), task, others: [{ words: fits, value: fits }] } : { does: fits };
-  return await ask({ title: t.tooMany, words: make("ul", words), ...how }) !== null;
+  return await ask({ title: t.tooMany, words, ...how }) !== null;
 }

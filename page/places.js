@@ -1,4 +1,4 @@
-/** Paths of the room, and the part of the address behind '#' that says which of them is shown. */
+/** Paths of the room, and the part of the address that says which of them is shown. */
 import { fromText } from "./bytes.js";
 import { t } from "./words.js";
 
@@ -13,7 +13,6 @@ export const folderOf = (path) => pathOf(namesOf(path).slice(0, -1));
 export const lastName = (path) => namesOf(path).at(-1) ?? ROOT;
 export const isWithin = (path, folder) => path === folder || path.startsWith(`${folder}/`);
 
-/** The folders that a walk to the path goes through, from the root down. */
 export function foldersAbove(path) {
   const names = namesOf(path);
   return names.map((_, count) => pathOf(names.slice(0, count)));
@@ -21,21 +20,18 @@ export function foldersAbove(path) {
 
 export const isTooLong = (name) => fromText(name).length > MAX_NAME_BYTES;
 
-/** Why the room would not take this as a name, or as a path, or nothing. */
 export function nameFault(name) {
   if (name === "" || name === "." || name === "..") return t.nameWanted;
   if (/[/\u0000-\u001f\u007f]/.test(name)) return t.nameLetters;
-  return isTooLong(name) ? t.nameLong(fromText(name).length) : "";
+  return isTooLong(name) ? t.tooLong(fromText(name).length, MAX_NAME_BYTES) : "";
 }
 
 export function pathFault(path) {
   const names = path.split("/").slice(1);
-  if (!path.startsWith("/")) return t.pathBegins;
   if (names.length > MAX_NAMES) return t.pathLong(MAX_NAMES);
   return names.map(nameFault).find((it) => it !== "") ?? "";
 }
 
-/** The address of a place: its view, room and names, each percent-encoded. */
 export const addressOf = ({ view = "open", room, path }) =>
   `#${[view, room, ...namesOf(path)].map(encodeURIComponent).join("/")}`;
 
@@ -62,7 +58,6 @@ export function shortened(name, mark = "") {
 const withMark = (name, words) => shortened(name, ` (${words})`);
 export const besideIt = (path, words) => inFolder(folderOf(path), withMark(lastName(path), words));
 
-/** Beside it, the first one with a number that will do. */
 export function numbered(path, fits) {
   for (let count = 2; ; count += 1) if (fits(besideIt(path, count))) return besideIt(path, count);
 }

@@ -1,19 +1,12 @@
 /** What users may do with objects, as the room says; and a way for those who cannot get there. */
-import { ask } from "./dialogs.js";
-import { make } from "./dom.js";
-import { byWhom, givenHere, isDeny, isInherited, whomText, withWhom } from "./lists.js";
+import { ALL, FOLDER, LARGE, PASS_THROUGH, ask, askedOf, byWhom, foldersAbove, forEach, givenHere, inFolder, isDeny,
+  listOf, make, ofLarge, ownOf, rightsIn, shown, t, whomText, withWhom } from "./common.js";
 import { NAME } from "./manifest.js";
-import { shown } from "./names.js";
-import { foldersAbove, inFolder } from "./places.js";
-import { ALL, FOLDER, LARGE, PASS_THROUGH, askedOf, ofLarge, rightsIn } from "./rights.js";
-import { forEach } from "./room.js";
 import { lookInto } from "./trees.js";
-import { t } from "./words.js";
 
 const MOST_NAMED = 5;
 const MOST = 40; // users of one group that are asked about
 
-/** Each thing is asked once. */
 export class Questions {
   constructor(app) {
     Object.assign(this, { app, asked: new Map() });
@@ -37,7 +30,6 @@ export class Questions {
     });
   }
 
-  /** What something is that the room calls a folder or a document. */
   async kindOf({ path, kind }) {
     if (kind !== FOLDER) return kind;
     const its = await this.once(`into ${path}`, () => lookInto(this.app.room, path));
@@ -52,7 +44,6 @@ export class Questions {
     return inside === null ? null : ofLarge(own, inside);
   }
 
-  /** The rights that the object's list allows the user, or null where that is not known. */
   async allowed(path, user, groups) {
     const it = await this.object(path);
     if (user === this.app.user && !(it && groups)) return this.once(`own ${path}`, () => this.own(path));
@@ -64,7 +55,7 @@ export class Questions {
   }
 
   async own(path) {
-    return (await this.app.room.runIfAllowed("ACCESS", path, { mask: ALL }))?.allowed ?? null;
+    return (await this.app.room.asideIfAllowed("ACCESS", path, { mask: ALL }))?.allowed ?? null;
   }
 
   /** The folders above that do not let the user pass; `isKnown` where each of them told. */
@@ -82,7 +73,7 @@ function usersOf({ id, name }, roster) {
   return all.filter(([user, groups]) => (id === "user" ? user === name : id === "group" && groups.includes(name)));
 }
 
-/** Who of those whom the entries name is shut out where, as the room says: `{whom, user, folders, lacks}`. */
+/** Who of those whom the entries name is shut out where: `{whom, user, folders, lacks}`. */
 export async function shutOut(app, { path, kind }, entries) {
   const [questions, roster, found] = [new Questions(app), await app.room.users(), []];
   for (const [whom, its] of byWhom(entries)) {
@@ -105,31 +96,30 @@ function named(all) {
 
 /** Lets them pass through a folder, and no more: behind what is denied there, which still counts. */
 async function letPass(room, folder, all) {
-  const { aclflag, entries } = await room.run("GETLIST", folder);
-  const own = entries.filter((it) => !isInherited(it));
+  const list = await room.run("GETLIST", folder);
+  const own = ownOf(list);
   const whoms = new Map(all.map(({ whom }) => [JSON.stringify(whom), whom]));
   const news = [...whoms.values()].map((whom) => withWhom({ type: 0, flag: 0, mask: PASS_THROUGH, who: "" }, whom));
   const at = own.findIndex((it) => !isDeny(it));
   own.splice(at < 0 ? own.length : at, 0, ...news);
-  await room.run("SETLIST", folder, { aclflag, entries: own });
+  await room.run("SETLIST", folder, { aclflag: list.aclflag, entries: own });
 }
 
-/** Tells who cannot get there and why, and lets them pass where that is wanted. Gives the end, in words. */
+/** Tells who cannot get there and why, and lets them pass where that is wanted. Gives the end in words. */
 export async function helpThem(app, object, entries, found) {
   const allCan = t.allCan(byWhom(entries).map(([whom]) => whomText(whom)));
   if (found.length === 0) return entries.length ? allCan : "";
-  const folders = Map.groupBy(found.flatMap((it) => it.folders.map((folder) => ({ ...it, folder }))),
-    (it) => it.folder);
+  const all = found.flatMap((it) => it.folders.map((folder) => ({ ...it, folder })));
+  const folders = Map.groupBy(all, (it) => it.folder);
   const lacking = found.filter((it) => it.lacks);
-  const told = [...[...folders].map(([folder, all]) => t.shutOutAt(named(all), shown(folder))),
+  const told = [...[...folders].map(([folder, those]) => t.shutOutAt(named(those), shown(folder))),
     ...lacking.map((it) => t.lacksStill(it.user, rightsIn(it.lacks, object.kind)))];
   const pass = async () => {
-    for (const [folder, all] of folders) await letPass(app.room, folder, all);
+    for (const [folder, those] of folders) await letPass(app.room, folder, those);
     const left = await shutOut(app, object, entries);
     if (left.length) throw new Error(t.stillShut(named(left)));
   };
-  const how = folders.size ? { does: t.letPass, task: pass, stays: t.leaveSo } : { does: t.close };
-  const isDone = await ask({ title: t.notAll, ...how, words: [make("p", t.notAllWords),
-    make("ul", told.map((it) => make("li", it))), folders.size > 0 && make("p.about", t.passWords)] });
+  const isDone = await ask({ title: t.notAll, does: folders.size > 0 && t.letPass, task: pass, stays: t.close,
+    words: [t.listSet, listOf(told), folders.size > 0 && make("p.about", t.passWords)] });
   return folders.size && isDone ? allCan : t.cannot(named(found));
 }

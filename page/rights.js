@@ -9,8 +9,8 @@ export const [READ, WRITE, APPEND, ADD_FILE, ADD_FOLDER] = [0x1, 0x2, 0x4, 0x2, 
 export const [PASS_THROUGH, DELETE_CHILD, DELETE, READ_LIST] = [0x20, 0x40, 0x10000, 0x20000];
 export const OF_OWNERS = 0x60000; // to see its list and to change it, which an owner always may
 
-/** In the order in which they are shown, with the words that the command `room` has for them: of a document and of a
- * folder, where these are two. No command of the room asks for those that are not `isAsked`. */
+/** As they are shown, with the words of the command `room`: of a document and of a folder, where these are two. No
+ * command of the room asks for those that are not `isAsked`. */
 export const RIGHTS = [
   [0x1, "read", "list"], [0x4, "append", "add-folder"], [0x2, "write", "add-file"], [0x20, "execute", "traverse"],
   [0x10000, "delete"], [0x40, "delete-child"], [0x80, "read-attributes"], [0x20000, "read-acl"],
@@ -23,7 +23,7 @@ export const RIGHTS = [
 });
 
 export const ALL = RIGHTS.reduce((mask, it) => mask | it.bit, 0);
-export const [VIEW, EDIT, CHANGE] = [0x1200a9, 0x1200af, 0x1301ef]; // (a new room gives the first to its group)
+export const [VIEW, EDIT, CHANGE] = [0x1200a9, 0x1200af, 0x1301ef];
 
 export const SETS = [["view", VIEW], ["edit", EDIT], ["change", CHANGE], ["all", ALL]]
   .map(([name, mask]) => ({ name, mask, does: t.sets[name] }));
@@ -51,7 +51,6 @@ export function ofLarge(own, inside) {
   return lacks.reduce((mask, [bit]) => mask & ~bit, own);
 }
 
-/** What somebody may do, summed up: the largest set that is allowed whole, with a + where more is allowed. */
 export function levelOf(allowed, kind) {
   const has = askedOf(allowed, kind);
   const at = SETS.findLastIndex(({ mask }) => askedOf(mask & ~has, kind) === 0);
@@ -62,6 +61,5 @@ export function levelOf(allowed, kind) {
 
 export const rightsIn = (mask, kind) => RIGHTS.filter((it) => mask & it.bit).map((it) => it[kind]);
 
-/** A right in a sentence that stands for both kinds of objects. */
 export const bothWords = (right) =>
   right[FILE] === right[FOLDER] || right.isOfFolders ? right[FOLDER] : `${right[FOLDER]} / ${right[FILE]}`;

@@ -1,10 +1,8 @@
-/** A room: its commands, each one request of this tab's session, and its questions. */
-import { ACCESS, NOTDIR, Refusal } from "./codes.js";
-import { ROOT, folderOf } from "./places.js";
-import { ALL, FILE, FOLDER } from "./rights.js";
+/** A room: its commands, each a request of this tab's session, and its questions. */
+import { ACCESS, ALL, FILE, FOLDER, NOTDIR, ROOT, Refusal, folderOf } from "./common.js";
 import { fileOfFront, untilAnswered } from "./wire.js";
 
-/** Does the task for each, some beside each other. The first fault ends it, once those under way have ended. */
+/** Does the task for each, some beside each other. The first fault ends it. */
 export async function forEach(items, task, width = 6) {
   const left = items.values();
   let fault = null;
@@ -32,48 +30,47 @@ export class Room {
     return new Refusal(reply, command, reply.code === ACCESS ? await this.#whose(reply.path) : {});
   }
 
-  /** Who owns an object, or where that may not be seen, the folder above. */
   async #whose(path) {
     const ask = async (it) => (await this.asideIfAllowed("STAT", it).catch(() => null))?.owner;
     const owner = await ask(path);
     return { user: this.user, owner, above: owner || path === ROOT ? null : await ask(folderOf(path)) };
   }
 
-  async run(cmd, path, more = {}) {
+  async run(cmd, path, more) {
     const command = { cmd, path, ...more };
     return this.#need(await this.session.ask(command), command);
   }
 
-  /** As `run`, beside other commands. */
-  async aside(cmd, path, more = {}) {
+  /** As `run`, beside other commands; a step of something longer is not done once the page has ended. */
+  async aside(cmd, path, more, isStep = false) {
     const command = { cmd, path, ...more };
-    return this.#need(await this.session.askAside(command), command);
+    return this.#need(await this.session.askAside(command, isStep), command);
   }
 
-  /** As `aside`, of a step of something longer, which is not done once the page has ended. */
-  async step(cmd, path, more = {}) {
-    const command = { cmd, path, ...more };
-    return this.#need(await this.session.askAside(command, true), command);
+  step(cmd, path, more) {
+    return this.aside(cmd, path, more, true);
   }
 
-  /** As `aside` and `run`, and null where the room refuses it. */
-  async asideIfAllowed(cmd, path, more = {}) {
+  async asideIfAllowed(cmd, path, more) {
     const reply = await this.session.askAside({ cmd, path, ...more });
     return reply.code === 0 ? reply : null;
   }
 
-  async runIfAllowed(cmd, path, more = {}) {
-    const reply = await this.session.ask({ cmd, path, ...more });
-    return reply.code === 0 ? reply : null;
+  /** What is in a folder, each `[NAME, KIND]`, or null where that may not be seen. */
+  async names(path) {
+    return (await this.asideIfAllowed("LIST", path))?.names ?? null;
+  }
+
+  async list(path) {
+    return (await this.aside("LIST", path)).names;
   }
 
   /** What STAT tells, with the kind alone where the caller may not ask. */
   async standing(path) {
-    const stat = await this.runIfAllowed("STAT", path);
+    const stat = await this.asideIfAllowed("STAT", path);
     return stat ?? { kind: (await this.session.ask({ cmd: "LIST", path })).code === NOTDIR ? FILE : FOLDER };
   }
 
-  /** The rights that a list allows a user: the room is asked, and nothing is decided here. */
   async allowed({ entries, owner, group }, user, groups) {
     const question = { entries, group, groups, mask: ALL, owner, user };
     const reply = await untilAnswered(`${this.base}/v1/check`, JSON.stringify(question), this.patience);

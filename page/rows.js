@@ -1,20 +1,15 @@
-/** A row of what is in a folder. Its size is asked for once it is seen, its rights where its menu is opened. */
-import { button, link, make, nameText } from "./dom.js";
+/** A row. Its size is asked for once it is seen, its rights where its menu is opened. */
+import { offersFor, rightsOn } from "./actions.js";
+import { FILE, FOLDER, LARGE, UNFINISHED, addressOf, button, inFolder, link, make, nameText, openMenu, shown, t,
+  tellFault, tellIt } from "./common.js";
 import { download } from "./downloads.js";
 import { dragRow, takeFiles, takeRows } from "./drag.js";
 import { icon, isForDisk, kindBy } from "./icons.js";
-import { openMenu } from "./menu.js";
-import { shown } from "./names.js";
-import { tellFault, tellIt } from "./notices.js";
-import { offersFor, rightsOn } from "./offers.js";
-import { addressOf, inFolder } from "./places.js";
-import { FILE, FOLDER, LARGE, UNFINISHED } from "./rights.js";
 import { sizeWords } from "./transfers.js";
 import { beforeWords, nameAt } from "./trash.js";
 import { lookInto } from "./trees.js";
-import { t } from "./words.js";
 
-/** What a row's object is, and how large: `{kind, words, size}`; a folder's size is the count of what is in it. */
+/** `{kind, words, size}`; a folder's size is the count of what is in it. */
 async function lookAt(room, path, kind) {
   const sized = (its, size) => ({ kind: its, words: size === undefined ? "" : sizeWords(size), size });
   if (kind !== FOLDER) return sized(FILE, (await room.asideIfAllowed("STAT", path))?.size);
@@ -61,7 +56,6 @@ export class Row {
     this.link.onclick = !this.isFolder && isForDisk(this.called) ? (event) => this.give(event) : null;
   }
 
-  /** What no browser shows goes to the user's disk by one click. */
   give(event) {
     if (event.ctrlKey || event.metaKey || event.shiftKey || event.defaultPrevented) return;
     event.preventDefault();

@@ -1,12 +1,13 @@
-/** A session of sixteen slots, which acts once for each request: what sending it again needs is kept in localStorage
- * before it is sent, so it is sent again after a lost answer, a reload or a crash of the tab (docs/SLOTS.md). */
-import { randomHex } from "./bytes.js";
-import { untilAnswered } from "./wire.js";
-import { t } from "./words.js";
+/** A session of sixteen slots (docs/SLOTS.md). Each request is kept in localStorage before it is sent, and acts once.
+ *
+ * Each tab has one of its own in each room, under 'fileroom/USER/ROOM/COUNT', and holds a lock of that name. A new tab
+ * takes the first one that nobody holds, so the session of a closed tab is used again. */
+import { end, randomHex, t } from "./common.js";
+import { fileOfFront, untilAnswered } from "./wire.js";
 
 const NUMBERS = 2 ** 32;
 const SLOTS = 16;
-const ASIDE = 6; // how many requests go beside each other: as many as a browser has connections to one place
+const ASIDE = 6; // as many as a browser has connections to one place
 const FALSE_RETRY = 23;
 const NOT_KEPT = 25;
 const OWN_REFUSALS = new Set([20, 21, 22, 23, 24, 25]); // of the session, slot or number, and not of the request
@@ -14,7 +15,7 @@ const fresh = () => ({ name: randomHex(16), isOpen: false });
 const read = (key) => JSON.parse(localStorage.getItem(key));
 const write = (key, it) => localStorage.setItem(key, JSON.stringify(it));
 
-/** The body of a command. Its members stand as in the command's text, so that the room knows a repeat by its bytes. */
+/** Members stand as in the command's text: the room knows a repeat by its bytes. */
 const bodyOf = (command) =>
   JSON.stringify(Object.fromEntries(Object.entries(command).sort(([a], [b]) => (a < b ? -1 : 1))));
 
@@ -22,7 +23,7 @@ const bodyOf = (command) =>
 const harmless = () =>
   ({ cmd: "ACCESS", mask: crypto.getRandomValues(new Uint32Array(1))[0] & 0x1f07ff, path: "/" });
 
-/** One slot: its requests run one after another, in the order in which they are asked. */
+/** One slot: its requests run one after another. */
 class Lane {
   constructor(session, slot) {
     Object.assign(this, { session, slot, key: `${session.key}/slot/${slot}`, isNewest: false });
@@ -38,7 +39,7 @@ class Lane {
     if (!this.kept.pending) localStorage.removeItem(this.bodyKey);
   }
 
-  /** The body first, so that what is pending has one. Others may fill the browser's store for a time. */
+  /** (The body first: what is pending has one. Others may fill the browser's store for a time.) */
   async #keepPending(pending, body) {
     for (let times = 0; ; times += 1) {
       try {
@@ -57,7 +58,7 @@ class Lane {
     return this.kept.pending && read(this.bodyKey);
   }
 
-  /** With `isStep` it is a step of something longer, which is not sent again once the page has ended. */
+  /** A step of something longer is not sent again once the page has ended. */
   ask(command, isStep = false) {
     return this.#inTurn(async () => {
       // (a browser that crashed may have lost what was newest: a number that was used for another command is refused)
@@ -125,19 +126,18 @@ class Lane {
     }
   }
 
-  /** In a new session, where it was sent only now: then it cannot have acted. */
+  /** In a new session, where it was sent only now and cannot have acted. */
   #anew(body) {
     const { sent, isStep } = this.kept.pending;
     this.session.renew(this.kept.name);
     this.#keep({ pending: null });
-    if (sent > 1) throw new Error(t.unknown); // (whether it acted)
+    if (sent > 1) throw new Error(t.unknown(t.sessionGone));
     return this.#new(body, isStep);
   }
 }
 
-export class Session {
-  /** `base` is the room's address, `key` where it is kept, `patience` tells and waits (busy.js); `stillUser` ends this
-   * page where the browser is logged in as another user by now, whose its requests would be. */
+class Session {
+  /** `key` is where it is kept, `patience` waits (busy.js), `stillUser` ends a page that is another user's by now. */
   constructor(base, key, patience, stillUser) {
     Object.assign(this, { base, key, patience, stillUser });
     Session.#renewOldForm(key);
@@ -147,7 +147,7 @@ export class Session {
     this.queue = [];
   }
 
-  /** A session of before had one slot, and all in one text: its slot finishes what it has, and a new session begins. */
+  /** A session of before had one slot, and all in one text. */
   static #renewOldForm(key) {
     const { name, number, pending } = read(key) ?? {};
     if (number === undefined) return;
@@ -166,7 +166,6 @@ export class Session {
     return this.lanes.filter((it) => it.pending);
   }
 
-  /** The reply to a command, once those that were asked before have theirs. */
   ask(command) {
     return this.lanes[0].ask(command);
   }
@@ -182,12 +181,10 @@ export class Session {
     }
   }
 
-  /** A new session takes the place of that one, where it is still this one's. */
   renew(name) {
     if (this.kept.name === name) this.#keep(fresh());
   }
 
-  /** Opens it, where it is not open: null, or why that is refused. */
   open() {
     this.opening ??= this.#open().finally(() => { this.opening = null; });
     return this.opening;
@@ -205,4 +202,58 @@ export class Session {
     }
     return null;
   }
+}
+
+export const userNow = async () => JSON.parse(await fileOfFront("/whoami") ?? "null");
+
+/** Where the browser is logged in as another user by now, whose the requests would be, the page begins anew. */
+async function stayAs(user) {
+  if (await userNow() === user) return;
+  end();
+  location.reload();
+  await new Promise(() => {});
+}
+
+/** The browser forgets the login once a request with another one is refused. Whether it was. */
+export function logOut() {
+  return new Promise((tell) => {
+    const request = new XMLHttpRequest();
+    request.open("GET", new URL("/whoami", location.origin), true, "logged-out", `${Math.random()}`);
+    request.onloadend = () => tell(request.status === 401);
+    request.send();
+  });
+}
+
+/** Holds the lock until this tab ends. False where another tab has it. */
+function hold(key) {
+  return new Promise((tell, fail) => {
+    const held = navigator.locks.request(key, { ifAvailable: true }, (lock) => {
+      tell(lock !== null);
+      return lock && new Promise(() => {});
+    });
+    held.catch(fail);
+  });
+}
+
+async function firstFree(prefix) {
+  for (let count = 0; ; count += 1) if (await hold(`${prefix}${count}`)) return `${prefix}${count}`;
+}
+
+const finish = (session, tell) => Promise.all(session.pending.map((lane) => {
+  const command = lane.pending;
+  return lane.finish().then((reply) => tell(command, reply), (fault) => tell(command, null, fault));
+}));
+
+/** What was under way when a tab ended is sent again first, and its end told. */
+export async function sessionOfTab(base, room, patience, user, tell) {
+  const prefix = `fileroom/${user}/${room}/`;
+  const sessionAt = (key) => new Session(base, key, patience, () => stayAs(user));
+  const mine = await firstFree(prefix);
+  const others = new Set(Object.keys(localStorage).filter((it) => it.startsWith(prefix))
+    .map((it) => prefix + it.slice(prefix.length).split("/")[0]));
+  others.delete(mine);
+  const session = sessionAt(mine);
+  await finish(session, tell);
+  for (const key of others) navigator.locks.request(key, () => finish(sessionAt(key), tell));
+  return session;
 }

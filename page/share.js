@@ -1,12 +1,8 @@
-/** The panel by which an object is shared: who may do what of it, by words for what is mostly given. */
-import { button, make, onSubmit, select } from "./dom.js";
-import { input } from "./dialogs.js";
-import { MOST_ENTRIES, entriesOf, isDeny, presetsOf, sharesOf, whomOf, whomText } from "./lists.js";
-import { displayName, personText } from "./names.js";
-import { FOLDER } from "./rights.js";
-import { t } from "./words.js";
+/** The panel by which an object is shared, by words for what is mostly given. */
+import { FOLDER, MOST_ENTRIES, button, displayName, entriesOf, input, isDeny, make, onSubmit, personText, presetsOf,
+  select, sharesOf, t, whomOf, whomText } from "./common.js";
 
-/** Whom a text names: everyone, a group where it begins so or no user has that name, a user; null where nobody is. */
+/** Whom a text names: a group where it begins so or no user has that name; null where nobody is. */
 function whomBy(text, roster) {
   const groups = new Set(Object.values(roster ?? {}).flat());
   const isGroup = text.startsWith(t.groupMark);
@@ -26,7 +22,7 @@ export class SharePanel {
     Object.assign(this, { kind, owner, own, roster: roster ?? {}, isWhole: roster !== null, set, shares });
     const count = others.flatMap((it) => it.entries).length;
     this.element = make("section.share", make("h2", t.sharedWith),
-      shares.length ? make("ul.shares", shares.map((it) => this.row(it))) : make("p", t.sharedWithNone),
+      shares.length ? make("ul.shares", shares.map((it) => this.row(it))) : make("p", t.whom[""]),
       this.form(), count > 0 && make("p.about", t.exceptions(count)), this.ofOwner());
   }
 
@@ -52,14 +48,13 @@ export class SharePanel {
     form.onsubmit = onSubmit(() => {
       const text = whom.value.trim();
       const found = whomBy(text, this.isWhole ? this.roster : null);
-      this.fault.textContent = found ? "" : text ? t.noSuch(text) : t.withWhom;
+      this.fault.textContent = found ? "" : text ? t.noSuch(text) : t.noWhom;
       if (found) this.give(found, what.value);
       else whom.focus();
     });
     return make("div", form, this.fault);
   }
 
-  /** What it has comes in the place of what it was allowed before, or last. */
   give(whom, name) {
     const had = this.own.filter((it) => !isDeny(it) && isSame(whomOf(it), whom));
     const news = name ? entriesOf(name, whom, this.kind) : [];
@@ -69,7 +64,7 @@ export class SharePanel {
     else this.set(own, news);
   }
 
-  /** The list has no room: it is offered to share with a group in the place of those in it who have the same. */
+  /** A group is offered in the place of those in it who have the same. */
   tellFull(whom, name, count) {
     const same = sharesOf(this.own, this.kind).shares.filter((it) => it.whom.id === "user" && it.name === name);
     const users = new Set([...same.map((it) => it.whom.name), whom.name]);
@@ -86,11 +81,10 @@ export class SharePanel {
       this.set([...this.own.filter((it) => !gone.includes(it)), ...news], news);
     };
     this.fault.replaceChildren(t.listFull(count, MOST_ENTRIES), " ", ...best ?
-      [t.groupHas(best.group, best.others ? t.members(best.others) : t.nobody), " ",
+      [t.groupHas(best.group, best.others), " ",
         button(t.groupInstead(best.group, best.named), instead, "small")] : [t.nameGroup]);
   }
 
-  /** What a folder's owner may not do with what others make in it. */
   ofOwner() {
     if (this.kind !== FOLDER || !this.owner) return null;
     const whom = { id: "user", name: this.owner };

@@ -1,11 +1,10 @@
 /** Where the page stands: what was done somewhere leaves the reader there. */
+import { part } from "./dom.js";
 
 const seen = new Map(); // how far each place was scrolled when it was left
-const part = (id) => document.getElementById(id);
 const wordsOf = (it) => it.getAttribute("aria-label") ?? it.textContent;
 const within = () => [...part("main").querySelectorAll("a, button, input, select, summary")];
 
-/** What has the focus: its words, which of those that have them it is, and its row. */
 function focused() {
   const it = document.activeElement;
   if (!part("main").contains(it)) return null;
@@ -14,7 +13,7 @@ function focused() {
   return { words, count, row: it.closest("tr")?.rowIndex };
 }
 
-/** Where the page stands now; what is returned leads back there once the page is drawn anew. */
+/** What is returned leads back to where the page stands now, once it is drawn anew. */
 export function standing() {
   const [from, top] = [focused(), scrollY];
   return () => {
@@ -29,7 +28,6 @@ export function standing() {
 
 export const leave = (address) => seen.set(address, scrollY);
 
-/** The place is come to: at its head, or as far down as it was left. */
 export function arrive(address) {
   const first = part("main").querySelector(".first, h1 button") ?? part("main").querySelector("h1");
   first?.focus({ preventScroll: true });

@@ -1,16 +1,10 @@
-/** The table of what is in a folder: it is sorted by its heads, walked through by keys, and several rows are chosen. */
-import { button, make } from "./dom.js";
+/** The table of what is in a folder: its heads sort, keys walk through it, and several rows are chosen. */
+import { DELETE, DELETE_CHILD, button, forEach, inOrder, make, pointOf, t, tellIt } from "./common.js";
 import { downloadAll } from "./downloads.js";
-import { pointOf } from "./menu.js";
 import { copyTo, move, putAllBack, remove } from "./moving.js";
-import { inOrder } from "./names.js";
-import { tellIt } from "./notices.js";
 import { SmallPictures } from "./preview.js";
-import { DELETE, DELETE_CHILD } from "./rights.js";
-import { forEach } from "./room.js";
 import { Row } from "./rows.js";
 import { isOwnTrash } from "./trash.js";
-import { t } from "./words.js";
 
 const SORT = "fileroom/sort";
 const PAUSE = 700; // milliseconds after which letters begin anew
@@ -21,7 +15,6 @@ const BY = {
   size: (one, other) => (one.its?.size ?? -1) - (other.its?.size ?? -1),
 };
 
-/** What is done with several rows at once: a bar in the place of the tools. */
 class ChosenBar {
   constructor(things) {
     const { app, place } = things;
@@ -55,7 +48,7 @@ class ChosenBar {
   }
 }
 
-/** One stop of the Tab key, arrows, Home and End, first letters of a name, and what is done. */
+/** The table is one stop of the Tab key. */
 class GridKeys {
   constructor(things) {
     Object.assign(this, { things, letters: "", typedAt: 0, at: null });
@@ -64,7 +57,6 @@ class GridKeys {
     this.stand(things.shown[0].link);
   }
 
-  /** The one element that the Tab key comes to. */
   stand(element) {
     if (![this.things, ...this.things.shown].some((it) => it.stops.includes(element))) return;
     if (this.at) this.at.tabIndex = -1;
@@ -132,7 +124,7 @@ export class Things {
     this.rows = names.map((it) => new Row(this, it, pictures));
     this.bodies = [make("tbody"), make("tbody")]; // folders, and documents behind them
     this.bar = new ChosenBar(this);
-    this.element = make("table.things", { role: "grid", "aria-label": t.thingsLabel, "aria-multiselectable": "true" },
+    this.element = make("table.things", { role: "grid", "aria-label": t.contents, "aria-multiselectable": "true" },
       this.head(), this.bodies);
     this.element.onclick = (event) => this.click(event);
     this.element.oncontextmenu = (event) => this.menu(event);
@@ -192,7 +184,6 @@ export class Things {
     this.draw();
   }
 
-  /** A large file stands among the documents, in order. */
   replace(row) {
     const order = this.sorted([...this.shown.filter((it) => !it.isFolder && it !== row), row]);
     this.bodies[1].insertBefore(row.element, order[order.indexOf(row) + 1]?.element ?? null);

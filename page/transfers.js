@@ -1,11 +1,6 @@
 /** What goes on beside the page: how far it is, and an end to it. */
-import { ask, watchEnd } from "./dialogs.js";
-import { button, make } from "./dom.js";
+import { ask, besideIt, button, lastName, make, part, say, settle, shown, t, tellFaults, watchEnd } from "./common.js";
 import { NOBODY } from "./files.js";
-import { shown } from "./names.js";
-import { say, settle, tellFaults } from "./notices.js";
-import { besideIt, lastName } from "./places.js";
-import { t } from "./words.js";
 
 class Cancelled extends Error {}
 
@@ -16,7 +11,7 @@ export function sizeWords(bytes) {
 }
 
 class Transfer {
-  /** `unit` tells a count of what is to be done in words, `about` what it is among all others. */
+  /** `unit` tells a count in words; `about` is what it is among all others. */
   constructor(app, title, { total, unit = sizeWords, about }) {
     Object.assign(this, { app, title, total, unit, about, notes: [], faults: [], done: 0, isCancelled: false });
     this.start = performance.now();
@@ -60,17 +55,17 @@ class Transfer {
 
   /** Somebody else wrote a version meanwhile: true to put this one in its place, the path of a copy, or null. */
   async overtaken(path, owner) {
-    const chosen = await ask({ title: t.overtaken(shown(lastName(path))), does: t.putMine,
-      words: make("p", t.newerCame, owner && t.newerOf(owner)), others: [{ words: t.keepCopy, value: "copy" }] });
+    const chosen = await ask({ title: t.overtaken(shown(lastName(path))), does: t.replace,
+      words: owner ? t.newerOf(owner) : [], others: [{ words: t.keepCopy, value: "copy" }] });
     return chosen === "copy" ? besideIt(path, t.copyOf(this.app.user)) : chosen;
   }
 }
 
-/** Runs the task with a transfer, beside the page, and tells its end: what the task gives, in words, and its faults. */
+/** Runs the task beside the page, and tells what it gives, in words, and its faults. */
 export async function transferring(app, title, how, task) {
   const it = new Transfer(app, title, how);
-  const unwatch = watchEnd(() => true);
-  document.getElementById("transfers").append(it.element);
+  const unwatch = watchEnd(it);
+  part("transfers").append(it.element);
   let words = "";
   try {
     words = await task(it);

@@ -1,14 +1,10 @@
-/** The trash: what was removed lies in a folder of the user's own in /trash, where there is one (docs/FILES.md). */
-import { EXIST, FOLDER_FULL, TOO_DEEP, isRefused } from "./codes.js";
-import { isPrivate } from "./lists.js";
-import { shown } from "./names.js";
-import { ROOT, folderOf, inFolder, isTooLong, isWithin, lastName, nameFault, namesOf, pathFault } from "./places.js";
-import { FOLDER } from "./rights.js";
-import { language, t } from "./words.js";
+/** The trash: what was removed lies in a folder of the user's own in /trash (docs/FILES.md). */
+import { EXIST, FOLDER, FOLDER_FULL, ROOT, TOO_DEEP, folderOf, inFolder, isPrivate, isRefused, isTooLong, isWithin,
+  language, lastName, nameFault, namesOf, pathFault, shown, t } from "./common.js";
 
 const TRASH = "/trash";
 
-/** Where a user's trash is, and where it was in rooms of before. (A folder has 256 things, a room 1,000 users.) */
+/** Where a user's trash is, and where it was in rooms of before. */
 function placesFor(user) {
   const sum = [...user].reduce((before, letter) => before + letter.charCodeAt(0), 0);
   return [inFolder(TRASH, `@${(sum % 16).toString(16)}`, user), inFolder(TRASH, user)];
@@ -18,7 +14,6 @@ export const isInTrash = (path) => isWithin(path, TRASH);
 export const isTrash = (path) => isInTrash(path) && placesFor(lastName(path)).includes(path);
 export const isOwnTrash = ({ user }, path) => placesFor(user).includes(path);
 
-/** The user's trash as `path`, where there is one; or in words as `fault` that somebody else owns it. */
 export async function ownTrash({ room, user }) {
   for (const path of placesFor(user)) {
     const its = await room.asideIfAllowed("STAT", path);
@@ -27,14 +22,14 @@ export async function ownTrash({ room, user }) {
   return {};
 }
 
-/** As `ownTrash`; also a `fault` where its list lets others read what comes into it. */
+/** As `ownTrash`; a `fault` too where its list lets others read what comes into it. */
 export async function trashOf({ room, user }) {
   const its = await ownTrash({ room, user });
   if (!its.path || isPrivate(await room.aside("GETLIST", its.path), user)) return its;
   return { fault: t.openTrash(its.path) };
 }
 
-/** It tells where it came from, as far as a name has room: by that the command `room` puts it back. */
+/** It tells where something came from, as far as a name has room: by that the command `room` puts it back. */
 function nameInTrash(path, now) {
   const stamp = now.toISOString().replace(/[^0-9]/g, "").slice(0, 14);
   const [name, ...folders] = [lastName(path), ...namesOf(folderOf(path))];
@@ -80,7 +75,7 @@ export function toldBy(path) {
   return path.includes("…") || pathFault(place) ? null : { name: parts[0], place, when };
 }
 
-/** The name that people know it by; and the same, or the path of what is in no trash. */
+/** The name that people know it by; and that, or the path of what is in no trash. */
 export const nameAt = (path) => toldBy(path)?.name ?? lastName(path);
 export const calledAt = (path) => shown(toldBy(path)?.name ?? path);
 

@@ -1,15 +1,10 @@
-/** A field that holds a folder: a tree that opens as it is walked, with folders that were chosen before. */
+/** A field that holds a folder: a tree that opens as it is walked, and folders that were chosen before. */
 import { GaveUp } from "./busy.js";
-import { ask, nameInput } from "./dialogs.js";
-import { button, make, nameText } from "./dom.js";
+import { FOLDER, LARGE, NOTDIR, ROOT, ask, button, byName, clean, foldersAbove, inFolder, isWithin, lastName, make,
+  nameFault, nameInput, nameText, shown, t, tellIt } from "./common.js";
 import { icon } from "./icons.js";
 import { isPart } from "./manifest.js";
-import { byName, clean, shown } from "./names.js";
-import { tellIt } from "./notices.js";
-import { ROOT, foldersAbove, inFolder, isWithin, lastName, nameFault } from "./places.js";
-import { FOLDER, LARGE } from "./rights.js";
 import { kindBy, lookInto } from "./trees.js";
-import { t } from "./words.js";
 
 const LIKE_FILE = /\.[^.]{1,5}$/; // of such folders it is asked whether they are large files
 const MOST_RECENT = 4;
@@ -21,10 +16,9 @@ export function keepRecent(app, folder) {
   localStorage.setItem(recentKey(app), JSON.stringify(all.slice(0, MOST_RECENT)));
 }
 
-/** The folders in a folder, without what is large files. */
 async function foldersIn(room, path) {
-  const { names } = await room.aside("LIST", path);
-  if (kindBy(names) !== FOLDER) throw new Error(t.isDocument);
+  const names = await room.list(path);
+  if (kindBy(names) !== FOLDER) throw new Error(t.refusals[NOTDIR]);
   const found = names.filter(([name, kind]) => kind === FOLDER && !isPart(name)).sort(byName);
   const isFile = await Promise.all(found.map(([name]) =>
     LIKE_FILE.test(name) && lookInto(room, inFolder(path, name)).then((it) => it.kind === LARGE)));
@@ -32,18 +26,18 @@ async function foldersIn(room, path) {
 }
 
 export class FolderTree {
-  /** `barred` are paths of what is to go there: nothing goes into itself. */
+  /** `barred` are paths of what is to go there, and not into itself. */
   constructor(app, barred, value) {
     Object.assign(this, { app, barred, value, items: new Map() });
     this.told = make("p", { role: "status" });
     this.legend = make("legend");
-    this.list = make("ul.tree", { role: "tree", "aria-label": t.folderTree });
+    this.list = make("ul.tree", { role: "tree", "aria-label": t.toFolder });
     this.list.onkeydown = (event) => this.key(event);
     this.list.onclick = (event) => this.click(event);
     const recent = recentOf(app).filter((it) => it !== value && !this.isBarred(it)).map((it) =>
       button(nameText(this.nameOf(it)), () => this.goTo(it), { className: "small", title: shown(it) }));
     this.element = make("fieldset.chooser", this.legend, recent.length > 0 && make("p", t.recent, " ", recent),
-      this.list, this.told, make("p", button(t.newFolderHere, () => this.makeHere(), "small")));
+      this.list, this.told, make("p", button(t.newFolder, () => this.makeHere(), "small")));
     this.list.append(this.item(ROOT));
     this.tell();
     this.goTo(value);
@@ -142,7 +136,7 @@ export class FolderTree {
   async makeHere() {
     const [name, above] = [nameInput(), this.value];
     const path = () => inFolder(above, clean(name.value));
-    const isDone = await ask({ title: t.newFolder, does: t.make, fields: [[t.name, name]],
+    const isDone = await ask({ title: t.newFolder, does: t.make, fields: [[t.heads.name, name]],
       faultOf: () => nameFault(clean(name.value)), task: () => this.app.room.run("MKDIR", path()) });
     if (!isDone) return;
     const it = this.items.get(above);

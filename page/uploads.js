@@ -1,28 +1,20 @@
 /** Files and folders of the user's disk go into the room. */
-import { MOST_BYTES } from "./bytes.js";
-import { EXIST, orElse } from "./codes.js";
-import { ask } from "./dialogs.js";
-import { button, make, pickFiles } from "./dom.js";
+import { EXIST, MAX_NAMES, MOST_BYTES, MOST_THINGS, ask, besideIt, button, clean, folderOf, forEach, inFolder,
+  isTooLong, lastName, listOf, make, nameFault, namesOf, numbered, orElse, pathOf, pickFiles, settle, shortened, shown,
+  t, tellFault } from "./common.js";
 import { readFile, writeCopy, writeFile } from "./files.js";
 import { DEEPEST, sizeFault } from "./manifest.js";
-import { clean, shown } from "./names.js";
-import { settle, tellFault } from "./notices.js";
 import { makeLike, mayOverflow } from "./overflow.js";
-import { MAX_NAMES, MOST_THINGS, besideIt, folderOf, inFolder, isTooLong, lastName, nameFault, namesOf, numbered,
-  pathOf, shortened } from "./places.js";
-import { forEach } from "./room.js";
 import { sizeWords, transferring } from "./transfers.js";
-import { t } from "./words.js";
 
 const MOST_TOLD = 10; // of many names or faults
 const AT_ONCE = 3; // files; the pieces of each go beside each other too
 
-export function filesButton(words, how, chosen, label = words) {
-  const { field, click } = pickFiles(label, how, chosen);
-  return make("span", button(words, click, { "aria-label": label }), field);
+export function filesButton(words, how, chosen) {
+  const { field, click } = pickFiles(words, how, chosen);
+  return make("span", button(words, click), field);
 }
 
-/** What an entry of a drop has in it: files, and folders with `file` null. */
 async function within(entry, above = []) {
   const names = [...above, entry.name];
   if (entry.isFile) return [{ names, file: await new Promise((tell, fail) => entry.file(tell, fail)) }];
@@ -41,10 +33,8 @@ export async function dropped(data) {
     (it instanceof File ? [{ names: [it.name], file: it }] : within(it))))).flat();
 }
 
-/** Why one of them cannot be sent into that folder, before anything is. */
 function faultOf({ names, file }, folder) {
-  const depth = namesOf(folder).length + names.length;
-  const name = shown(names.join("/"));
+  const [depth, name] = [namesOf(folder).length + names.length, shown(names.join("/"))];
   const fault = names.map(clean).map(nameFault).find((it) => it !== "") || (depth > MAX_NAMES ? t.pathLong(MAX_NAMES) :
     file?.size > MOST_BYTES && depth > DEEPEST ? t.tooDeep : "");
   if (fault) return t.about(name, fault);
@@ -52,7 +42,7 @@ function faultOf({ names, file }, folder) {
   return its ? `${name} ${its}.` : "";
 }
 
-/** The same with names that the room takes: two that are alike then are told apart by a number. */
+/** With names that the room takes: two that are alike then are told apart by a number. */
 function withShorter(chosen) {
   const taken = new Map(); // from the path that something had to the one that it gets
   const isFree = (path) => ![...taken.values()].includes(path);
@@ -68,7 +58,6 @@ function withShorter(chosen) {
 const aboutOf = (room, ...paths) => `upload ${room.name} ${paths.join(" ")}`;
 const goalOf = (folder, names) => inFolder(folder, ...names.map(clean));
 
-/** Those that can be sent. Where some cannot, it is said why, and asked whether the others shall go. */
 async function fitting(app, folder, chosen) {
   const faults = chosen.map((it) => faultOf(it, folder));
   const fit = chosen.filter((_, at) => faults[at] === "");
@@ -82,13 +71,13 @@ async function fitting(app, folder, chosen) {
   const [first, ...others] = [...isLong ? [{ words: t.uploadShorter, value: "shorter" }] : [],
     ...fit.length ? [{ words: t.uploadOthers(fit.length), value: "fit" }] : []];
   const answer = await ask({ title: t.cannotUpload(told.length, chosen.length), words: listed(told), others,
-    does: first?.words ?? t.close });
+    does: first?.words, stays: first ? t.cancel : t.close });
   if (!answer || !first) return [];
   return (answer === true ? first.value : answer) === "fit" ? fit : fitting(app, folder, withShorter(chosen));
 }
 
-const listed = (words) => [make("ul", words.slice(0, MOST_TOLD).map((it) => make("li", it))),
-  words.length > MOST_TOLD && make("p", t.andMore(words.length - MOST_TOLD))];
+const listed = (words) => [listOf(words.slice(0, MOST_TOLD)),
+  words.length > MOST_TOLD && t.andMore(words.length - MOST_TOLD)];
 
 class Folders {
   constructor(room) {
@@ -101,12 +90,10 @@ class Folders {
   }
 
   async #ask(folder) {
-    const reply = await this.room.asideIfAllowed("LIST", folder);
-    return new Set((reply?.names ?? []).map(([name]) => name));
+    return new Set((await this.room.names(folder))?.map(([name]) => name));
   }
 
-  /** A path that is free there, and not among those that are taken, as it is from now on. */
-  async free(path, taken = new Set()) {
+  async free(path, taken) {
     const names = await this.names(folderOf(path));
     const isFree = (it) => !names.has(lastName(it)) && !taken.has(it);
     const its = isFree(path) ? path : numbered(path, isFree);
@@ -115,7 +102,13 @@ class Folders {
   }
 }
 
-export const freePath = (room, path) => new Folders(room).free(path);
+export async function freePaths(room, paths) {
+  const [folders, taken, found] = [new Folders(room), new Set(), []];
+  for (const it of paths) found.push(await folders.free(it, taken));
+  return found;
+}
+
+export const freePath = async (room, path) => (await freePaths(room, [path]))[0];
 
 function foldersOf(wanted, folder) {
   const found = new Set();
@@ -165,7 +158,7 @@ async function sendAll(app, transfer, wanted, folder) {
     }
   }, AT_ONCE);
   const failed = files.length - count;
-  if (failed && !isOne) transfer.title = t.someFailed(failed, files.length);
+  if (failed && !isOne) transfer.title = t.failedOf(failed, files.length);
   if (failed && count === 0) return "";
   return t.uploaded(count, sizeWords(size), transfer.seconds) + beforeWords(replaced);
 }
@@ -178,7 +171,7 @@ async function wantedOf(app, folder, chosen) {
     file && (await folders.names(folderOf(path))).has(lastName(path))));
   const clashes = wanted.filter((_, at) => isThere[at]);
   const answer = clashes.length === 0 || await ask({ title: t.thereAlready(clashes.length),
-    words: listed(clashes.map(({ path }) => shown(path))), does: t.replaceThere,
+    words: listed(clashes.map(({ path }) => shown(path))), does: t.replace,
     others: [{ words: t.keepBoth, value: "both" }, { words: t.leaveOut, value: "skip" }] });
   if (answer === null) return [];
   if (answer === "skip") wanted = wanted.filter((it) => !clashes.includes(it));
@@ -205,16 +198,16 @@ async function keepOld(room, path) {
   return writeCopy(room, path, beside, await readFile(room, path));
 }
 
-/** Asks whether a file shall take the place of what is there. Whether it may; `kept` of it is where the old one is. */
+/** Whether a file may take the place of what is there; `kept` of it is where the old one is then. */
 function askToReplace(app, wanted, mayKeep) {
   const { path, file } = wanted;
   const keep = async () => { wanted.kept = await keepOld(app.room, path); };
-  return ask({ title: t.replaceTitle(shown(lastName(path))), does: t.replaceIt,
-    words: make("p", t.takesPlace(shown(file.name), sizeWords(file.size))),
-    others: mayKeep ? [{ words: t.keepOld, value: true, task: keep }] : [] });
+  return ask({ title: t.doTo(t.replace, shown(lastName(path))), does: t.replace,
+    words: t.takesPlace(shown(file.name), sizeWords(file.size)),
+    others: mayKeep ? [{ words: t.keepBoth, value: true, task: keep }] : [] });
 }
 
-/** A new version. `replaces` is null where nothing whole is there yet; `mayKeep` of it allows a copy beside it. */
+/** `replaces` is null where nothing whole is there yet; its `mayKeep` allows a copy beside it. */
 export async function newVersion(app, path, [it], replaces) {
   const fault = faultOf({ ...it, names: [lastName(path)] }, folderOf(path));
   if (fault) return tellFault(t.nothingSent(fault), aboutOf(app.room, path));
@@ -225,7 +218,7 @@ export async function newVersion(app, path, [it], replaces) {
 
 function start(app, wanted, folder) {
   const total = wanted.reduce((sum, { file }) => sum + (file?.size ?? 0), 0);
-  const title = t.uploadOf(wanted.length === 1 ? shown(lastName(wanted[0].path)) : wanted.length);
+  const title = t.doTo(t.upload, wanted.length === 1 ? shown(lastName(wanted[0].path)) : t.allThings(wanted.length));
   const about = aboutOf(app.room, ...wanted.map((it) => it.path));
   return transferring(app, title, { total, about }, (it) => sendAll(app, it, wanted, folder));
 }

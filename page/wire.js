@@ -49,11 +49,11 @@ async function exchange(url, body) {
   const { status, text } = await fetchText(url, { method: "POST", headers, body });
   const reply = readReply(text);
   if (reply === null) throw new NoAnswer(whyNoReply(status), status === 401);
-  if (reply.code === DELAY) throw new NoAnswer(t.busy);
+  if (reply.code === DELAY) throw new NoAnswer(t.restarting);
   return reply;
 }
 
-/** Sends until there is an answer. `before` is called before each sending; `patience` waits, or throws to give up. */
+/** `before` is called before each sending; `patience` waits, or throws to give up. */
 export async function untilAnswered(url, body, patience, before = () => {}) {
   const waiting = patience.begin();
   try {
@@ -72,7 +72,6 @@ export async function untilAnswered(url, body, patience, before = () => {}) {
   }
 }
 
-/** A file of the front's, as text; null where it has none. */
 export async function fileOfFront(url) {
   const { status, text } = await fetchText(url, {});
   return status === 200 ? text : null;

@@ -1,6 +1,5 @@
 /** A zip of stored files, made in the browser (PKWARE's APPNOTE, sections 4.3 to 4.5). */
-import { fromText } from "./bytes.js";
-import { t } from "./words.js";
+import { fromText, t } from "./common.js";
 
 const UTF8 = 0x800; // names are UTF-8
 const VERSION = 20;
@@ -16,7 +15,6 @@ export function crcOf(bytes) {
   return (crc ^ 0xffffffff) >>> 0;
 }
 
-/** Little-endian numbers, each `[BYTES, VALUE]`. */
 function numbers(...fields) {
   const view = new DataView(new ArrayBuffer(fields.reduce((sum, [size]) => sum + size, 0)));
   let at = 0;

@@ -22,14 +22,16 @@ SMALL = """return [...document.querySelectorAll('button, select, input, summary'
   .map(([it]) => it.getAttribute('aria-label') ?? it.textContent)"""
 PLACES = {"a folder": f"#open/club{TOP}", "a document": f"#open/club{TOP}/a.txt", "sharing": f"#access/club{TOP}",
           "the matrix": f"#who/club{TOP}", "search": f"#find/club{TOP}"}
+SIGNS = set("▾▸↑↓")  # drawn by styles: a screen reader would read them aloud
 STOPS = {"button", "link", "textbox", "searchbox", "combobox", "checkbox", "menuitem", "treeitem"}
 
 
 def nameless(browser):
-    """What can be reached and has no name, in the browser's accessibility tree."""
+    """What can be reached and has no name, or a sign in it, in the browser's accessibility tree."""
     nodes = browser.ask("POST", "/goog/cdp/execute", {"cmd": "Accessibility.getFullAXTree", "params": {}})["nodes"]
     told = [(it["role"]["value"], it.get("name", {}).get("value", "")) for it in nodes if not it["ignored"]]
-    return [role for role, name in told if role in STOPS and not name.strip()], [role for role, _ in told]
+    lacking = [(role, name) for role, name in told if role in STOPS and (not name.strip() or SIGNS & set(name))]
+    return lacking, [role for role, _ in told]
 
 
 def perceived(club, differs):

@@ -26,12 +26,12 @@ def start_driver(port, folder):
 
 
 class Browser:
-    def __init__(self, folder):
+    def __init__(self, folder, *more):
         self.port = free_port()
         self.driver = start_driver(self.port, folder)
         words = ["--headless=new", "--no-sandbox", "--disable-gpu", "--disable-dev-shm-usage", "--no-first-run",
                  "--disable-background-networking", "--disable-component-update", "--disable-breakpad",
-                 f"--user-data-dir={folder}/profile", f"--crash-dumps-dir={folder}", "--window-size=1000,800"]
+                 f"--user-data-dir={folder}/profile", f"--crash-dumps-dir={folder}", "--window-size=1000,800", *more]
         times = {"script": ANSWER * 1000, "pageLoad": ANSWER * 1000}
         asked = {"goog:chromeOptions": {"args": words}, "goog:loggingPrefs": {"browser": "ALL"}, "timeouts": times}
         self.session = ""
@@ -150,6 +150,11 @@ class Browser:
         path = f"//dialog[@open]//*[@id=//label[normalize-space()='{label}']/@for]"
         self.act(path, "clear")
         self.act(path, "value", {"text": text})
+
+    def point(self, path="//html", x=0, y=0):
+        """Moves the mouse over the element at an XPath, so many pixels from its middle."""
+        move = {"type": "pointerMove", "origin": {ELEMENT: self.find(path)}, "x": x, "y": y}
+        self.ask("POST", "/actions", {"actions": [{"type": "pointer", "id": "mouse", "actions": [move]}]})
 
     def keys(self, *words):
         """Strikes keys, each a name of KEYS or a text."""

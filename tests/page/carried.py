@@ -53,7 +53,7 @@ def on_disk(club, name, data):
 
 def put(club, folder, *files):
     club.go(f"#open/club{folder}")
-    choose(club.browser, "Upload files", *files)
+    choose(club.browser, "Upload", *files)
 
 
 def saved(club, name, count=1):
@@ -106,7 +106,7 @@ def sizes(club, differs):
     differs("nothing was sent of it", [it for it in club.lossy.bodies[sent:] if b"CREATE" in it or b"MKDIR" in it], [])
     put(club, "/big", *both, on_disk(club, "fits", b"fits"))
     browser.sees("2 of 3 cannot be uploaded", "dialog")
-    for told in most, f"{long_name}: This name counts as 66 letters, and 64 are the most: letters with accents":
+    for told in most, f"{long_name}: This counts as 66 letters, and 64 are the most: letters with accents":
         differs(told, browser.sees(told, "dialog li"), True)
     browser.press("Upload the other 1")
     browser.sees("1 file uploaded", "#notices")
@@ -126,7 +126,7 @@ def largest(club, differs):
     differs("it is there", hashlib.sha256(held(club, "/big/largest")).digest() == hashlib.sha256(data).digest(), True)
     browser.until("its size", lambda: "16 MiB" in row(browser, "largest"))
     browser.follow("largest")
-    browser.sees("This is no text that can be shown.")
+    browser.sees("This cannot be shown here.")
     browser.press("Download")
     browser.sees("largest: 16 MiB in", "#notices")
     down = told_pace(browser)
@@ -143,7 +143,7 @@ def told_pace(browser):
     return 16 / float(re.search(r"in ([0-9.]+) seconds", text)[1])
 
 
-def replace(browser, path, words="Replace it"):
+def replace(browser, path, words="Replace"):
     choose(browser, "Upload a new version", path)
     browser.sees("takes the place of what is there, which is gone then.", "dialog")
     browser.press(words, "//dialog[@open]")
@@ -153,7 +153,7 @@ def versions(club, differs):
     """New versions: of a large file, of a small one that becomes large, and small again; two writers at once."""
     browser = club.browser
     path, old = "/big/of 65537", b""
-    for name, size, words in ("v2", 4 * PIECE + 5, "Replace it"), ("v3", 10, "Keep the old one too"):
+    for name, size, words in ("v2", 4 * PIECE + 5, "Replace"), ("v3", 10, "Keep both"):
         data = dice.randbytes(size)
         club.go(f"#open/club{path.replace(' ', '%20')}")
         replace(browser, on_disk(club, name, data), words)
@@ -169,7 +169,7 @@ def versions(club, differs):
         {"type": 0, "flag": 0, "mask": 1, "who": "bob"}]})
     data = dice.randbytes(2 * PIECE)
     put(club, "/big", on_disk(club, "grows", data))
-    browser.press("Replace what is there")
+    browser.press("Replace", "//dialog[@open]")
     browser.sees("1 file uploaded", "#notices")
     differs("it has grown", held(club, "/big/grows") == data, True)
     list_ = club.holds({"cmd": "GETLIST", "path": "/big/grows"})["entries"][0]
@@ -186,7 +186,7 @@ def overtaken(club, differs):
     browser, lossy = club.browser, club.lossy
     path = "/big/of 196608"
     data = dice.randbytes(2 * PIECE + 1)
-    for words, is_mine in ("Put mine there", True), ("Keep mine as a copy", False):
+    for words, is_mine in ("Replace", True), ("Keep mine as a copy", False):
         club.go(f"#open/club{path.replace(' ', '%20')}")
         browser.sees("Upload a new version")
         lossy.hold(".room-pieces-", '"RENAME"')
@@ -243,7 +243,7 @@ def stopped(club, differs):
     browser.until("it ends", lambda: browser.press("Cancel", "//section[@id='transfers']") or
                   "ends …" in browser.script(told))
     lossy.go_on()
-    differs("cancelled", browser.sees("Upload of cancelled: cancelled.", "#notices"), True)
+    differs("cancelled", browser.sees("Upload cancelled: cancelled.", "#notices"), True)
     differs("nothing of it is left", "cancelled" in names_at(club, "/big"), False)
 
 
@@ -274,7 +274,7 @@ def left_beside(club, differs):
     club.holds({"cmd": "MKDIR", "path": f"/big/{new}"})
     club.go("#open/club")
     club.go("#open/club/big")
-    differs("it is told", browser.sees("of a large file that was to take a document's place", "main"), True)
+    differs("it is told", browser.sees("of a large file that was to take the place of a document", "main"), True)
     club.holds({"cmd": "RENAME", "path": f"/big/{gone}", "to": "/big/between"})
     club.go("#open/club")
     club.go("#open/club/big")
@@ -331,7 +331,7 @@ def too_many(club, differs):
     differs("nothing was sent", len(club.names("/full")), 20)
     put(club, "/full", *files)
     browser.press("Upload what fits")
-    browser.sees("14 of 250 files failed:", "#notices")
+    browser.sees("14 of 250 failed:", "#notices")
     differs("in one line", browser.shown().count("The folder is full"), 0)
     browser.act("//*[@id='notices']//summary", "click")
     differs("each is told", browser.shown().count("The folder is full"), 14)

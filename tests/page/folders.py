@@ -61,7 +61,7 @@ def wholes(club, differs):
     by_menu(browser, "t", "Copy")
     to_folder(browser, "other")
     browser.sees("To the folder /other", "dialog")
-    browser.press("Copy it there")
+    browser.press("Copy", "//dialog[@open]")
     browser.sees("/t is copied to /other/t.", "#notices")
     copied = {f"/other{path}": data for path, data in tree.items()}
     differs("the copy", below(club, "/other/t") == copied, True)
@@ -112,8 +112,8 @@ def moved(club, differs, large):
     by_menu(browser, "large.bin", "Move")
     to_folder(browser, "empty")
     browser.sees("To the folder /t/empty", "dialog")
-    browser.fill("Name there", "moved.bin")
-    browser.press("Move it there")
+    browser.fill("Name", "moved.bin")
+    browser.press("Move", "//dialog[@open]")
     browser.sees("is now /t/empty/moved.bin", "#notices")
     differs("it is moved", held(club, "/t/empty/moved.bin") == large, True)
     differs("and here no more", "large.bin" in names_at(club, "/t/sub"), False)
@@ -183,7 +183,7 @@ def trashed(club, differs):
     club.go(f"#open/club{path}")
     own = "The list of the trash /trash/ann does not keep others out, who could read what you remove: ask who runs"
     foreign = "The trash /trash/ann is bob's, who could read what you remove: ask who runs this room"
-    for why, does in ("There is no trash of yours: ask who runs this room for one", {"cmd": "MKDIR"}), \
+    for why, does in ("There is no trash of yours: ask who runs this room", {"cmd": "MKDIR"}), \
             (own, {"cmd": "CHOWN", "owner": "bob", "group": "eng"}), (foreign, {}):
         browser.press("Remove", "//main")
         differs("why for good", browser.sees(why, "dialog"), True)
@@ -203,7 +203,7 @@ def trashed(club, differs):
         browser.press("Remove", "//dialog[@open]")
         browser.sees(f"/other/{name} is in the trash.", "#notices")
     club.go("#open/club")
-    browser.follow("Your trash")
+    browser.follow("Trash of ann")
     browser.until("where they were", lambda: browser.shown().count("was in /other, removed ") == 2)
     differs("what is offered for the trash itself", browser.script(
         "return [...document.querySelectorAll('main > .makers > *')].map((it) => it.textContent)"),
@@ -217,8 +217,8 @@ def trashed(club, differs):
     browser.press("Cancel", "//dialog[@open]")
     differs("it asks first", len(names_at(club, TRASH)), 2)
     browser.press("Empty the trash")
-    browser.press("Remove all of it")
-    browser.sees("The trash is empty.", "#notices")
+    browser.press("Empty the trash", "//dialog[@open]")
+    browser.sees("2 things are removed.", "#notices")
     differs("it is empty", names_at(club, TRASH), {})
     differs("its name", browser.sees("Trash of ann", "h1"), True)
     browser.until("it is not emptied once more", lambda: "Empty the trash" not in browser.shown())
@@ -251,8 +251,8 @@ def elsewhere(club, differs):
         browser.sees("To the folder /other", "dialog")
         name = browser.script("return document.querySelector('dialog input').value")
         differs("its own name, or one that is free", name, "taken (2).txt" if called == "taken.txt" else called)
-        browser.fill("Name there", f"back {called}")
-        browser.press("Put it there")
+        browser.fill("Name", f"back {called}")
+        browser.press("Put back", "//dialog[@open]")
         browser.sees(f"/other/back {called} is there again.", "#notices")
         differs(f"{called} is back", club.text(f"/other/back {called}"), "hi")
     differs("nothing is left", names_at(club, trash), {})
@@ -272,7 +272,7 @@ def full(club, differs):
     browser.press("Remove", "//main")
     browser.press("Remove", "//dialog[@open]")
     differs("it is full", browser.sees(
-        "The trash is full: it has 256 things in it. Empty it, or remove this for good.", "dialog"), True)
+        "The trash is full: it has 256 things. Empty it, or remove this for good.", "dialog"), True)
     differs("it is still there", club.text(path), "hi")
     browser.act("//dialog[@open]//label[contains(., 'for good')]", "click")
     browser.press("Remove", "//dialog[@open]")
@@ -346,7 +346,7 @@ def small_pictures(club, differs):
 def previews(club, differs):
     """Pictures are shown by how they begin; an SVG never is, and runs nothing."""
     browser = club.browser
-    shown = "const it = document.querySelector('img.picture'); return it && [it.complete, it.naturalWidth]"
+    shown = "const it = document.querySelector('.picture img'); return it && [it.complete, it.naturalWidth]"
     for name, data in ("dot.txt", PNG), ("picture.svg", SVG), ("never.png", SVG):
         club.holds({"cmd": "CREATE", "path": f"/other/{name}", "data": club.base64(data)})
         club.go(f"#open/club/other/{name}")
@@ -411,7 +411,7 @@ def one_document(club, differs):
 def its_list(club, differs, path, own):
     browser = club.browser
     club.go(f"#access/club{path}")
-    browser.sees("To get at this document one must also pass", "main")
+    browser.sees("One must also pass through each folder above.", "main")
     told = "return [...document.querySelectorAll('.entries > li > details > summary')].map((it) => it.textContent)"
     differs("in words", browser.script(told), [
         "Allow its owner (ann) to do all.", "Allow the user bob to view. Counts here alone.",

@@ -1,18 +1,21 @@
 """Scenes of the page as a file manager: what is seen first, keys, sorting, menus, several at once, drags, pasting."""
 import time
 
-from carried import names_at, saved
+from carried import names_at, row, saved
 from browser import KEYS
 from club import make_trash, offers, to_folder
 from folders import PNG
 
 TOP = "/frame"
+SHIFT, CTRL = "\ue008", "\ue009"
 FOCUS = ("const it = document.activeElement; return it.matches('.things .name') ? it.textContent "
          ": it.getAttribute('aria-label') ?? it.textContent")
 ROWS = "return [...document.querySelectorAll('.things tbody tr')].map((it) => it.querySelector('bdi').textContent)"
 CHOSEN = "return [...document.querySelectorAll('.things [aria-selected=true] bdi')].map((it) => it.textContent)"
 SORTS = "return [...document.querySelectorAll('.things thead th')].map((it) => it.getAttribute('aria-sort'))"
 BAR = "return [...document.querySelectorAll('.chosen:not([hidden]) button:not([hidden])')].map((it) => it.textContent)"
+LINED = ("return [...document.querySelectorAll('.things *')].filter((it) => "
+         "getComputedStyle(it).textDecorationLine === 'underline').map((it) => it.textContent)")
 TOP_ROW = "return document.querySelector('.things tbody tr').getBoundingClientRect().top"
 # what the mouse would do, event by event: a row is taken, held over an element, and let go
 DRAG = """const data = new DataTransfer(), [from, to] = [arguments[0], arguments[1]].map((path) =>
@@ -61,9 +64,10 @@ def seen_first(club, differs):
         club.go(f"#{view}/club{TOP}")
         is_seen = "return document.querySelector('header input').checkVisibility()"
         differs(f"search in {view}", browser.script(is_seen), True)
-    line = "return getComputedStyle(document.querySelector('.things .name')).textDecorationLine"
     club.go(f"#open/club{TOP}")
-    differs("names are not underlined", browser.script(line), "none")
+    for place, names in ("//thead//th[.//button='Name']", []), ("//a[.='attic']", ["attic"]), ("//*[@id='user']", []):
+        browser.point(place)
+        differs(f"underlined, with the mouse over {place}", browser.script(LINED), names)
     icons = "return [...document.querySelectorAll('.things .icon')].map((it) => it.classList[1])"
     differs("icons", browser.script(icons), ["folder", "folder", "pdf", "writing", "table", "text"])
 
@@ -101,14 +105,14 @@ def by_keys(club, differs):
         browser.script("return new Promise((go) => setTimeout(go, 750))")  # (letters begin anew)
     browser.keys("left", "space")
     differs("a space chooses", browser.script(CHOSEN), ["list.xlsx"])
-    hold(browser, "\ue008", "down")
+    hold(browser, SHIFT, "down")
     differs("Shift and an arrow", browser.script(CHOSEN), ["list.xlsx", "notes.txt"])
-    hold(browser, "\ue009", "a")
+    hold(browser, CTRL, "a")
     differs("Ctrl and A", len(browser.script(CHOSEN)), 6)
     browser.keys("escape")
     differs("Escape", browser.script(CHOSEN), [])
     browser.keys("f2")
-    browser.fill("New name", "notes 2.txt")
+    browser.fill("Name", "notes 2.txt")
     browser.keys("enter")
     browser.sees("is now", "#notices")
     differs("F2 renames", "notes 2.txt" in names_at(club, TOP), True)
@@ -156,23 +160,28 @@ def several(club, differs):
     choose_both(club)
     browser.press("Move", "//*[contains(@class, 'chosen')]")
     to_folder(browser, "attic")
-    browser.press("New folder here")
+    browser.press("New folder", "//dialog[@open]")
     browser.fill("Name", "box")
     browser.press("Make")
     browser.sees("To the folder /frame/attic/box", "dialog")
-    browser.press("Move it there")
+    browser.press("Move", "//dialog[@open]")
     browser.sees("2 things are now /frame/attic/box.", "#notices")
     differs("they are moved", sorted(names_at(club, f"{TOP}/attic/box")), ["list.xlsx", "notes 2.txt"])
     browser.press("Undo")
-    browser.sees("2 things are where they were.", "#notices")
+    browser.sees("2 things are there again.", "#notices")
     differs("and back", [names_at(club, f"{TOP}/attic/box"), len(names_at(club, TOP))], [{}, 6])
+    choose_both(club)
+    browser.press("Move", "//*[contains(@class, 'chosen')]")
+    browser.press("box", "//dialog[@open]")  # (where something went lately)
+    browser.sees("To the folder /frame/attic/box", "dialog")
+    browser.press("Cancel", "//dialog[@open]")
     choose_both(club)
     browser.keys("delete")
     browser.press("Remove", "//dialog[@open]")
     browser.sees("2 things are in the trash.", "#notices")
     differs("removed", len(names_at(club, TOP)), 4)
     browser.press("Undo")
-    browser.sees("2 things are where they were.", "#notices")
+    browser.sees("2 things are there again.", "#notices")
     differs("both are there again", [len(names_at(club, TOP)), names_at(club, "/trash/ann")], [6, {}])
 
 
@@ -189,19 +198,66 @@ def dragged(club, differs):
     tr = "//tr[.//bdi='{}']".format
     club.go("#open/club")
     club.go(f"#open/club{TOP}")
+    browser.until("what it is", lambda: "0 in it" in row(browser, "cellar"))  # (till then it takes no row)
     browser.script(DRAG, tr("cellar"), tr("cellar"))
     browser.script(DRAG, tr("list.xlsx"), tr("cellar"))
     browser.sees("is now /frame/cellar/list.xlsx", "#notices")
     differs("it is there", list(names_at(club, f"{TOP}/cellar")), ["list.xlsx"])
     browser.press("Undo")
-    browser.sees("is where it was", "#notices")
+    browser.sees("is there again", "#notices")
     differs("it is back", names_at(club, f"{TOP}/cellar"), {})
     choose_both(club)
     browser.script(DRAG, tr("notes 2.txt"), "//*[@class='way']/li[1]")
     browser.sees("2 things are now /.", "#notices")
     differs("both are above", {"list.xlsx", "notes 2.txt"} <= set(names_at(club, "/")), True)
     browser.press("Undo")
-    browser.sees("2 things are where they were", "#notices")
+    browser.sees("2 things are there again", "#notices")
+
+
+def by_clipboard(club, differs):
+    """Ctrl+X, Ctrl+C and Ctrl+V: what is chosen is moved, with Undo, or copied, also from tab to tab and under a free
+    name; a text that is marked is copied as such, and what others put into the clipboard moves nothing."""
+    browser, cellar = club.browser, f"{TOP}/cellar"
+    choose_both(club)
+    hold(browser, CTRL, "x")
+    browser.sees("2 things are cut: Ctrl V puts them into the folder that is shown.", "#notices")
+    differs("nothing is moved yet", [len(names_at(club, TOP)), names_at(club, cellar)], [6, {}])
+    club.go(f"#open/club{cellar}")
+    hold(browser, CTRL, "v")
+    browser.sees("2 things are now /frame/cellar.", "#notices")
+    differs("moved", [len(names_at(club, TOP)), sorted(names_at(club, cellar))], [4, ["list.xlsx", "notes 2.txt"]])
+    browser.press("Undo")
+    browser.sees("2 things are there again.", "#notices")
+    hold(browser, CTRL, "v")
+    club.go(f"#open/club{TOP}")
+    click(browser, "letter.docx")
+    hold(browser, CTRL, "c")
+    browser.sees("/frame/letter.docx is copied: Ctrl V puts it into", "#notices")
+    differs("cut once, pasted once", [len(names_at(club, TOP)), names_at(club, cellar)], [6, {}])
+    first, _ = browser.tab()
+    for place, name in ((TOP, "letter (2).docx"), (cellar, "letter.docx")):
+        club.go(f"#open/club{place}")
+        hold(browser, CTRL, "v")
+        browser.sees(f"/frame/letter.docx is copied to {place}/{name}.", "#notices")
+        differs(f"copied to {place}", club.bytes(f"{place}/{name}") == club.bytes(f"{TOP}/letter.docx"), True)
+    browser.close_tab()
+    browser.turn_to(first)
+    for path in f"{TOP}/letter (2).docx", f"{cellar}/letter.docx":
+        club.holds({"cmd": "REMOVE", "path": path})
+    choose_both(club)
+    hold(browser, CTRL, "x")
+    browser.sees("2 things are cut", "#notices")
+    club.go(f"#open/club{cellar}")
+    browser.script("getSelection().selectAllChildren(document.querySelector('.empty'))")
+    hold(browser, CTRL, "c")
+    browser.script("getSelection().removeAllRanges()")
+    hold(browser, CTRL, "v")
+    pasted = "return new Promise((tell) => addEventListener('paste', (it) => tell([it.defaultPrevented, " \
+             "it.clipboardData.getData('text/plain')]), {once: true}))"
+    browser.script(f"window.pasted = (() => {{ {pasted} }})()")
+    hold(browser, CTRL, "v")
+    differs("a text", browser.script("return window.pasted"), [False, "Nothing is in it."])
+    differs("nothing is moved by it", [len(names_at(club, TOP)), names_at(club, cellar)], [6, {}])
 
 
 def right_click(browser):
@@ -262,6 +318,7 @@ def by_itself(club, differs):
     club.go(f"#open/club{TOP}")
     browser.follow("letter.docx")
     differs("one click downloads", len(saved(club, "letter.docx")), 45)
+    each_minute(club)
     for name in list(names_at(club, TOP)):
         if name.startswith(("screenshot", "of eve")):
             club.holds({"cmd": "REMOVE", "path": f"{TOP}/{name}"})
@@ -269,4 +326,17 @@ def by_itself(club, differs):
     club.holds({"cmd": "REMOVE", "path": "/trash"})
 
 
-SCENES = [seen_first, sorted_by, by_keys, several, dragged, menus, by_itself]
+def each_minute(club):
+    """Others' changes are seen by who does nothing at all, here after a second in the place of a minute."""
+    browser, quick = club.browser, "const slow = setInterval; setInterval = (task, time) => slow(task, time / 60);"
+    added = browser.ask("POST", "/goog/cdp/execute", {"cmd": "Page.addScriptToEvaluateOnNewDocument",
+                                                      "params": {"source": quick}})
+    club.log_in("ann")
+    club.go(f"#open/club{TOP}")
+    club.holds({"cmd": "CREATE", "path": f"{TOP}/of eve too.txt", "data": ""})
+    browser.sees("of eve too.txt", ".things")
+    browser.devtools("Page.removeScriptToEvaluateOnNewDocument", identifier=added["identifier"])
+    club.log_in("ann")
+
+
+SCENES = [seen_first, sorted_by, by_keys, several, dragged, by_clipboard, menus, by_itself]

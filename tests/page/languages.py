@@ -34,7 +34,7 @@ def chosen(club, differs):
     club.go("#open/club/plans")
     differs("it is kept", browser.sees("Hochladen", "main"), True)
     of_user(browser, "Hilfe")
-    differs("help too", browser.sees("Wie es geht", "dialog"), True)
+    differs("help too", browser.sees("Hilfe", "dialog"), True)
     browser.press("Schließen", "//dialog[@open]")
     of_user(browser, "English")
     browser.sees("+ New", "main")

@@ -18,11 +18,11 @@ def full(club, differs):
     for name in "one", "two":
         club.go("#open/club/limits/year")
         make_new(browser, "New folder")
-        said = "/limits/year is full: it has 256 things in it. What you make goes into /limits/year (2), beside it."
+        said = "/limits/year is full: it has 256 things. What you make goes into /limits/year (2), beside it."
         differs("it is said before", browser.sees(said, "dialog"), True)
         browser.fill("Name", name)
         browser.press("Make")
-        browser.sees(f"Folder {name} is made.", "#notices")
+        browser.sees(f"{name} is made.", "#notices")
         differs("where it is is shown", browser.sees("year (2)", "h1"), True)
     differs("both are there", club.names("/limits/year (2)"), ["one", "two"])
     differs("its list", own(club, "/limits/year (2)"), [(0, 3, 0x1200A9, "eve")])
@@ -42,11 +42,11 @@ def long_names(club, differs):
     club.go("#open/club/limits")
     make_new(browser, "New document")
     browser.fill("Name", LONG)
-    browser.sees("This name counts as 81 letters, and 64 are the most", "dialog")
+    browser.sees("This counts as 81 letters, and 64 are the most", "dialog")
     browser.press(f"Shorten it to {SHORT}", "//dialog[@open]")
     browser.until("it is told no more", lambda: "counts as" not in browser.shown())
     browser.press("Make", "//dialog[@open]")
-    browser.sees(f"Document {SHORT} is made.", "#notices")
+    browser.sees(f"{SHORT} is made.", "#notices")
     files = [on_disk(club, f"long/{name}", name.encode()) for name in (LONG, f"{LONG[:-4]} again.txt", "short.txt")]
     put(club, "/limits", *files)
     browser.sees("2 of 3 cannot be uploaded", "dialog")
@@ -90,7 +90,7 @@ def many_names(club, differs):
     share(browser, "eve", "work in it")
     browser.sees("The list would have 34 entries, and 32 are the most. Share it with a group", ".share")
     share(browser, "bob", "work in it")
-    browser.sees("The group eng has nobody besides.", ".share")
+    browser.sees("The group eng has 0 other members.", ".share")
     browser.press("Share it with eng, in place of 2 of its members")
     browser.press("Set it all the same")  # (of the others none is in this roster)
     browser.sees("Checked: the group eng can get there, and do it.", "#notices")

@@ -104,14 +104,14 @@ def is_not_cleared(club, differs):
         file.write(bytes(70_000))
     made(club, "/planted/films")
     club.go("#open/club/planted/films")
-    choose(browser, "Upload files", at)
+    choose(browser, "Upload", at)
     browser.sees("uploaded", "#notices")
     made(club, "/planted/finance")
     made(club, "/planted/finance/salaries", b"ann's")
     club.holds({"cmd": "RENAME", "path": "/planted/finance", "to": f"/planted/films/video.bin/{GONE}"})
     club.go("#open/club/planted/films/video.bin")
     choose(browser, "Upload a new version", at)
-    browser.press("Replace it", "//dialog[@open]")
+    browser.press("Replace", "//dialog[@open]")
     browser.sees("is no part of a file, whatever its name: look at it", "#notices")
     differs("what is in it", club.text(f"/planted/films/video.bin/{GONE}/salaries"), "ann's")
 
@@ -145,7 +145,7 @@ def takes_no_memory(club, differs):
     browser.until("the small one alone", lambda: browser.script(
         "return document.querySelectorAll('.small-picture img').length") == 1 and browser.script(count) == 1)
     club.go("#open/club/planted/pictures/vast.png")
-    browser.sees("This is no text that can be shown", "main")
+    browser.sees("This cannot be shown here", "main")
     differs("no picture", browser.script("return document.querySelectorAll('main img').length"), 0)
 
 
@@ -161,7 +161,7 @@ def copies_open_nothing(club, differs):
             file.write(bytes(size))
         club.go("#open/club/planted/salary.txt")
         choose(browser, "Upload a new version", at)
-        browser.press("Keep the old one too", "//dialog[@open]")
+        browser.press("Keep both", "//dialog[@open]")
         browser.sees("uploaded", "#notices")
         kept = [it for it in club.names("/planted") if it.startswith("salary (")]
         lists = [club.holds({"cmd": "GETLIST", "path": f"/planted/{it}"}) for it in kept]
@@ -190,7 +190,7 @@ def keeps_the_rest(club, differs):
         club.holds({"cmd": "RENAME", "path": f"/planted/{name}", "to": f"{TRASH}/{name}"})
     club.go(f"#open/club{quote(TRASH)}")
     browser.press("Empty the trash")
-    browser.press("Remove all of it", "//dialog[@open]")
+    browser.press("Empty the trash", "//dialog[@open]")
     browser.until("the others are gone", lambda: club.names(TRASH) == ["a"])
     differs("it is told", browser.sees("1 of ", "#notices") and browser.sees(" failed", "#notices"), True)
 

@@ -1,13 +1,18 @@
-"""Scenes of the page: a room of a thousand users."""
+"""Scenes of the page: a room of a thousand users and three thousand files."""
 import json
 import os
 import time
 
+from served import Line, session, slot
 from sharing import ALL, GROUP, PASS, VIEW
 
 TOP = "/school"
 CLASSES = [f"class{at:02}" for at in range(1, 41)]
 SHOWN = CLASSES[:8]  # those that have a folder
+PAPERS = "/papers"
+YEARS = [f"{PAPERS}/{at}" for at in range(2001, 2013)]
+IN_YEAR = [f"minutes {at}.txt" for at in range(50)] + [f"paper {at}.txt" for at in range(200)]
+FOUND = "return document.querySelectorAll('.found li').length"
 HEADS = "return [...document.querySelectorAll('.matrix thead th')].map((it) => it.innerText.trim())"
 CELLS = ("const all = (it) => [...document.querySelectorAll(`.matrix ${it}`)];"
          "const at = all('thead th').findIndex((it) => it.innerText.trim() === arguments[0]);"
@@ -69,11 +74,61 @@ def found_so_far(club, differs):
     browser.act("//header//input[@type='search']", "value", {"text": "plan\ue007"})
     browser.sees("7 found among", "main")
     differs("how far", browser.sees("8 of 9 folders that are known so far", "main"), True)
-    found = "return document.querySelectorAll('.found li').length"
-    differs("what it found", browser.script(found), 7)
+    differs("what it found", browser.script(FOUND), 7)
     club.lossy.go_on()
     browser.sees("That is all.", "main")
-    differs("all of it", browser.script(found), 8)
+    differs("all of it", browser.script(FOUND), 8)
+
+
+def make_papers(club):
+    """Twelve folders of 250 files, made at the room's own port, a folder's at once. The teachers may view them."""
+    list_ = [{"type": 0, "flag": 3, "mask": ALL, "who": "OWNER@"},
+             {"type": 0, "flag": GROUP | 3, "mask": VIEW, "who": "teachers"}]
+    club.holds({"cmd": "MKDIR", "path": PAPERS})
+    club.holds({"cmd": "SETLIST", "path": PAPERS, "aclflag": 2, "entries": list_})
+    line, sid, done = Line(club.room.port), "5c" * 16, 0
+    try:
+        line.ask(session(1, sid))
+        for year in YEARS:
+            steps = [{"cmd": "MKDIR", "path": year}]
+            steps += [{"cmd": "CREATE", "path": f"{year}/{name}", "data": ""} for name in IN_YEAR]
+            line.send(b"".join(slot(0, at, step, sid=sid) for at, step in enumerate(steps, done + 1)))
+            codes = {json.loads(line.answer().body)["code"] for _ in steps}
+            assert codes == {0}, (year, codes)
+            done += len(steps)
+    finally:
+        line.close()
+
+
+def among_all(club, differs):
+    """Among 3,000 files the search shows what it found so far, and how far it is, and ends with all of them."""
+    browser = club.browser
+    make_papers(club)
+    club.go(f"#open/club{PAPERS}")
+    club.lossy.hold('"LIST"', "2007")
+    browser.act("//header//input[@type='search']", "clear")
+    browser.act("//header//input[@type='search']", "value", {"text": "MINUTES\ue007"})
+    browser.sees("550 found among 2761 names.", "main")
+    differs("how far", browser.sees("Looking: 12 of 13 folders that are known so far", "main"), True)
+    differs("what it found, as far as that is shown", browser.script(FOUND), 500)
+    browser.sees("The first 500 are shown.", "main")
+    club.lossy.go_on()
+    differs("all of it", browser.sees("600 found among 3012 names. The first 500 are shown. That is all.", "main"),
+            True)
+
+
+def among_many(club, differs):
+    """The matrix of 250 files and a thousand users, narrowed to a class: forty rows, and forty more, so narrowed."""
+    browser, rows = club.browser, "return document.querySelectorAll('.matrix tbody tr').length"
+    club.go(f"#who/club{YEARS[0]}")
+    browser.act("//main//input[@type='search']", "value", {"text": "class07\ue007"})
+    browser.sees("(20 shown of 24 users, 1 groups)", "label")
+    heads = ["class07 (25)", *(f"class07.pupil{at:02}" for at in range(20))]
+    differs("a class", [browser.script(HEADS)[1:], browser.script(rows)], [heads, 40])
+    differs("its teacher may", browser.script(CELLS, "class07 (25)")[1:3], ["shut out / view"] * 2)
+    browser.press("Show more (211 are left)")
+    browser.sees("Show more (171 are left)", "main")
+    differs("and more of them", [browser.script(HEADS)[1:], browser.script(rows)], [heads, 80])
 
 
 def thousand(club, differs):
@@ -87,6 +142,8 @@ def thousand(club, differs):
     club.browser.go("about:blank")
     who_may(club, differs, users)
     found_so_far(club, differs)
+    among_all(club, differs)
+    among_many(club, differs)
     write_roster(club, before)
     club.holds({**set_, "entries": top["entries"]})
     club.browser.go("about:blank")

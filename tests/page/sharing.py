@@ -40,7 +40,7 @@ def after_saving(club, differs):
     browser.sees("Not all of them can", "dialog")
     where = "The list of /board does not let bob pass, so they cannot get there."
     differs("who, and where", browser.sees(where, "dialog"), True)
-    browser.press("Leave it so")
+    browser.press("Close", "//dialog[@open]")
     differs("it is told", browser.sees("The list is set. Not all can get there, or do it: bob.", "#notices"), True)
     differs("nothing else is set", own(club, top), [(0, 3, ALL, "OWNER@")])
     club.holds({"cmd": "SETLIST", "path": f"{top}/plans", "aclflag": 1, "entries": []})

@@ -27,7 +27,7 @@ def refusal(name):
 
 def sends(browser, *paths):
     """Chooses files, and leaves what is told as it is."""
-    browser.act("//main//input[@type='file' and @aria-label='Upload files']", "value", {"text": "\n".join(paths)})
+    browser.act("//main//input[@type='file' and @aria-label='Upload']", "value", {"text": "\n".join(paths)})
 
 
 def lines(browser):
@@ -50,9 +50,9 @@ def failed(club, differs):
     club.log_in("eve")
     club.go(f"#open/club{TOP}")
     sends(browser, *files.values())
-    browser.press("Replace what is there")
+    browser.press("Replace", "//dialog[@open]")
     browser.sees("7 files uploaded: 35 bytes in", "#notices")
-    differs("how many", browser.sees("3 of 10 files failed:", "#notices"), True)
+    differs("how many", browser.sees("3 of 10 failed:", "#notices"), True)
     three = sorted(map(refusal, SHUT))
     differs("each by name and reason", lines(browser), three)
     sends(browser, on_disk(club, "told/one more", b""))
@@ -71,7 +71,7 @@ def failed(club, differs):
         name = SHUT[left]
         set_alone(club, f"{TOP}/{name}", eve=EDIT)
         sends(browser, files[name])
-        browser.press("Replace what is there")
+        browser.press("Replace", "//dialog[@open]")
         browser.until(f"{name} went well", lambda: club.text(f"{TOP}/{name}") == name)
         browser.until("its fault goes", lambda: lines(browser) == sorted(map(refusal, SHUT[:left])))
     differs("nothing is left of them", "failed" in browser.script(NOTICES), False)
@@ -128,17 +128,17 @@ def copies(club, differs):
     club.log_in("eve")
     club.go(f"#open/club{TOP}/{NAMES[0]}")
     browser.press("Copy", "//main")
-    browser.press("Copy it there")
+    browser.press("Copy", "//dialog[@open]")
     differs("where it is", browser.sees("That is where it is: choose another folder above", "dialog"), True)
     to_folder(browser, "club")
     browser.sees("To the folder club", "dialog")
-    browser.fill("Name there", "copied")
-    browser.press("Copy it there")
+    browser.fill("Name", "copied")
+    browser.press("Copy", "//dialog[@open]")
     differs("the refusal", browser.sees("The list of / does not allow you to make documents in it.", "dialog"), True)
     differs("what was typed", browser.script("return document.querySelector('dialog input').value"), "copied")
     to_folder(browser, "told")
     browser.sees(f"To the folder {TOP}", "dialog")
-    browser.press("Copy it there")
+    browser.press("Copy", "//dialog[@open]")
     browser.sees(f"is copied to {TOP}/copied.", "#notices")
     differs("it is copied", club.holds({"cmd": "STAT", "path": f"{TOP}/copied"}, "eve")["size"], len(NAMES[0]))
     club.log_in("ann")

@@ -31,7 +31,7 @@ def names(club, differs):
     differs("in the matrix", browser.sees("invoice⟨U+202E⟩gpj.exe", ".matrix"), True)
     club.go("#open/club/plans")
     make_document(browser, "  cafe\u0301 ", "")
-    browser.sees("Document café is made.")
+    browser.sees("café is made.")
     differs("it is sent composed, without blanks", "caf\u00e9" in club.names("/plans"), True)
     for name in club.names("/plans"):
         if name not in ("june.txt",):
@@ -134,7 +134,7 @@ def at_work(club, differs):
     dim = "return Number(getComputedStyle(document.querySelector('dialog[open] form')).opacity)"
     browser.until("it is dim", lambda: browser.script(dim) < 0.7)
     lossy.go_on()
-    browser.sees("Folder slow is made.")
+    browser.sees("slow is made.")
     club.holds({"cmd": "REMOVE", "path": "/plans/slow"})
 
 
@@ -193,7 +193,7 @@ def conflicts(club, differs):
 def both_in_one(club, differs):
     """Whoever saw the other's text goes on with the own one, and puts both together, unless another came since."""
     browser, path = club.browser, "/plans/june.txt"
-    told = "Nothing was replaced yet."
+    told = "Nothing is replaced yet."
     browser.press("Edit")
     browser.fill("Text", "mine")
     for theirs in "theirs again", "theirs once more":
@@ -220,7 +220,7 @@ def lists_at_once(club, differs):
     browser.press("Save the list")
     differs("an unknown user is pointed out", browser.sees("nobody-here is no user", "dialog"), True)
     browser.press("Set it all the same")
-    browser.sees("Somebody changed this list meanwhile", "dialog")
+    browser.sees("Somebody changed this meanwhile", "dialog")
     differs("their list", browser.sees("Allow the user bob to read it.", "dialog"), True)
     differs("my list", browser.sees("Allow the user nobody-here to view.", "dialog"), True)
     browser.press("Take theirs")
@@ -238,7 +238,7 @@ def stays(club, differs):
     club.go("#open/club/long")
     by_menu(browser, "40.txt", "Rename")
     top = browser.script("return Math.round(scrollY)")
-    browser.fill("New name", "40 b.txt")
+    browser.fill("Name", "40 b.txt")
     browser.press("Rename", "//dialog[@open]")
     browser.sees("is now /long/40 b.txt")
     browser.until("at rest", lambda: browser.script(FOCUS) == "More for 40 b.txt")
@@ -246,7 +246,7 @@ def stays(club, differs):
     differs("it stands where it stood", [top > 100, moved < 80], [True, True])  # (a notice takes a line or two)
     browser.follow("40 b.txt")
     browser.press("Rename", "//main")
-    browser.fill("New name", "40 c.txt")
+    browser.fill("Name", "40 c.txt")
     browser.press("Rename", "//dialog[@open]")
     browser.sees("40 c.txt", "h1")
     browser.script("history.back()")
@@ -264,8 +264,8 @@ def one_vocabulary(club, differs):
     differs("words of rights", sorted(told[0]), ours)
     differs("sets", sorted(map(tuple, told[1])), sorted(it for it in SETS.items() if it[0] != "none"))
     of_user(club.browser, "Help")
-    club.browser.sees("How it works", "dialog")
-    help_ = " ".join(club.browser.script("return document.getElementById('help-page').textContent").split())
+    club.browser.sees("Help", "dialog")
+    help_ = " ".join(club.browser.script("return document.querySelector('dialog[open]').textContent").split())
     club.browser.press("Close", "//dialog[@open]")
     for entry in ({"type": 1, "flag": 0x43, "mask": SETS["all"], "who": "guests"},
                   {"type": 0, "flag": 3, "mask": SETS["view"], "who": "EVERYONE@"}):

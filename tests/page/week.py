@@ -20,7 +20,7 @@ def looks_around(club, browser, _):
     """1: opens a folder, and comes back by the way above it"""
     club.go("#open/club")
     browser.follow("week")
-    browser.sees("Nothing is in this folder.", "main")
+    browser.sees("Nothing is in it.", "main")
     browser.follow("club")
     browser.sees("week", ".things")
     browser.follow("week")
@@ -31,14 +31,14 @@ def makes_a_folder(_, browser, __):
     make_new(browser, "New folder")
     browser.fill("Name", "2027")
     browser.press("Make")
-    browser.sees("Folder 2027 is made.")
+    browser.sees("2027 is made.")
     browser.follow("2027")
 
 
 def writes_minutes(club, browser, differs):
     """3: writes the minutes"""
     make_document(browser, "minutes.txt", "Present: all\nMusic: 250")
-    browser.sees("Document minutes.txt is made.")
+    browser.sees("minutes.txt is made.")
     differs("the minutes", club.text(f"{TOP}/2027/minutes.txt"), "Present: all\nMusic: 250")
 
 
@@ -63,7 +63,7 @@ def uploads_files(club, browser, differs):
     """6: uploads three files at once"""
     club.go(f"#open/club{TOP}/2027")
     files = {"letter.txt": b"Dear members", "members.csv": b"ann;bob", "statutes.pdf": PDF}
-    sends(browser, "Upload files", *(on_disk(club, name, data) for name, data in files.items()))
+    sends(browser, "Upload", *(on_disk(club, name, data) for name, data in files.items()))
     differs("files", [held(club, f"{TOP}/2027/{name}") == data for name, data in files.items()], 3 * [True])
 
 
@@ -80,7 +80,7 @@ def uploads_a_folder(club, browser, differs):
 def looks_at_a_picture(_, browser, differs):
     """8: looks at one of them, and goes back"""
     browser.follow("band.png")
-    browser.until("it", lambda: browser.script("return document.querySelector('img.picture')?.complete"))
+    browser.until("it", lambda: browser.script("return document.querySelector('.picture img')?.complete"))
     browser.script("history.back()")
     differs("back", browser.sees("tent.png", ".things"), True)
     browser.follow("2027")
@@ -98,7 +98,7 @@ def replaces_a_file(club, browser, differs):
     browser.press("More for members.csv")
     browser.sees("Upload a new version", ".menu")
     choose(browser, "Upload a new version", on_disk(club, "new.csv", b"ann;bob;eve"))
-    browser.press("Keep the old one too")
+    browser.press("Keep both")
     browser.sees("uploaded", "#notices")
     old = next(it for it in names_at(club, f"{TOP}/2027") if it.startswith("members (before"))
     differs("both", [bytes_at(club, f"{TOP}/2027/{it}") for it in ("members.csv", old)], [b"ann;bob;eve", b"ann;bob"])
@@ -107,7 +107,7 @@ def replaces_a_file(club, browser, differs):
 def renames_it(club, browser, differs):
     """11: gives a document another name"""
     by_menu(browser, "letter.txt", "Rename")
-    browser.fill("New name", "letter to the members.txt")
+    browser.fill("Name", "letter to the members.txt")
     browser.press("Rename", "//dialog[@open]")
     browser.sees("is now", "#notices")
     differs("renamed", "letter to the members.txt" in names_at(club, f"{TOP}/2027"), True)
@@ -118,7 +118,7 @@ def moves_it(club, browser, differs):
     by_menu(browser, "letter to the members.txt", "Move")
     to_folder(browser, "fair")
     browser.sees(f"To the folder {TOP}/2027/fair", "dialog")
-    browser.press("Move it there")
+    browser.press("Move", "//dialog[@open]")
     browser.sees("is now", "#notices")
     differs("moved", "letter to the members.txt" in names_at(club, f"{TOP}/2027/fair"), True)
 
@@ -127,8 +127,8 @@ def copies_it(club, browser, differs):
     """13: makes next year's letter of this year's"""
     browser.follow("fair")
     by_menu(browser, "letter to the members.txt", "Copy")
-    browser.fill("Name there", "letter of 2028.txt")
-    browser.press("Copy it there")
+    browser.fill("Name", "letter of 2028.txt")
+    browser.press("Copy", "//dialog[@open]")
     browser.sees("is copied to", "#notices")
     differs("copied", bytes_at(club, f"{TOP}/2027/fair/letter of 2028.txt"), b"Dear members")
 
@@ -158,7 +158,7 @@ def throws_away(club, browser, differs):
     browser.press("Remove", "//dialog[@open]")
     browser.sees("is in the trash.", "#notices")
     club.go("#open/club")
-    browser.follow("Your trash")
+    browser.follow("Trash of ann")
     by_menu(browser, "minutes.txt", "Put back")
     browser.sees("is there again.", "#notices")
     differs("the minutes are back", "minutes.txt" in names_at(club, f"{TOP}/2027"), True)
@@ -172,8 +172,8 @@ def empties_the_trash(club, browser, differs):
     browser.sees("is in the trash.", "#notices")
     club.go(f"#open/club{quote(TRASH)}")
     browser.press("Empty the trash")
-    browser.press("Remove all of it")
-    browser.sees("The trash is empty.", "#notices")
+    browser.press("Empty the trash", "//dialog[@open]")
+    browser.sees("letter of 2028.txt is removed.", "#notices")
     differs("gone", names_at(club, TRASH), {})
 
 
@@ -206,7 +206,7 @@ def works_beside_somebody(club, browser, differs):
     told = club.holds({"cmd": "WRITE", "path": path, "data": club.base64(b"Dear all")}, "eve")
     differs("eve may", told["code"], 0)
     browser.press("Replace")
-    browser.sees("Somebody changed this document meanwhile", "dialog")
+    browser.sees("Somebody changed this meanwhile", "dialog")
     browser.press("Keep mine as a copy")
     browser.sees("Yours is kept as letter to the members (copy of ann).txt.", "#notices")
     club.log_in("eve")
