@@ -9,7 +9,7 @@ import traceback
 
 from room_client.faults import Fault
 
-from . import bodies, methods, props
+from . import bodies, locking, moving, props, reading, writing
 from .asked import Asked, Reply
 from .bodies import DAV
 from .faults import Answered, LATER, REASONS, as_answered
@@ -20,13 +20,12 @@ from .passing import MOST_BYTES as MOST_PASSING, Passing
 from .seats import Seats
 from .seen import Seen
 from .tree import sum_of
-from .visit import file_of_front
 
 MOST_BODY = 1 << 24
 HEAVY, MOST_HEAVY = 1 << 20, 2  # bytes; so many files of more are under way at once, each of which takes some 60 MB
-METHODS = {"GET": methods.get, "HEAD": methods.get, "PUT": methods.put, "DELETE": methods.delete,
-           "MKCOL": methods.mkcol, "COPY": methods.copy, "MOVE": methods.move, "LOCK": methods.lock,
-           "UNLOCK": methods.unlock, "PROPFIND": props.propfind, "PROPPATCH": props.proppatch}
+METHODS = {"GET": reading.get, "HEAD": reading.get, "PUT": writing.put, "DELETE": writing.delete,
+           "MKCOL": writing.mkcol, "COPY": moving.copy, "MOVE": moving.move, "LOCK": locking.lock,
+           "UNLOCK": locking.unlock, "PROPFIND": props.propfind, "PROPPATCH": props.proppatch}
 ALLOW = ", ".join(["OPTIONS", *METHODS])
 OFFERED = [("DAV", "1, 2"), ("Allow", ALLOW), ("MS-Author-Via", "DAV")]
 GUARDED = [  # what people put into a room is no page of this site
@@ -40,7 +39,6 @@ class Gate:
 
     def __init__(self, front: str, folder: str, patience: float = 60.0):
         os.makedirs(folder, mode=0o700, exist_ok=True)
-        self.front = front
         self.seats, self.locks = Seats(front, folder, patience), Locks(os.path.join(folder, "locks"))
         self.seen, self.memory, self.passing = Seen(os.path.join(folder, "seen")), Memory(), Passing()
         self.heavy = threading.BoundedSemaphore(MOST_HEAVY)
@@ -96,11 +94,11 @@ class Gate:
     # Above the rooms
 
     def need_login(self, asked: Asked, target: str) -> bytes:
-        status, told = file_of_front(self.front, asked.user, asked.password, target)
+        status, told = self.seats.file_of_front(asked.user, asked.password, target)
         if status == 401:
             raise Answered(401, "the login or its password is wrong")
         if status != 200:
-            raise Answered(503 if status == 429 else 502, f"the front answered {status}")
+            raise Answered(502, f"the front answered {status}")
         return told
 
     def rooms(self, asked: Asked) -> Reply:

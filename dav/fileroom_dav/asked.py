@@ -39,9 +39,9 @@ class Asked:
                    environ.get("HTTP_HOST", ""), environ)
 
     def body(self, most: int) -> bytes:
-        """(To be read once.)"""
         if self.length > most:
             raise Answered(413, f"that is longer than {most} bytes")
+        self.environ["wsgi.input"].seek(0)  # (a visit that begins anew reads it again)
         body = self.environ["wsgi.input"].read(self.length)
         if len(body) != self.length:
             raise Answered(400, "the body is cut short")

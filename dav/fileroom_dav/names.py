@@ -1,5 +1,6 @@
 """Paths: of a URL, and of a room. What a request names is looked at here before anybody is asked."""
 import re
+from unicodedata import normalize
 from urllib.parse import quote, unquote_to_bytes, urlsplit
 
 from room_client.manifest import PART, is_hidden
@@ -78,13 +79,8 @@ def is_possible(path: str) -> bool:
         0 < len(it.encode()) <= MOST_BYTES and not CONTROLS.search(it) and not is_hidden(it) for it in names)
 
 
-def spellings(path: str) -> list[str]:
-    """What a path may be in the room: as it was given, or as it would have been made."""
-    return [it for it in dict.fromkeys([path, neat(path)]) if is_possible(it)]
-
-
 def for_making(path: str) -> str:
-    """The path of what is made."""
+    """The path of what is made, where all of it is."""
     made = neat(path)
     if made == "/" or last(made).startswith(PART) or not is_possible(made):
         raise Answered(403, f"{made}: a name has 1 to 64 bytes of UTF-8 and no control characters, does not begin with "
@@ -92,8 +88,17 @@ def for_making(path: str) -> str:
     return made
 
 
+def composed(name: str) -> str:
+    return normalize("NFC", name)
+
+
+def has_blanks(path: str) -> bool:
+    """Whether a name in it begins or ends with a blank."""
+    return neat(path) != composed(path)
+
+
 def is_passing(path: str) -> bool:
-    return path != "/" and PASSING.fullmatch(last(neat(path))) is not None
+    return PASSING.fullmatch(last(neat(path))) is not None
 
 
 def is_short_lived(path: str) -> bool:

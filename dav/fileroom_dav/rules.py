@@ -7,8 +7,8 @@ from . import locks as form
 from .asked import Asked
 from .faults import Answered, is_refused
 from .locks import Condition, Locks
-from .names import above, spellings, split_destination
-from .tree import Thing, opened
+from .names import above, split_destination
+from .tree import Thing, opened, spelled
 from .visit import Visit
 
 WRITE = 0x2  # on a folder: to add a document
@@ -25,6 +25,7 @@ class Rules:
         self.conditions = form.conditions_of(told) if told else []
         self.tokens = form.tokens_of(self.conditions)
         self.tags: dict[str, str | None] = {}
+        self.places: dict[str, str] = {}
 
     def tag(self, path: str) -> str | None:
         """Of what is at a path, `""` where it has none, or None where nothing is there."""
@@ -71,8 +72,14 @@ class Rules:
     def _is_so(self, path: str, it: Condition) -> bool:
         if it.kind == "etag":
             return bool(self.tag(path)) and self.tag(path) == it.value.removeprefix("W/")
-        held = [lock for one in spellings(path) for lock in self.locks.at(self.asked.room, one)]
-        return any(lock.token == it.value and lock.user == self.asked.user for lock in held)
+        held = [lock for lock in self.locks.of(self.asked.room)
+                if lock.token == it.value and lock.user == self.asked.user]
+        return any(lock.covers(self.place(path)) for lock in held)
+
+    def place(self, path: str) -> str:
+        if path not in self.places:
+            self.places[path] = spelled(self.visit, path)
+        return self.places[path]
 
     def need_free(self, path: str, *, is_deep: bool = False, is_member: bool = False) -> None:
         """That no lock keeps the caller from changing what is there. Whoever may not change it anyway is told what the

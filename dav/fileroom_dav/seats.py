@@ -7,7 +7,7 @@ from room_client import Settings
 from room_client.faults import Fault, SessionLost
 
 from .faults import Busy, as_answered
-from .visit import RATE, Pace, Visit
+from .visit import RATE, Pace, Visit, file_of_front
 
 SEATS = 4  # of a user in a room: so many of their requests are under way at once, others wait
 MOST_WAITING = 12  # of a user's requests; with their seats as many as a front lets through at once
@@ -80,6 +80,12 @@ class Seats:
         folder = os.path.join(self.folder, "sessions", room)
         # (no user's name has an @: the files beside this one, .lock or .1, are no other user's)
         state = os.path.join(folder, f"{user}@{number}")
-        settings = Settings(url=f"http://localhost/rooms/{room}", login=user, state=state, patience=self.patience)
-        settings.password = password
+        settings = self.settings(user, password, url=f"http://localhost/rooms/{room}", state=state)
         return Visit(settings, self.front, self.pace(user))
+
+    def settings(self, user: str, password: str, **how) -> Settings:
+        return Settings(login=user, password=password, patience=self.patience, **how)
+
+    def file_of_front(self, user: str, password: str, target: str) -> tuple[int, bytes]:
+        settings = self.settings(user, password, url="http://localhost", state="")
+        return file_of_front(self.front, settings, self.pace(user), target)

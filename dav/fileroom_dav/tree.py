@@ -11,7 +11,7 @@ from room_client.words import FOLDER
 
 from .faults import Answered, is_refused, not_there
 from .memory import Memory, Told
-from .names import below, spellings
+from .names import below, composed, is_passing, is_possible
 from .visit import Visit
 
 AT_ONCE = 32  # documents that are read for a listing: each has up to 64 KiB
@@ -46,14 +46,39 @@ def large(path: str, its: Manifest) -> Thing:
     return Thing(path, False, its.size, its.sha256[:DIGITS], its)
 
 
-def first_found(path: str, look):
-    """What `look` finds at a path as it was given, or else as it would have been made."""
-    for it in spellings(path):
-        try:
-            return look(it)
-        except Refused as fault:
-            if not is_refused(fault, "NOENT", "NOTDIR"):
-                raise
+def spelled(visit: Visit, path: str) -> str:
+    """How the room spells a path: each name as it was given, where that is there, or else with its letters composed.
+    (Most names have one spelling, and nobody is asked.)"""
+    at = ""
+    for name in path.split("/")[1:]:
+        is_kept = composed(name) == name or is_there(visit, below(at, name))
+        at = below(at, name if is_kept else composed(name))
+    return at
+
+
+def is_there(visit: Visit, path: str) -> bool:
+    """(Where the room does not tell, it refuses what is asked there next.)"""
+    try:
+        return is_possible(path) and visit.access(path, 0) == 0
+    except Refused as fault:
+        return not is_refused(fault, "NOENT", "NOTDIR")
+
+
+def standing(visit: Visit, path: str) -> str:
+    """How what is at a path is spelled in the room, if it is there."""
+    found = spelled(visit, path)
+    if not is_possible(found):
+        raise not_there(path)
+    return found
+
+
+def found_at(visit: Visit, path: str, look):
+    """What `look` finds there."""
+    try:
+        return look(standing(visit, path))
+    except Refused as fault:
+        if not is_refused(fault, "NOENT", "NOTDIR"):
+            raise
     raise not_there(path)
 
 
@@ -62,7 +87,7 @@ def opened(visit: Visit, path: str) -> Thing:
     refused."""
     if path == "/":
         return Thing(path, True)
-    return first_found(path, lambda it: _opened(visit, it))
+    return found_at(visit, path, lambda it: _opened(visit, it))
 
 
 def _opened(visit: Visit, path: str) -> Thing:
@@ -80,7 +105,7 @@ def shown(visit: Visit, path: str) -> Thing:
     if path == "/":
         visit.stat(path)
         return Thing(path, True)
-    return first_found(path, lambda it: _shown(visit, it))
+    return found_at(visit, path, lambda it: _shown(visit, it))
 
 
 def _shown(visit: Visit, path: str) -> Thing:
@@ -94,6 +119,15 @@ def _shown(visit: Visit, path: str) -> Thing:
         return Thing(path, False, its["size"])
     whole = files.large_at(visit, path)
     return large(path, whole) if whole else Thing(path, True)
+
+
+def is_folder(visit: Visit, path: str) -> bool:
+    """Of what is there: also where its list keeps the caller from looking."""
+    try:
+        names = visit.children(path)
+    except Refused as fault:
+        return not is_refused(fault, "NOTDIR")
+    return not (is_large(names) and files.manifest_in(visit, path))
 
 
 def bytes_of(visit: Visit, its: Thing) -> bytes:
@@ -110,7 +144,7 @@ def listed(visit: Visit, path: str, wants_sums: bool, memory: Memory, room: str)
     """What is at a path, and what is in it. The names are the room's of now."""
     user, mark = visit.settings.user, memory.mark(room)
     try:
-        path, names = first_found(path, lambda it: (it, visit.children(it)))
+        path, names = found_at(visit, path, lambda it: (it, visit.children(it)))
     except Answered:  # (a document is no folder)
         return shown(visit, path), []
     except Refused as fault:
@@ -121,7 +155,7 @@ def listed(visit: Visit, path: str, wants_sums: bool, memory: Memory, room: str)
         its = files.manifest_in(visit, path)
         if its:
             return large(path, its), []
-    names = {name: kind for name, kind in names.items() if not is_hidden(name)}
+    names = {name: kind for name, kind in names.items() if not is_hidden(name) and not is_passing(name)}
     before = memory.recall(room, user, path)
     told = {name: before[name] for name, kind in names.items()
             if name in before and before[name].kind == kind and (before[name].has_sum or not wants_sums)}

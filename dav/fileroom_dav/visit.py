@@ -13,8 +13,8 @@ import socket
 from dataclasses import replace
 
 from room_client import Room, Settings
-from room_client.faults import Fault, LocalFault, NoAnswer, SessionLost
-from room_client.line import Line, Lost, NotSent
+from room_client.faults import Fault, LocalFault
+from room_client.line import Answer, Line, reply_of
 from room_client.room import CHANGES
 from room_client.slots import Pace, Slot
 from room_client.state import Session, State
@@ -54,13 +54,11 @@ def line_to(front: str) -> type[Line]:
                 host, _, port = front.rpartition(":")
                 self.connection = http.client.HTTPConnection(host, int(port))
 
-        def _connect(self, seconds: float) -> None:
-            self.connection.timeout = seconds
-            try:
-                self.connection.connect()
-            except OSError as fault:
-                self.close()
-                raise NotSent(fault.strerror or str(fault)) from None
+        def ask(self, method: str, target: str, body: bytes) -> Answer:
+            status, self.text = self._answered(method, target, body)
+            return Answer(status, reply_of(self.text))
+
+        _watch = staticmethod(lambda _: None)  # (the other end is on this machine)
 
     return FrontLine
 
@@ -177,15 +175,14 @@ class Visit(Room):
     def stat(self, path: str) -> dict:
         return self.ask({"cmd": "STAT", "keep": False, "path": path})
 
+    def access(self, path: str, mask: int) -> int:
+        return self.ask({"cmd": "ACCESS", "keep": False, "mask": mask, "path": path})["allowed"]
 
-def file_of_front(front: str, user: str, password: str, target: str) -> tuple[int, bytes]:
-    """What the front answers to a caller's own login, beside the rooms."""
-    settings = Settings(url="http://localhost", login=user, password=password, state="")
+
+def file_of_front(front: str, settings: Settings, pace: Pace, target: str) -> tuple[int, bytes]:
+    """What the front answers to a caller's own login, beside the rooms: asked for until it is answered, as a room is."""
     line = line_to(front)(settings)
     try:
-        line.open(10.0)
-        return line._answered("GET", target, b"")
-    except (Lost, NotSent) as fault:
-        raise NoAnswer(str(fault)) from None
+        return Slot(0, line, settings, None, pace, lambda _: None).until_answered("GET", target, "").status, line.text
     finally:
         line.close()

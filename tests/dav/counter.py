@@ -22,6 +22,10 @@ PYTHON = "/usr/bin/python3"  # (Debian's, which has Debian's packages)
 PAGE = os.path.join(HERE, "..", "page")
 ROSTER = '[users]\nann = ["eng"]\nbob = ["eng", "staff"]\ncat = []\n'
 PASSWORDS = {it: f"{it}-word" for it in ("ann", "bob", "cat")}
+HERS = {"flag": 3, "mask": 0x1F07FF, "type": 0, "who": "OWNER@"}
+ANNS = HERS | {"who": "ann"}  # also what others make there
+BOB_READS = {"flag": 3, "mask": 0x1200A9, "type": 0, "who": "bob"}
+BOB_WRITES = BOB_READS | {"mask": 0x1301EF}
 
 
 @dataclass
@@ -49,7 +53,6 @@ class Counter(unittest.TestCase):
         cls.served = Served(cls.folder, ROSTER).start()
         cls.addClassCleanup(cls.served.kill)
         front = cls.path("front")
-        os.mkdir(front)
         cls.front = Front(front, PASSWORDS, {"plans": cls.served.port}, PAGE, dav=cls.path("gate.sock"),
                           opens="600r/m")
         cls.addClassCleanup(stop, cls.front.server)
@@ -115,6 +118,15 @@ class Counter(unittest.TestCase):
             yield room
 
 
+def make_folders(room, **lists):
+    """Folders of the root, into which bob may look, each with this list, which is handed down."""
+    root = room.get_list("/")
+    room.set_list("/", root["aclflag"], [*root["entries"], BOB_READS | {"flag": 0}])
+    for name, entries in lists.items():
+        room.mkdir(f"/{name}")
+        room.set_list(f"/{name}", 3, entries)
+
+
 def stop(child):
     if child:
         child.kill()
@@ -138,6 +150,7 @@ class Loser:
         self.to, self.random, self.lock = to, random.Random(seed), threading.Lock()
         self.lost, self.share = dict.fromkeys(("request", "answer", "cut"), 0), 0.0
         self.count = 0  # of requests that came
+        self.meanwhile = None  # (which request, what happens before it is handed on)
         self.listener = socket.socket(socket.AF_UNIX)
         self.listener.bind(at)
         self.listener.listen(256)
@@ -160,11 +173,20 @@ class Loser:
                 self.lost[kind] += 1
             return kind
 
+    def _let_happen(self, message):
+        with self.lock:
+            is_it, does = self.meanwhile or (lambda _: False, None)
+            if not is_it(message):
+                return
+            self.meanwhile = None
+        does()
+
     def _hand_on(self, peer):
         with contextlib.suppress(OSError), peer, socket.socket(socket.AF_UNIX) as front:
             front.connect(self.to)
             while message := read_message(peer):
                 self.count += 1
+                self._let_happen(message)
                 fate = self._fate()
                 if fate == "request":
                     return

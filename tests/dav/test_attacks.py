@@ -11,14 +11,13 @@ import types
 import unittest
 from urllib.parse import quote
 
-from counter import GATEWAY, PASSWORDS, Counter
+from counter import BOB_READS, BOB_WRITES, GATEWAY, HERS, PASSWORDS, Counter, make_folders
 from nginx import hashed, login
-from test_refusals import BOB_READS, BOB_WRITES, EXCLUSIVE, tag_of
+from test_refusals import EXCLUSIVE, tag_of
 
 sys.path += [os.path.dirname(GATEWAY), "/usr/lib/python3/dist-packages"]
 from fileroom_dav import app, bodies, faults, locks, passing, seats, seen
 
-HERS = {"flag": 3, "mask": 0x1F07FF, "type": 0, "who": "OWNER@"}
 BOB_LISTS = {"flag": 0, "mask": 0x21, "type": 0, "who": "bob"}  # and is told nothing of what is inside
 BOB_ADDS = {"flag": 0, "mask": 0x1200A3, "type": 0, "who": "bob"}
 
@@ -28,11 +27,8 @@ class Attacks(Counter):
     def setUpClass(cls):
         super().setUpClass()
         with cls.room(cls, "ann") as room:
-            entries = room.get_list("/")["entries"]
-            room.set_list("/", 0, [*entries, {"flag": 0, "mask": 0x1200A9, "type": 0, "who": "bob"}])
-            for path, more in (("/names", BOB_LISTS), ("/read", BOB_READS), ("/both", BOB_WRITES), ("/drop", BOB_ADDS)):
-                room.mkdir(path)
-                room.set_list(path, 3, [HERS, more])
+            make_folders(room, names=[HERS, BOB_LISTS], read=[HERS, BOB_READS], both=[HERS, BOB_WRITES],
+                         drop=[HERS, BOB_ADDS])
             room.create("/names/secret", b"how long is it?")
 
     # Listings of others
@@ -243,10 +239,9 @@ class Alone(unittest.TestCase):
             def read(self, *how):
                 said.append("read")
                 raise faults.Answered(400, "enough")
-        gate.heavy = Turn()
+        gate.heavy, gate.need_login = Turn(), lambda *_: b""
         for method in "PUT", "PROPFIND", "LOCK", "PROPPATCH", "MKCOL":
             gate.answer(self.asked(method, "/dav/plans/x", app.MOST_BODY, Body()))
-        gate.need_login = lambda *_: b""
         gate.answer(self.asked("PUT", "/dav/plans/._x", app.MOST_BODY, Body()))
         self.assertIn(said, ([], ["turn", "read", "over"]))
 
@@ -281,6 +276,24 @@ class Alone(unittest.TestCase):
                 break
         self.assertEqual(set(said), {503})
         self.assertEqual(its.take("plans", "bob"), 0)
+
+    def test_a_login_is_asked_for_again(self):
+        """Where the front lets no more through for now."""
+        said = [b"429 Too Many Requests", b"503 Service Unavailable", b"200 OK"]
+
+        def answers():
+            while said:
+                peer, _ = front.accept()
+                with peer:
+                    peer.recv(4096)
+                    peer.sendall(b"HTTP/1.1 %s\r\nContent-Length: 2\r\n\r\n{}" % said.pop(0))
+        with socket.socket(socket.AF_UNIX) as front:
+            front.bind(os.path.join(self.folder, "front"))
+            front.listen()
+            threading.Thread(target=answers, daemon=True).start()
+            gate = app.Gate(os.path.join(self.folder, "front"), self.folder)
+            asked = types.SimpleNamespace(user="ann", password="word")
+            self.assertEqual(gate.need_login(asked, "/whoami"), b"{}")
 
     def test_many_long_names_of_properties(self):
         """What is answered is not a thousand times what was asked."""

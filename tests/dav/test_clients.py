@@ -7,6 +7,7 @@ import unicodedata
 
 from room_client import files
 from counter import PASSWORDS, Counter
+from test_refusals import EXCLUSIVE
 
 # What has no place in a room: properties of one's own choice.
 DEAD_PROPERTIES = [("props", 6, "propset"), ("props", 26, "propmanyns"), ("props", 27, "propget"),
@@ -52,7 +53,7 @@ class Cadaver(Counter):
             self.assertEqual(room.read("/d/c.txt"), b"hello\n")
 
 
-class Rclone(Counter):
+class RcloneCounter(Counter):
     def rclone(self, *words, good=True):
         env = {**os.environ, "HOME": self.folder, "RCLONE_CONFIG": self.path("none"), "RCLONE_CONFIG_R_TYPE": "webdav",
                "RCLONE_CONFIG_R_URL": self.url(), "RCLONE_CONFIG_R_VENDOR": "other", "RCLONE_CONFIG_R_USER": "ann",
@@ -75,6 +76,8 @@ class Rclone(Counter):
                 file.write(data)
         return self.path(name)
 
+
+class Rclone(RcloneCounter):
     def test_odd_names_and_large_files(self):
         rand = random.Random(3)
         its = {"with blanks/two  of them.txt": b"a", "Käse/Öl für 5 €.txt": b"b", "100%/a#b?c;d=e&f+g.txt": b"c",
@@ -95,6 +98,13 @@ class Rclone(Counter):
         self.rclone("copy", "R:odd", down)
         self.assertEqual(subprocess.run(["diff", "-r", top, down]).returncode, 0)
 
+    def test_sync_of_a_name_with_a_blank_at_its_end(self):
+        """It is refused each time; what was taken for another file, sync removed."""
+        top = self.tree("blank", {"letter ": b"x", "letter": b"y"})
+        for _ in range(2):
+            self.assertIn("letter : Failed to copy", self.rclone("sync", "--retries", "1", top, "R:blank", good=False))
+            self.assertEqual(self.does("ann", "GET", "/blank/letter", 200).body, b"y")
+
     def test_letters_in_two_parts(self):
         """A name that comes decomposed is made composed, and found by either."""
         apart = unicodedata.normalize("NFD", "Übung.txt")
@@ -104,6 +114,24 @@ class Rclone(Counter):
             self.assertIn("Übung.txt", room.children("/"))
         self.assertEqual(self.does("ann", "GET", "/Übung.txt", 200).body, b"y")
         self.assertEqual(self.does("ann", "GET", f"/{apart}", 200).body, b"y")
+
+    def test_folders_with_letters_in_two_parts(self):
+        """What has such a name in the room is found by it, and takes new things."""
+        apart = unicodedata.normalize("NFD", "/Öl/Käse")
+        outer, inner = apart.split("/")[1:]
+        with self.room("ann") as room:
+            room.mkdir(f"/{outer}")
+        self.does("ann", "MKCOL", apart, 201)
+        for name in "ä.txt", unicodedata.normalize("NFD", "ü.txt"):
+            self.does("ann", "PUT", f"{apart}/{name}", 201, b"x")
+            self.assertEqual(self.does("ann", "GET", f"{apart}/{name}", 200).body, b"x")
+        token = self.does("ann", "LOCK", f"{apart}/{name}", 200, EXCLUSIVE).fields["lock-token"]
+        self.does("ann", "PUT", f"{apart}/{name}", 204, b"y", If=f"({token})")
+        self.does("ann", "UNLOCK", f"{apart}/{name}", 204, Lock_Token=token)
+        self.does("ann", "MOVE", f"{apart}/{name}", 201, Destination=f"{apart}/new")
+        with self.room("ann") as room:
+            self.assertEqual(room.children("/" + outer), {unicodedata.normalize("NFC", inner): "folder"})
+            self.assertEqual(sorted(room.children(f"/{outer}/Käse")), ["new", "ä.txt"])
 
     def test_many(self):
         its = {f"{it % 8}/{it}.txt": b"%d" % it for it in range(MANY)}

@@ -42,7 +42,7 @@ class Lossy(Counter):
 
 class Kills(Counter):
     is_lossy = True
-    patience = "3"
+    patience = "20"
 
     def test_no_answer(self):
         """What got no answer is not known, and the caller is told so; it is not done later."""

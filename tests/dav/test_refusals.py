@@ -4,7 +4,7 @@ import os
 import socket
 
 from room_client import files
-from counter import Counter
+from counter import ANNS, BOB_READS, BOB_WRITES, HERS, Counter, make_folders
 
 LOCKINFO = (b'<?xml version="1.0"?><D:lockinfo xmlns:D="DAV:"><D:lockscope><D:%s/></D:lockscope><D:locktype><D:write/>'
             b"</D:locktype><D:owner>me &amp; mine</D:owner></D:lockinfo>")
@@ -14,8 +14,6 @@ BOMB = (b'<?xml version="1.0"?><!DOCTYPE a [<!ENTITY b "0123456789"><!ENTITY c "
 FILE_ENTITY = (b'<?xml version="1.0"?><!DOCTYPE a [<!ENTITY b SYSTEM "file:///etc/passwd">]>'
                b'<D:lockinfo xmlns:D="DAV:"><D:lockscope><D:exclusive/></D:lockscope><D:locktype><D:write/>'
                b"</D:locktype><D:owner>&b;</D:owner></D:lockinfo>")
-BOB_READS = {"flag": 3, "mask": 0x1200A9, "type": 0, "who": "bob"}
-BOB_WRITES = {"flag": 3, "mask": 0x1301EF, "type": 0, "who": "bob"}
 
 
 def tag_of(data):
@@ -27,16 +25,9 @@ class Refusals(Counter):
     def setUpClass(cls):
         super().setUpClass()
         with cls.room(cls, "ann") as room:
-            entries = room.get_list("/")["entries"]
-            room.set_list("/", 0, [*entries, {"flag": 0, "mask": 0x1200A9, "type": 0, "who": "bob"}])
-            room.mkdir("/hers")
-            room.set_list("/hers", 3, [{"flag": 3, "mask": 0x1F07FF, "type": 0, "who": "OWNER@"}])
+            make_folders(room, hers=[HERS], read=[HERS, BOB_READS], both=[ANNS, BOB_WRITES])
             room.create("/hers/secret", b"s")
-            room.mkdir("/read")
-            room.set_list("/read", 3, [{"flag": 3, "mask": 0x1F07FF, "type": 0, "who": "OWNER@"}, BOB_READS])
             room.create("/read/it", b"r")
-            room.mkdir("/both")
-            room.set_list("/both", 3, [{"flag": 3, "mask": 0x1F07FF, "type": 0, "who": "ann"}, BOB_WRITES])
 
     def test_logins(self):
         self.does(None, "PROPFIND", "/", 401, Depth="0")
@@ -82,6 +73,28 @@ class Refusals(Counter):
             self.assertEqual(room.read("/read/it"), b"r")
             self.assertNotIn("secret", room.children("/both"))
 
+    def test_blanks_at_the_ends_of_a_name(self):
+        """It would be another thing's name, or not be found in the next listing: it is neither made nor replaced."""
+        self.does("ann", "PUT", "/both/plan", 201, b"first")
+        for name in " plan", "plan ", "new ":
+            for method, path, fields in (("PUT", f"/both/{name}", {}), ("MKCOL", f"/both/{name}", {}),
+                                         ("LOCK", f"/both/{name}", {}), ("PUT", f"/both/{name}/it", {}),
+                                         ("MOVE", "/both/plan", {"Destination": f"/both/{name}"}),
+                                         ("COPY", "/both/plan", {"Destination": f"/both/{name}"})):
+                got = self.does("ann", method, path, 403, EXCLUSIVE if method == "LOCK" else b"", **fields)
+                self.assertIn("blank", got.body.decode(), (method, name))
+            self.does("ann", "DELETE", f"/both/{name}", 404)
+            self.does("ann", "GET", f"/both/{name}", 404)
+        self.assertEqual(self.does("ann", "GET", "/both/plan", 200).body, b"first")
+        self.assertEqual([it for it in self.names("ann", "/both") if "new" in it], [])
+        with self.room("ann") as room:
+            room.create("/both/kept ", b"k")
+        self.does("ann", "PUT", "/both/kept ", 204, b"other")
+        self.assertEqual(self.does("ann", "GET", "/both/kept ", 200).body, b"other")
+        self.does("ann", "MOVE", "/both/kept ", 201, Destination="/both/kept")
+        self.does("ann", "DELETE", "/both/kept", 204)
+        self.does("ann", "DELETE", "/both/plan", 204)
+
     def test_where_it_cannot_be(self):
         self.does("ann", "PUT", "/no/folder", 409, b"x")
         self.does("ann", "MKCOL", "/no/folder", 409)
@@ -90,6 +103,8 @@ class Refusals(Counter):
         self.does("ann", "MKCOL", "/x", 415, b"body")
         self.does("ann", "GET", "/both", 405)
         self.does("ann", "GET", "/no", 404)
+        self.does("ann", "GET", "/ ", 404)  # (and not the root)
+        self.does("ann", "PROPFIND", "/both/ ", 404, Depth="0")
         self.does("ann", "DELETE", "/no", 404)
         self.does("ann", "MOVE", "/no", 404, Destination="/yes")
         self.does("ann", "PUT", "/" + "n" * 65, 403, b"x")
@@ -183,6 +198,9 @@ class Refusals(Counter):
             self.does("bob", "GET", f"/{name}", 404)
         with self.room("ann") as room:
             self.assertFalse([it for it in room.children("/") if it.startswith((".", "T", "desk"))])
+            room.create("/._brought", b"by page or command")
+        self.assertFalse([it for it in self.names("ann", "/") if "._" in it])
+        self.does("ann", "GET", "/._brought", 404)
         self.does("ann", "DELETE", "/._notes.txt", 204)
         self.does("ann", "GET", "/._notes.txt", 404)
         self.does("nobody", "GET", "/.DS_Store", 401)
@@ -225,7 +243,7 @@ class Refusals(Counter):
         with self.room("ann") as room:
             room.mkdir("/trash")
             room.mkdir("/trash/ann")
-            room.set_list("/trash/ann", 3, [{"flag": 3, "mask": 0x1F07FF, "type": 0, "who": "OWNER@"}])
+            room.set_list("/trash/ann", 3, [HERS])
         self.does("ann", "PUT", "/both/gone", 201, b"g")
         self.does("ann", "DELETE", "/both/gone", 204)
         self.does("ann", "PUT", "/both/.~lock.a.odt#", 201, b"g")
@@ -233,7 +251,7 @@ class Refusals(Counter):
         with self.room("ann") as room:
             found = list(room.children("/trash/ann"))
             self.assertEqual([it[:10] for it in found], ["gone~both~"])
-            room.set_list("/trash/ann", 3, [{"flag": 3, "mask": 0x1F07FF, "type": 0, "who": "OWNER@"}, BOB_READS])
+            room.set_list("/trash/ann", 3, [HERS, BOB_READS])
         self.does("ann", "PUT", "/both/stays", 201, b"g")
         self.assertIn("trash", self.does("ann", "DELETE", "/both/stays", 403).body.decode())
         with self.room("ann") as room:

@@ -13,6 +13,7 @@ from counter import Counter, PASSWORDS
 GROUPS = {"ann": ["eng"], "bob": ["eng", "staff"], "cat": []}
 COUNT = int(os.environ.get("COUNT", "1500"))
 NAMES = ["a", "b", "c"]
+ALL_BELOW = 0x46  # on a folder: for who locks it with all that is in it
 MASKS = [0x1, 0x2, 0x4, 0x20, 0x40, 0x80, 0x10000, 0x1200A9, 0x1301EF, 0x1F07FF]
 
 
@@ -190,13 +191,15 @@ class Sight(Counter):
     def lock(self, user):
         """A lock is for who may write, and is given back at once."""
         path = self.draw()
-        want = self.model(user, "ACCESS", path, mask=2)
+        its = self.plain.things.get(parts(path))
+        mask = ALL_BELOW if its and its.is_folder else 0x2
+        want = self.model(user, "ACCESS", path, mask=mask)
         if not isinstance(want, dict):
             return
         body = (b'<D:lockinfo xmlns:D="DAV:"><D:lockscope><D:exclusive/></D:lockscope><D:locktype><D:write/>'
                 b"</D:locktype></D:lockinfo>")
         got = self.asks(user, "LOCK", path, body)
-        self.fits(got, 200 if want["allowed"] else 403)
+        self.fits(got, 200 if want["allowed"] == mask else 403)
         if got.status == 200:
             self.fits(self.asks(user, "UNLOCK", path, Lock_Token=got.fields["lock-token"]), 204)
 
