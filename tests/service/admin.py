@@ -30,6 +30,8 @@ def a_front(machine, tally):
     """Without a room yet, and taken away again."""
     saved = os.path.join(machine.folder, "saved")
     shutil.copytree(machine.root, saved)
+    tally.differs("where nothing has begun", machine.does("check"), (
+        1, "there is no room\n    fileroom-admin room add NAME OWNER GROUP, or room import FILE\n", ""))
     tally.differs("a front without a room", machine.does("front"), (
         0, "the front has the files of this program, and the rooms none\n", ""))
     tally.differs("nobody's password", text_of(machine.at("etc/nginx/fileroom/users")), "")
@@ -401,6 +403,10 @@ def certificate(machine, tally):
     tally.differs("the way to https", "server_name room.example www.room.example 127.0.0.1 [2001:db8::1];" in text_of(
         machine.at("etc/nginx/conf.d/fileroom-redirect.conf")), True)
     tally.differs("nginx reads it", machine.told(), HTTPS)
+    front = machine.does("room", "list")[1].splitlines()[-1]
+    tally.differs("where people find it", front.partition("  until ")[0], "front  " + " ".join(
+        f"https://{it}/" for it in ("room.example", "www.room.example", "127.0.0.1", "[2001:db8::1]")))
+    machine.told()
     return certified(os.path.join(folder, "next"), "DNS:room.example")
 
 
@@ -418,6 +424,10 @@ def looked_at(machine, tally):
     tally.differs("check", (listed[0], listed[1].splitlines()[0][:20], len(listed[1].splitlines())),
                   (1, "the certificate expi", 2))
     key = machine.at("etc/nginx/fileroom/tls/key.pem")
+    subprocess.run(["openssl", "x509", "-in", cert, "-signkey", key, "-days", "-1", "-out", cert], check=True,
+                   capture_output=True)
+    listed = machine.does("check")
+    tally.differs(f"one that ended: {listed}", (listed[0], listed[1][:27]), (1, "the certificate has expired"))
     for days, status in (20, 1), (23, 0):
         words = ["openssl", "req", "-x509", "-key", key, "-days", str(days), "-subj", "/CN=x", "-out", cert]
         subprocess.run(words, check=True, capture_output=True)
@@ -446,6 +456,9 @@ def looked_at(machine, tally):
         ("there is no openssl", "there is no openssl"): lambda: machine.lacks("openssl"),
         **{f"there is no {it}": lambda it=it: machine.lacks(it) for it in ("sqlite3", "curl")},
         "has no backup": lambda: shutil.rmtree(machine.at("var/backups/fileroom/club")),
+        "club has no backup": lambda: os.rename(  # (what was not looked at yet is none)
+            machine.at("var/backups/fileroom/club/2999-01-01T00-00-00Z"),
+            machine.at("var/backups/fileroom/club/.copied-2999-01-01T00-00-00Z")),
         "hours old": lambda: os.rename(machine.at("var/backups/fileroom/club/2999-01-01T00-00-00Z"),
                                        machine.at("var/backups/fileroom/club/2020-01-01T00-00-00Z")),
         "the front has no backup": lambda: os.rename(  # (as one that was killed leaves it)
@@ -531,9 +544,11 @@ def passed_by(machine, tally):
     for text in "750000\n", "x", "":
         machine.write(numbers, text)
         tally.differs(f"numbers {text!r}", machine.does("check"), (0, NOTHING, ""))
-    os.remove(machine.at(numbers))
-    os.symlink("/dev/zero", machine.at(numbers))
-    tally.differs("a link is not followed", machine.does("check"), (0, NOTHING, ""))
+    machine.write("../used-up", "750001\n")
+    for plant in lambda it: os.symlink(machine.at("../used-up"), it), os.mkfifo:
+        os.remove(machine.at(numbers))
+        plant(machine.at(numbers))
+        tally.differs("a link is not followed, nor waited at a pipe", machine.does("check"), (0, NOTHING, ""))
     os.remove(machine.at(numbers))
     club, front = machine.at("var/backups/fileroom/club"), machine.at("var/backups/fileroom-front/2999-01-01.tar.gz")
     for hours, more, found in (25, [], 0), (27, [], 1), (27, ["--backup-hours", "28"], 0):

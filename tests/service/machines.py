@@ -51,7 +51,7 @@ if [ "$1" = is-failed ]; then grep -qsxF -- "failed ${@: -1}" "$ROOT/../broken";
 at=$(mktemp -d); trap 'rm -r "$at"' EXIT
 cp -r "$ROOT/etc/nginx" "$at/nginx"
 find "$at/nginx" -name '*.conf' -exec sed -i "s,/etc/nginx,$at/nginx,g; s,/var/log/nginx,$at,; /^user /d
-    s,/var/log/fileroom,$at," {} +
+    s,/var/log/fileroom,$at,; s,/run/fileroom-front,$at," {} +
 find "$at/nginx" -name '*.conf' -exec sed -i "s,listen 443,listen 20443,; s,listen 80;,listen 20080;,;
     s,::]:443,::]:20443,; s,::]:80;,::]:20080;," {} +
 PATH=$PATH:/usr/sbin; for it in $(which -a nginx); do [ "$it" = "$0" ] || break; done

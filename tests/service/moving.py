@@ -120,7 +120,8 @@ def removed(machine, tally):
 
 
 def listed(machine, tally, name):
-    lines = machine.does("room", "list")[1].splitlines()
+    *lines, front = machine.does("room", "list")[1].splitlines()
+    tally.differs("where the front is", front, "front  http://127.0.0.1:8080/  for this machine alone")
     tally.differs("room list", [it.split("  ")[:1] + it.split("  ")[3:6] for it in lines], [
         ["club", "1 users", "backup never, 0 kept", machine.at("run/fileroom/club.sock")],
         ["plans", "2 users", f"backup {name}, 1 kept", machine.at("run/fileroom/plans.sock")]])

@@ -162,17 +162,24 @@ def owned(machine, tally):
     made = subprocess.run([backup, it.room.db, it.room.roster, folder], env=machine.env, capture_output=True, text=True)
     tally.differs(f"a backup: {made.stderr}", made.returncode, 0)
     name = os.path.basename(made.stdout.strip())
-    want = [f"kim owns 2 things in plans, by the backup {name}: /of-kim, /of-kim/a\\u202eb",
+    anew = "for a list of now: systemctl start fileroom-backup@{}; fileroom-admin user owns {}"
+    want = [f"the backup {name} of plans does not have what was done since; {anew.format('plans', 'kim')}",
+            f"kim owns 2 things in plans, by the backup {name}: /of-kim, /of-kim/a\\u202eb",
             f"kim is named in 1 lists in plans, by the backup {name}: /of-ann",
-            "to hand it over, as somebody who may set owners there: room chown -r --from kim USER:GROUP /"]
-    tally.differs("user owns", machine.does("user", "owns", "kim")[1].splitlines()[1:], want)
+            "to hand it over, as kim or who else may set owners there: room chown -r --from kim USER:GROUP /"]
+    for user, more in ("kim", want[1:]), ("nobody", []):
+        tally.differs(f"user owns {user}", machine.does("user", "owns", user)[1].splitlines(), [
+            f"what {user} owns in club is not known: club has no backup; {anew.format('club', user)}",
+            want[0].replace("kim", user), *more])
     odd_rows(machine, tally, os.path.join(folder, name))
     it.room.start()
     waited(machine, tally, it)
+    back = " ".join(["fileroom-admin user add plans kim", *roster(machine)["kim"]])
     status, said, faults = machine.does("user", "remove", "plans", "kim")
     tally.differs(f"user remove: {faults}", (status, [line for line in said.splitlines() if line in want]), (0, want))
     words = ["--url", f"http://127.0.0.1:{it.room.port}", "--room-user", "ann", "--state", machine.at("../state")]
-    line = want[2].partition(": room ")[2].replace("USER:GROUP", "lee:eng").split()
+    tally.differs("how kim comes back", f"to bring kim back: {back}\n" in said, True)
+    line = want[3].partition(": room ")[2].replace("USER:GROUP", "lee:eng").split()
     done = subprocess.run([sys.executable, "-B", CLIENT, *words, *line], capture_output=True, text=True)
     tally.differs(f"the line: {done.stderr}", (done.returncode, done.stdout[:13]), (0, "/: 4 objects "))
     tally.differs("whose it is", it.holds("lee", "STAT", "/of-kim")["owner"], "lee")

@@ -255,8 +255,8 @@ def recover(places, tell):
             tell("undoing a change that was stopped")
             journal.undo()
     for folder in "etc/fileroom", "etc/nginx/fileroom", "etc/nginx/fileroom/rooms", "etc/nginx/fileroom/queues", \
-            "etc/nginx/fileroom/tls", "etc/nginx/conf.d", "etc/nginx/modules-enabled", "etc/nginx", "etc/logrotate.d", \
-            "var/log/fileroom":
+            "etc/nginx/fileroom/dav", "etc/nginx/fileroom/tls", "etc/nginx/conf.d", "etc/nginx/modules-enabled", \
+            "etc/nginx", "etc/logrotate.d", "var/log/fileroom":
         clear_folder(places.at(folder))
 
 

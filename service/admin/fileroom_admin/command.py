@@ -29,6 +29,9 @@ def parser():
     tls = words.add_parser("tls", help="CERT KEY: https with this certificate; http is redirected to it")
     tls.add_argument("CERT", help="the server's certificate, followed by its chain, as PEM")
     tls.add_argument("KEY")
+    dav = words.add_parser("dav", help="on ROOM, off ROOM, list: rooms for file managers (WebDAV)")
+    dav.add_argument("what", choices=["on", "off", "list"], metavar="on|off|list")
+    dav.add_argument("ROOM", nargs="?")
     words.add_parser("front", help="after an update: installs this version's files of the front")
     check = words.add_parser("check", help="reports problems of this machine, with remedies; then its status is 1")
     check.add_argument("--backup-hours", type=int, default=26, help="how many hours old the latest backup may be (26)")
@@ -103,7 +106,7 @@ def passwd(commands, given):
     commands.user_passwd(given.USER, sys.stdin.readline().rstrip("\r\n") if given.stdin else None)
 
 
-TELLS = "user list", "user owns", "group list", "room list", "room export"
+TELLS = "dav list", "user list", "user owns", "group list", "room list", "room export"
 DOES = {
     "user list": user_list,
     "user owns": lambda it, given: it.user_owns(given.USER),
@@ -124,6 +127,9 @@ DOES = {
     "group remove": lambda it, given: it.group_change(given.ROOM, given.GROUP, given.USER, False),
     "trash": lambda it, given: it.trash(given.ROOM, given.USER),
     "tls": lambda it, given: it.tls(given.CERT, given.KEY),
+    "dav on": lambda it, given: it.dav("on", given.ROOM),
+    "dav off": lambda it, given: it.dav("off", given.ROOM),
+    "dav list": lambda it, given: it.dav("list", None),
     "front": lambda it, given: it.front(),
 }
 

@@ -9,6 +9,7 @@ import re
 
 from . import rosters
 from .changes import Change
+from .dav import SERVICE, Dav, need_place
 from .moving import Rooms, units_of
 from .people import FOR_WORKERS
 from .places import CHANGES, FRONT_FILES, HERE, LISTEN, LOGINS, REDIRECT, WORKERS, Fault, asked, read, said, sample
@@ -18,9 +19,18 @@ ROOM_LISTS = "rooms.json"
 OF_ROOM = {"rooms": "room.conf", "queues": "queue.conf"}  # of the front: a folder, and the sample of a room's file
 
 
-class Commands(Rooms):
+class Commands(Rooms, Dav):
     def room_names(self):
         return json.loads(read(self.places.front(ROOM_LISTS), "[]"))
+
+    def room_list(self):
+        """And where people find them."""
+        super().room_list()
+        if " ssl" in read(self.places.at(LISTEN), ""):
+            cert = self.places.front("tls/cert.pem")
+            self.say(f"front  {' '.join(f'https://{it}/' for it in names_of(cert))}  until {end_of(cert)}")
+        elif self.places.rooms():
+            self.say("front  http://127.0.0.1:8080/  for this machine alone")
 
     def room_add(self, room, owner, group):
         places = self.places
@@ -97,6 +107,11 @@ class Commands(Rooms):
             self.put_place(change, room)
             change.put(self.places.front(f"rooms/{room}.users.json"), rosters.page_copy(read(self.places.roster(room))))
         change.put(self.places.front(ROOM_LISTS), json.dumps(rooms) + "\n")
+        before = self.dav_rooms()
+        with_dav = [it for it in before if it in rooms]
+        if with_dav:
+            need_place(self.places)
+        self.put_dav(change, before, with_dav)
         names = re.search(r'server_name ([^";]+);', read(self.places.at(REDIRECT), ""))
         if names:
             change.put(self.places.at(REDIRECT), sample("redirect.conf").replace("@NAMES@", names[1]))
@@ -106,6 +121,9 @@ class Commands(Rooms):
             change.then("systemctl", "reload-or-restart", "fileroom-ports")
             change.then("systemctl", "enable", "--now", *(f"fileroom-try@{it}.timer" for it in rooms))
             change.then("systemctl", "try-restart", *map(self.places.unit, rooms))
+        self.serve_dav(change, before, with_dav)
+        if with_dav:
+            change.then("systemctl", "try-restart", SERVICE)
         change.happen()
         self.say(f"the front has the files of this program, and the rooms {', '.join(self.places.rooms()) or 'none'}")
 

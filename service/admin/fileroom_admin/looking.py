@@ -1,6 +1,5 @@
 """`fileroom-admin check`: what is wrong with a machine, each finding with its remedy."""
 import contextlib
-import datetime
 import glob
 import grp
 import json
@@ -11,9 +10,10 @@ import shutil
 import stat
 import time
 
-from . import rosters
+from . import dav, rosters
 from .changes import JOURNAL, sum_in
 from .commands import OF_ROOM, end_of, of_room
+from .owned import made_at
 from .places import CHANGES, FRONT_FILES, HERE, LISTEN, LOGINS, SEARCHED, WORKERS, Fault, read, said, sample
 
 PROGRAMS = {"nginx": "nginx-light", "openssl": "openssl", "sqlite3": "sqlite3", "nft": "nftables", "curl": "curl",
@@ -78,6 +78,7 @@ class Findings:
     def units(self):
         """What systemd takes in the place of an installed unit, or with it, or has not read yet."""
         names = ["fileroom-ports.service", *(it for room in self.places.rooms() for it in self.places.units(room))]
+        names += [dav.SOCKET, dav.SERVICE] if dav.rooms_of(self.places) else []
         for name in sorted({*names, *map(template_of, names)}):
             for folder in BEFORE:
                 self.unit_before(self.places.at(f"{folder}/{name}"), name)
@@ -128,7 +129,9 @@ class Findings:
                          f"rm /{DEFAULT_SITE}; systemctl reload nginx")
             cert = self.places.front("tls/cert.pem")
             if said("openssl", "x509", "-noout", "-checkend", str(DAYS_LEFT * 86400), "-in", cert)[0]:
-                self.add(f"the certificate expires: {end_of(cert)}", "fileroom-admin tls, with a new one")
+                has_ended = said("openssl", "x509", "-noout", "-checkend", "0", "-in", cert)[0]
+                self.add(f"the certificate {'has expired' if has_ended else 'expires'}: {end_of(cert)}",
+                         "fileroom-admin tls, with a new one (docs/RUNNING.md, HTTPS)")
             self.mode(self.places.front("tls/key.pem"), OTHERS, "chmod 600")
 
     def others_there(self):
@@ -210,9 +213,8 @@ class Findings:
 
     def numbers(self, room):
         """(The program counts them, and `fileroom-backup` writes down the count.)"""
-        folder = self.places.backups(room)
-        names = [it for it in (os.listdir(folder) if os.path.isdir(folder) else []) if it.endswith("Z")]
-        used = count_in(os.path.join(folder, max(names), "numbers")) if names else 0
+        folder, names = self.places.backups(room), self.places.copies(room)
+        used = count_in(os.path.join(folder, names[-1], "numbers")) if names else 0
         if used > USED:
             self.add(f"{room}: of the {NUMBERS:,} numbers that it has for objects, {used:,} are used",
                      f"make a new room before they end, and copy what you need; fileroom-admin log {room} shows who "
@@ -230,22 +232,37 @@ class Findings:
             self.add("the rules of fileroom.nft are not active",
                      "systemctl enable fileroom-ports; systemctl restart fileroom-ports")
 
+    def webdav(self):
+        """(Where no room has it, nothing is looked for.)"""
+        rooms = dav.rooms_of(self.places)
+        for name, text in dav.files_of(rooms).items():
+            if read(self.places.front(name), "") != text:
+                self.add(f"/etc/nginx/fileroom/{name} is not from the installed version", FRONT_REMEDY)
+        for room in {*rooms} - {*self.places.rooms()}:
+            self.add(f"{dav.LIST} names {room}, and there is no such room", FRONT_REMEDY)
+        if not rooms:
+            return
+        if dav.lacks_parts():
+            self.add("the gateway of WebDAV lacks a package", dav.PACKAGES)
+        self.unit(dav.SOCKET)
+        if not said("systemctl", "is-failed", "-q", dav.SERVICE)[0]:
+            self.add(f"{dav.SERVICE} has failed", f"journalctl -u {dav.SERVICE} shows why")
+        self.mode(self.places.at(dav.MEETING), stat.S_IRWXO | stat.S_IWGRP, "chmod 750")
+
     def backup(self, room, hours):
-        folder = self.places.backups(room)
-        names = [it for it in (os.listdir(folder) if os.path.isdir(folder) else []) if it.endswith("Z")]
+        names = self.places.copies(room)
         if not names:
             self.add(f"{room} has no backup", f"systemctl start fileroom-backup@{room}")
             return
-        made = datetime.datetime.strptime(max(names), "%Y-%m-%dT%H-%M-%SZ").replace(tzinfo=datetime.timezone.utc)
-        age = datetime.datetime.now(datetime.timezone.utc) - made
-        if age > datetime.timedelta(hours=hours):
-            self.add(f"{room}: the latest backup is {age.total_seconds() / 3600:.0f} hours old",
+        age = time.time() - made_at(max(names))
+        if age > hours * 3600:
+            self.add(f"{room}: the latest backup is {age / 3600:.0f} hours old",
                      f"journalctl -u fileroom-backup@{room} says why")
 
     def trial(self, room):
         """(The first backups have had no week yet.)"""
         folder, week = self.places.backups(room), TRIED_DAYS * 86400
-        names = [it for it in (os.listdir(folder) if os.path.isdir(folder) else []) if it.endswith("Z")]
+        names = self.places.copies(room)
         tried = os.path.join(folder, ".tried")
         age = time.time() - os.lstat(tried if os.path.exists(tried) else os.path.join(folder, min(names))).st_mtime \
             if names else 0
@@ -291,19 +308,20 @@ def template_of(unit):
 
 
 def look(it, hours):
-    """Fills the findings."""
+    """Fills the findings. (A machine where nothing has begun lacks a room alone.)"""
     places = it.places
-    for task in it.programs, it.installed, it.front, it.passwords, it.wall:
+    has_begun = bool(places.rooms()) or os.path.exists(places.front("rooms.json"))
+    for task in it.programs, it.installed, *([it.front, it.passwords, it.wall, it.webdav] if has_begun else []):
         it.part(task)
     if not places.rooms():
-        it.add("there is no room", "fileroom-admin room add NAME OWNER GROUP")
+        it.add("there is no room", "fileroom-admin room add NAME OWNER GROUP, or room import FILE")
     for room in places.rooms():
         it.part(it.room, room)
         if it.is_here(room):
             it.part(it.backup, room, hours)
             it.part(it.trial, room)
             it.part(it.numbers, room)
-    if not places.rooms() or any(map(it.is_here, places.rooms())):
+    if has_begun and (not places.rooms() or any(map(it.is_here, places.rooms()))):
         it.part(it.backup_of_front, hours)
     for folder in places.disks():
         it.part(it.disk, folder)

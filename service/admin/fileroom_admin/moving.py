@@ -1,7 +1,6 @@
 """A whole room in one tar file, with which it moves to another machine, or is kept once it is not served any more: the
 room's file and log, roster, logins, display names, and the front's certificate."""
 import contextlib
-import datetime
 import io
 import json
 import os
@@ -24,8 +23,8 @@ CERT, KEY = "tls/cert.pem", "tls/key.pem"
 TEXTS = {ABOUT, ROSTER, LOGINS, NAMES, CERT, KEY}
 LARGEST = 1 << 20  # bytes of a text
 MOST_SAID = 4096  # bytes of what a process of the rooms' user says
-REMOVED = "var/backups/fileroom-removed"
 FRESH = 3600  # seconds: a backup that is older was not made for this
+REMOVED = "var/backups/fileroom-removed"
 NEW_HERE = os.O_WRONLY | os.O_CREAT | os.O_EXCL | os.O_NOFOLLOW | os.O_CLOEXEC
 
 
@@ -37,9 +36,8 @@ class Rooms(People):
         the program's version."""
         version = said(self.places.program, "--version")[1].split()[-1:]
         for room in self.places.rooms():
-            file, folder = self.places.file(room), self.places.backups(room)
+            file, copies = self.places.file(room), self.places.copies(room)
             size = sum(os.stat(it).st_size for it in (file, f"{file}-wal") if os.path.exists(it))
-            copies = [it for it in (os.listdir(folder) if os.path.isdir(folder) else []) if it.endswith("Z")]
             is_served = not said("systemctl", "is-active", "-q", self.places.unit(room))[0]
             self.say("  ".join([room, "served" if is_served else "not served", f"{size / (1 << 20):.2f} MiB",
                                 f"{len(self.users(room))} users", f"backup {max(copies, default='never')}, "
@@ -60,8 +58,7 @@ class Rooms(People):
             done = subprocess.run(["systemctl", "start", f"fileroom-backup@{room}"], check=False)
             if done.returncode:
                 raise Fault(f"there is no backup: journalctl -u fileroom-backup@{room}")
-            made = datetime.datetime.strptime(owned.latest(self.places, room), "%Y-%m-%dT%H-%M-%SZ")
-            if time.time() - made.replace(tzinfo=datetime.timezone.utc).timestamp() > FRESH:
+            if time.time() - owned.made_at(owned.latest(self.places, room)) > FRESH:
                 raise Fault(f"the backup of {room} that was made is not there")
 
     def pack(self, room, file):
@@ -86,7 +83,7 @@ class Rooms(People):
         """It ends, and is kept in an archive, from which `room import` brings it back."""
         self.need_room(room)
         if self.places.has_standby(room):
-            raise Fault(f"{room} has a standby: bring it back to one machine first (docs/RUNNING.md)")
+            raise Fault(f"{room} has a standby: bring it back to one machine first (man fileroom-standby)")
         archive = self.places.at(REMOVED)
         os.makedirs(archive, mode=0o700, exist_ok=True)
         path = os.path.join(archive, f"{room}-{time.strftime('%Y-%m-%dT%H-%M-%SZ', time.gmtime())}.tar")
@@ -117,6 +114,9 @@ class Rooms(People):
                      places.front(f"rooms/{room}.conf"), places.front(f"queues/{room}.conf")):
             change.remove(path)
         change.put(places.front("rooms.json"), json.dumps([it for it in places.rooms() if it != room]) + "\n")
+        with_dav = self.dav_rooms()
+        left = [it for it in with_dav if it != room]
+        self.put_dav(change, with_dav, left)
         others = {user for it in places.rooms() if it != room for user in self.users(it)}
         self.put_passwords(change, {it: None for it in users if it not in others})
         self.put_names(change, {it: None for it in users if it not in others})
@@ -124,6 +124,7 @@ class Rooms(People):
         for it in reversed(units_of(room)):
             change.then("systemctl", "disable", "--now", it, undo=("systemctl", "enable", "--now", it))
         change.then("systemctl", "stop", f"fileroom-proxy@{room}.socket", undo=("true",))
+        self.serve_dav(change, with_dav, left)
         change.then(*places.read_front())
         return change
 

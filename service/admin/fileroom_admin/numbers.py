@@ -10,7 +10,7 @@ import time
 from . import rosters
 from .changes import answers
 from .looking import Findings, end_of, look
-from .owned import latest
+from .owned import latest, made_at
 from .places import LISTEN, Fault, read, said
 
 WINDOW = 600  # seconds of the front's log that are counted
@@ -66,7 +66,7 @@ class Numbers:
 
     def backups(self, room):
         folder = self.places.backups(room)
-        names = sorted(it for it in (os.listdir(folder) if os.path.isdir(folder) else []) if it.endswith("Z"))
+        names = self.places.copies(room)
         self.add("backups", len(names), room=room)
         if not names:
             return
@@ -101,10 +101,6 @@ class Numbers:
             end = datetime.datetime.strptime(end_of(self.places.front("tls/cert.pem")), "%b %d %H:%M:%S %Y %Z")
             self.add("certificate_seconds", end.replace(tzinfo=datetime.timezone.utc).timestamp() - time.time())
         self.add("findings", len(findings.found))
-
-
-def made_at(name):
-    return datetime.datetime.strptime(name, "%Y-%m-%dT%H-%M-%SZ").replace(tzinfo=datetime.timezone.utc).timestamp()
 
 
 def size_of(folder):

@@ -1,6 +1,7 @@
 """What a user owns in a room, and which lists name the user: as the latest backup has it, since a room that is served
 lets nobody else read its file."""
 import contextlib
+import datetime
 import importlib.machinery
 import importlib.util
 import os
@@ -26,11 +27,15 @@ def of_backups():
 
 def latest(places, room):
     """The name of the latest backup."""
-    folder = places.backups(room)
-    names = [it for it in (os.listdir(folder) if os.path.isdir(folder) else []) if it.endswith("Z")]
+    names = places.copies(room)
     if not names:
         raise Fault(f"{room} has no backup")
-    return max(names)
+    return names[-1]
+
+
+def made_at(name):
+    """When a backup of that name was made."""
+    return datetime.datetime.strptime(name, "%Y-%m-%dT%H-%M-%SZ").replace(tzinfo=datetime.timezone.utc).timestamp()
 
 
 @contextlib.contextmanager
@@ -68,16 +73,20 @@ def found(places, room, user):
 
 
 def told(places, room, user, to=None):
-    """Lines about it, with the one that hands it over; none where there is nothing."""
+    """Lines about it, after how to have a list of now, and with the one that hands it over."""
     name, owns, named = found(places, room, user)
     shown = of_backups().shown
-    lines = []
+    lines = [f"the backup {name} of {room} does not have what was done since; {anew(room, user)}"]
     for what, paths in (f"owns {len(owns)} things", owns), (f"is named in {len(named)} lists", named):
         if paths:
             more = f", and {len(paths) - TOLD} more" if len(paths) > TOLD else ""
             lines.append(f"{user} {what} in {room}, by the backup {name}: "
                          f"{', '.join(map(shown, paths[:TOLD]))}{more}")
     if owns:
-        lines.append(f"to hand it over, as somebody who may set owners there: room chown -r --from {user} "
+        lines.append(f"to hand it over, as {user} or who else may set owners there: room chown -r --from {user} "
                      f"{to or 'USER'}:GROUP /")
     return lines
+
+
+def anew(room, user):
+    return f"for a list of now: systemctl start fileroom-backup@{room}; fileroom-admin user owns {user}"

@@ -131,6 +131,7 @@ class People:
 
     def user_remove(self, room, user):
         self.need_user(room, user)
+        groups = self.users(room)[user]
         change = self.change_rosters({room: {user: None}})
         elsewhere = [it for it in self.rooms_of(user) if it != room]
         if not elsewhere:
@@ -139,7 +140,8 @@ class People:
         self.happen(change, room)
         self.say(f"{user} is no user of the room {room} any more" + (
             f"; the login stays, for {', '.join(elsewhere)}" if elsewhere else ", and has no login"))
-        self.say(f"what {user} owned still belongs to {user}: give that name to nobody else")
+        self.say(f"what {user} owned still belongs to {user}: give that name to nobody else; to bring {user} back: "
+                 f"fileroom-admin user add {' '.join([room, user, *groups])}")
         self.user_owns(user, *([room] if elsewhere else self.places.rooms()))
 
     def user_rename(self, old, new):
@@ -191,7 +193,7 @@ class People:
             try:
                 lines = owned.told(self.places, room, user, to)
             except (Fault, OSError) as fault:
-                lines = [f"what {user} owns in {room} is not known: {fault}"]
+                lines = [f"what {user} owns in {room} is not known: {fault}; {owned.anew(room, user)}"]
             for it in lines:
                 self.say(it)
 

@@ -86,6 +86,12 @@ class Places:
     def backups(self, room=""):
         return self.at(os.path.join("var/backups/fileroom", room))
 
+    def copies(self, room):
+        """The names of a room's backups, the latest last. (What begins with a dot is copied, and was not looked at.)"""
+        folder = self.backups(room)
+        return sorted(it for it in (os.listdir(folder) if os.path.isdir(folder) else [])
+                      if it.endswith("Z") and it[0] != ".")
+
     def disks(self):
         """The folders of all rooms and of all backups, and those of a room that are on a disk of their own."""
         each = [it for room in self.rooms() for it in (self.state(room), self.backups(room))]
