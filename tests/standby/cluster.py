@@ -1,5 +1,5 @@
-"""RUNNING's lines for a standby, done as they stand on three machines with systemd; then Pacemaker takes the room over,
-and people who ask through the front, by https at the address that moves, notice a pause."""
+"""The lines of fileroom-standby's man page, done as they stand on three machines with systemd; then Pacemaker takes the
+room over, and people who ask through the front, by https at the address that moves, notice a pause."""
 import os
 import re
 import shutil
@@ -17,7 +17,8 @@ from standby import AS_USER, BRICK, DB, NAME, ROSTER, TOP, kept_words, look_at_t
 
 NEEDED = ("pcs", "pacemakerd", "corosync", "crm_mon", "nginx", "openssl", "sshd", "ssh-keygen", "setpriv",
           "modprobe", "fuser", "curl", "logrotate")
-SECTION = "A standby"
+PAGE = os.path.join(TOP, "service", "standby", "fileroom-standby.1")
+ROFF = {r"\-": "-", r"\(aq": "'", r"\(ti": "~", r"\(ha": "^", r"\e": "\\"}
 INSTALLED = ("client", "front", "page", "service")  # what `make install` takes from
 BOARD = "fence_ipmilan ip=.. username=.. password_script=/etc/fileroom/fence-password"
 INSTEAD = {BOARD: f"fence_laboratory ip={BRIDGE.partition('/')[0]}"}
@@ -39,7 +40,7 @@ from pcs import app
 sys.exit(app.main(sys.argv[1:]))
 """
 LISTENS = "import socket, sys; socket.create_connection((sys.argv[1], 2224), 5)"  # (systemd does not wait for that)
-PLACED = re.compile(r"\*\*On (each|the first) machine")
+PLACED = re.compile(r"\.B On (each|the first) machine")
 
 
 def say(text):
@@ -51,17 +52,24 @@ def lacking():
 
 
 def commands(heading):
-    """Each command of a part of RUNNING's section, with where it is done and the lines that it is to print."""
-    section = text_of(os.path.join(TOP, "docs", "RUNNING.md")).partition(f"\n## {SECTION}\n")[2].partition("\n## ")[0]
-    found, where = [], "first"
-    for line in section.partition(f"\n### {heading}\n")[2].partition("\n### ")[0].splitlines():
+    """Each command of a part of the man page, with where it is done and the lines that it is to print."""
+    part = re.split(r"(?m)^\.S[HS] ", text_of(PAGE).partition(f"\n.SS {heading}\n")[2])[0]
+    found, where, shown = [], "first", False
+    for line in plain(part).splitlines():
         placed = PLACED.match(line)
         where = placed[1] if placed else where
-        if line.startswith("    #> "):
-            found[-1][2].append(line[7:])
-        elif line.startswith("    ") and not line.strip().startswith("apt-get "):
-            found.append((where, line.strip(), []))
+        if line in (".EX", ".EE"):
+            shown = line == ".EX"
+        elif shown and line.startswith("#> "):
+            found[-1][2].append(line[3:])
+        elif shown and not line.startswith("apt-get "):
+            found.append((where, line, []))
     return found
+
+
+def plain(roff):
+    """What lines of a man page show."""
+    return re.sub(r"\\(?:\(..|.)", lambda it: ROFF[it[0]], roff)
 
 
 def does(machine, line, want, tally):
@@ -392,7 +400,7 @@ def looked_at(cluster, load, tally, name):
 
 
 def look_inside(machine, load, tally, name):
-    for kind, want in ("lists", load.list_report()), ("access", load.access_report()):
+    for kind, want in load.model.reports().items():
         told = machine.run(*AS_USER, "/usr/local/bin/fileroom", "report", DB, ROSTER, kind).splitlines(True)
         tally.differs(f"{name}: report {kind}", "".join(without_trashes(told)), want)
     look_at_tables(machine, load, tally, name)
@@ -529,7 +537,7 @@ def play(folder, tally, dice, kinds):
             say(f"three machines with systemd after {time.monotonic() - begin:.0f} seconds")
             load = moved_there(cluster, tally, dice)
             cluster.need_well("as the lines leave it")
-            say(f"by RUNNING's lines after {time.monotonic() - begin:.0f} seconds")
+            say(f"by the lines after {time.monotonic() - begin:.0f} seconds")
             walls(cluster, tally)
             for kind in kinds:
                 taken_over(cluster, load, tally, dice, kind)

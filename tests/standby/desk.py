@@ -103,7 +103,6 @@ def stop_and_go_on(standby, is_cut):
 def client(standby, tally, dice, folder):
     """A user at the command line notices a pause, is told why, and nothing else."""
     standby.serve(standby.machines[0])
-    os.mkdir(os.path.join(folder, "front"))
     its = Client(folder, front(os.path.join(folder, "front"), Relay(standby.where).port).port)
     tally.differs("put", its.does("put", "-", "/log").returncode, 0)
     thread = threading.Thread(target=its.play, daemon=True)
@@ -131,7 +130,6 @@ def page(standby, tally, dice, folder):
     from browser import Browser
     from club import append, make_document
     standby.serve(standby.machines[0])
-    os.mkdir(os.path.join(folder, "front"))
     port = front(os.path.join(folder, "front"), Relay(standby.where).port).port
     browser = Browser(folder)
     try:

@@ -74,7 +74,7 @@ def one_dies(at, disks, tally, dice):
     tally.need(load.fault is None, f"a disk died: {load.fault!r}")
     tally.differs("and nobody is told DELAY", load.delays, 0)
     room.kill()
-    for kind, want in ("lists", load.list_report()), ("access", load.access_report()):
+    for kind, want in load.model.reports().items():
         tally.differs(f"report {kind} from one disk", room.report(kind), (0, want.encode(), b""))
     tally.differs("SQLite finds", findings_of(room.db), [])
     print(f"standby: one of two disks died: {load.answered} answers, the slowest after "

@@ -6,8 +6,7 @@ import socket
 import threading
 import time
 
-from plain import ALL, PlainRoom, allowed
-from plain import Caller as Who
+from plain import ALL, PlainRoom
 from served import first_answer, message
 
 USERS = {"ann": ["eng"], "bob": ["eng", "staff"], "eng": []}
@@ -215,25 +214,6 @@ class Load:
 
     def paths(self):
         return sorted(self.model.things, key=lambda at: [it.encode() for it in at])
-
-    def access_report(self):
-        lines = []
-        for at in self.paths():
-            it = self.model.things[at]
-            for user in sorted(USERS):
-                mask = allowed(self.model.list_of(at), Who(user, USERS[user]), it.owner, it.group)
-                lines.append(f"{mask:08x} {user:32} /{'/'.join(at)}\n")
-        return "".join(lines)
-
-    def list_report(self):
-        lines = []
-        for at in self.paths():
-            it = self.model.things[at]
-            kind = "d" if it.is_folder else "f"
-            lines.append(f"{kind} {it.aclflag} {it.owner:32} {it.group:32} /{'/'.join(at)}\n")
-            for e in self.model.list_of(at):
-                lines.append(f"  {'AD'[e['type']]} {e['flag']:02x} {e['mask']:08x} {e['who']}\n")
-        return "".join(lines)
 
     def documents(self):
         """The bytes of each document, in the order of the paths."""

@@ -152,6 +152,13 @@ def come_back(standby, load, dice, found, tally, name):
     return whole
 
 
+def begun(standby, dice):
+    """A load that has begun where the first machine serves the room, and the three machines."""
+    load = Load(standby.where, dice.random())
+    standby.serve(standby.machines[0])
+    return load.begin(), *standby.machines
+
+
 # Locks.
 
 def refused(machine, *words):
@@ -162,10 +169,7 @@ def refused(machine, *words):
 
 def lock(standby, tally, dice):
     """While a room is served nobody else has its file, on whichever machine; then another has it at once."""
-    load = Load(standby.where, dice.random())
-    a, b, c = standby.machines
-    standby.serve(a)
-    load.begin()
+    load, a, b, c = begun(standby, dice)
     load.close_line()
     standby.mount(b)
     standby.mount(c)
@@ -227,10 +231,7 @@ def cut_off(standby, tally, dice, is_asked):
     """The machine that serves is cut off and lives on, another acts, and the link is back: whether the first acts then.
 
     `is_asked`: it gets a request while it is cut off."""
-    load = Load(standby.where, dice.random())
-    a, b, _ = standby.machines
-    standby.serve(a)
-    load.begin()
+    load, a, b, _ = begun(standby, dice)
     played(load, 1)
     need_sound(load, tally, "before the cut")
     old, due, begin = standby.program, next_numbers(load), time.monotonic()
@@ -314,10 +315,7 @@ AGAIN = "the program has not been started again"
 
 def rejoin(standby, tally, dice, is_restarted):
     """One of the others stops and comes back, then the third stops: with the hook the room goes on."""
-    load = Load(standby.where, dice.random())
-    a, b, c = standby.machines
-    standby.serve(a)
-    load.begin()
+    load, a, b, c = begun(standby, dice)
     begin = time.monotonic()
     load.start()
     time.sleep(1)
@@ -376,10 +374,7 @@ def slowest(load, since):
 
 def two(standby, tally, dice):
     """Both others stop: DELAY, also when they are back, until the hook starts the program again; all acts once."""
-    load = Load(standby.where, dice.random())
-    a, b, c = standby.machines
-    standby.serve(a)
-    load.begin()
+    load, a, b, c = begun(standby, dice)
     load.start()
     time.sleep(1)
     begin = time.monotonic()
@@ -436,10 +431,7 @@ STALE = 31  # requests that are answered while one copy is away
 
 def stale(standby, tally, dice):
     """A copy that was away comes back just as the machine that went on stops: whether answered requests are there."""
-    load = Load(standby.where, dice.random())
-    a, b, c = standby.machines
-    standby.serve(a)
-    load.begin()
+    load, a, b, c = begun(standby, dice)
     for _ in range(20):
         load.step()
     standby.kill(b)

@@ -4,7 +4,6 @@ import os
 import shutil
 import signal
 import subprocess
-import sys
 import tempfile
 import threading
 import time
@@ -254,7 +253,7 @@ class Standby:
         machine = self.on
         load.close_line()
         self.program.end()
-        for kind, want in ("lists", load.list_report()), ("access", load.access_report()):
+        for kind, want in load.model.reports().items():
             told = until(lambda: self.report(machine, kind), 30, f"a report on {machine.name}")
             tally.differs(f"{name}: report {kind}", told, want)
         look_at_tables(machine, load, tally, name)
