@@ -1,6 +1,8 @@
 # `make try` shows a room, `make test` proves and tests everything, `make build` makes the proved program.
 # Only `make test` is a verdict.
 RT ?= rt
+# (what runs the program takes the one that FILEROOM names, and proves none then)
+BUILT := $(if $(FILEROOM),,build)
 
 .PHONY: try demo quick build test wrong growth failing full wire tables upgrade crash hostile front soak client page
 .PHONY: decisions power
@@ -43,76 +45,76 @@ wrong:
 
 # Refuses each growth of memory in turn, over questions, a room, runs and all examples. `make test` tries a sample of
 # those of the examples. Needs the player of examples, as `rt run` in crates/test_examples leaves it.
-growth: build
+growth: $(BUILT)
 	RT='$(RT)' tests/growth/run
 	RT='$(RT)' tests/growth/examples --every 1
 
 # Fails reads and writes in turn, over every example. `make test` tries a sample in long streams.
-failing: build
+failing: $(BUILT)
 	RT='$(RT)' tests/failing/run
 
 # Serves rooms whose files cannot grow, as on a full disk.
-full: build
+full: $(BUILT)
 	tests/full/run
 
 # Sends a served room odd, malformed and cut messages, and the program odd words, rosters and streams.
-wire: build
+wire: $(BUILT)
 	tests/wire/run
 
 # Reads a served room with the sqlite3 program, and serves a room that it made. Needs sqlite3.
-tables: build
+tables: $(BUILT)
 	tests/tables/run
 
 # Has a room of version 1 taken over, and kills the program while it does, or leaves it no room. Needs sqlite3.
-upgrade: build
+upgrade: $(BUILT)
 	tests/upgrade/run
 
 # Kills the server in the middle of writes, 240 times (`make test` 100 times): each request acts once.
-crash: build
+crash: $(BUILT)
 	tests/crash/run
 
 # A million random questions about lists, to the program and to Samba's own check of access (`make test` asks 100,000).
 # Needs python3-samba.
-decisions: build
+decisions: $(BUILT)
 	tests/decisions/run --count 1000000
 
 # Loses the machine's power after each system call of a served room, of `init` and of the upgrade: 4,000 states of each
 # (`make test` tries 150). Needs strace.
-power: build
+power: $(BUILT)
 	tests/power/run --states 4000
 
 # Random streams against a plain model, forty clients and kills, and peers that neither send nor read. `make test` plays
 # 2,000 streams; here 50,000.
-hostile: build
+hostile: $(BUILT)
 	tests/hostile/run --streams 50000 --jobs 2 --kills 60 --pieces 40
 
 # The client of client/ against a served room: commands, refusals, lost answers, and kills of both.
-client: build
+client: $(BUILT)
 	tests/client/run
 
 # Forty clients with a password each through nginx with the files of front/, and kills. Needs nginx and openssl.
-front: build
+front: $(BUILT)
 	tests/front/run
 
 # A room on three machines, of which some die: namespaces, GlusterFS, and the settings of service/standby. By hand, and
 # not part of `make test`. Needs root, glusterfs-server, btrfs-progs and nftables; for RUNNING's lines, and
 # takeovers by Pacemaker, pacemaker, pcs, nginx-light and openssh-server; for people at a desk nginx and chromium.
 # TAKEOVERS=100 plays so many.
-standby: build
+standby: $(BUILT)
 	tests/standby/run
 
 # A Debian 12 with systemd itself, booted by systemd-nspawn: what `make dist` makes is installed there, the first day
 # done, and then attacked. By hand, and not part of `make test`. Needs root, systemd-container and debootstrap.
-machine: build
+machine: $(BUILT)
 	tests/machine/run
 
 # A million requests to one served room: its memory stays, and so does the time of a request. `make test` sends 40,000.
-soak: build
+soak: $(BUILT)
 	tests/soak/run
 
 # Does the README's first screen, with the quick build too, and the first day of docs/RUNNING.md by their own lines, and
 # times them; then tries `make try` and `make dist`. Needs nginx, openssl, sqlite3 and curl, and for the first day root.
-firstday: build
+firstday: $(BUILT)
 	tests/firstday/run
 	tests/firstday/try
 	tests/firstday/dist
@@ -120,13 +122,13 @@ firstday: build
 
 # Tries the page in a browser. Needs nginx-light, chromium and chromium-driver, and says so where they are not
 # installed.
-page: build
+page: $(BUILT)
 	tests/page/run
 
 # Times and counts the program's works; the program beside a server in C over libsqlite3; the instructions of both, and
 # as a room grows; and draws the pictures of docs/FIGURES.md. Needs sqlite3, strace, valgrind, gcc, libsqlite3-dev,
 # nginx and gnuplot.
-bench: build
+bench: $(BUILT)
 	bench/pictures
 	bench/run
 	bench/side
@@ -136,11 +138,11 @@ bench: build
 
 # Leaves build/fileroom-VERSION-COMMIT.tar.gz: the program that `make build` proved of this commit, with client, page,
 # front, units, man pages and docs. It runs on Debian 12 without the toolchain.
-dist: build
+dist: $(BUILT)
 	RT='$(RT)' tools/dist
 
 # The same as a package of Debian 12: build/fileroom_VERSION_amd64.deb, which brings what it needs.
-deb: build
+deb: $(BUILT)
 	RT='$(RT)' tools/deb
 
 # Puts the proved program that `make build` made below PREFIX, with its man pages, the client, the page, units, the
@@ -156,5 +158,5 @@ uninstall:
 
 # Installs below a folder of its own, looks at the units, kills a served room, and brings it back from a backup; kills
 # `fileroom-admin` at each of its steps (`make test` at one in four).
-service: build
+service: $(BUILT)
 	tests/service/run

@@ -3,6 +3,8 @@ import os
 import re
 import shutil
 
+from served import text_of
+
 OWNER = re.compile(r"(?:unsafe )?(?:impl\b|(?:pub )?trait )")
 HEAD = re.compile(r"( *)(?:pub(?:\([a-z ]+\))? )?(?:const |unsafe )*fn (\w+)")
 TYPE = re.compile(r"^(?:pub(?:\([a-z ]+\))? )?(?:struct|enum|trait) (\w+)", re.M)
@@ -54,11 +56,6 @@ def pieces_of(path, text):
 def paths_of(folder):
     files = (f"{above}/{name}" for above, _, names in os.walk(f"{folder}/src") for name in names)
     return sorted(os.path.relpath(it, folder) for it in files if it.endswith(".rt"))
-
-
-def text_of(file):
-    with open(file, encoding="utf-8") as it:
-        return it.read()
 
 
 def folders_of(folder):

@@ -46,6 +46,7 @@ class Front:
 
     def __init__(self, folder, users, rooms, page, port=None, **how):
         self.folder, self.users, self.page, self.port = folder, users, page, port or free_port()
+        os.makedirs(folder, exist_ok=True)
         with open(os.path.join(folder, "users"), "w") as file:
             file.writelines(f"{user}:{hashed(it)}\n" for user, it in users.items())
         words = [os.path.join(FOLDER, "start"), folder, str(self.port), page, *(f"{it}={rooms[it]}" for it in rooms)]

@@ -256,6 +256,17 @@ class PlainRoom:
         thing = self.things[at]
         return allowed(self.list_of(at), caller, thing.owner, thing.group)
 
+    def reports(self):
+        """The text of each report, with its lines as docs/RUNNING.md and LISTS have them."""
+        callers = [Caller(user, self.roster[user]) for user in sorted(self.roster, key=str.encode)]
+        access, lists = [], []
+        for at in sorted(self.things, key=lambda it: [name.encode() for name in it]):
+            it, list_, path = self.things[at], self.list_of(at), "/" + "/".join(at)
+            lists.append(f"{'d' if it.is_folder else 'f'} {it.aclflag} {it.owner:32} {it.group:32} {path}\n")
+            lists += [f"  {'AD'[e['type']]} {e['flag']:02x} {e['mask']:08x} {e['who']}\n" for e in list_]
+            access += [f"{allowed(list_, who, it.owner, it.group):08x} {who.user:32} {path}\n" for who in callers]
+        return {"access": "".join(access), "lists": "".join(lists)}
+
     def right(self, caller, at, wanted):
         missing = lowest(wanted & ~self.allowed_at(caller, at))
         if missing:

@@ -163,6 +163,14 @@ def has_file(server, name):
     return False
 
 
+def until(task, seconds=WAIT, pause=0.02):
+    """The first true value of a task, or its last one after so many seconds."""
+    end = time.monotonic() + seconds
+    while not (found := task()) and time.monotonic() < end:
+        time.sleep(pause)
+    return found
+
+
 def wait_for_port(port, server, longest=WAIT):
     """Waits until this server, and no other, listens on a port. False where it ended before."""
     end = time.monotonic() + longest
@@ -315,10 +323,11 @@ class Line:
 
 
 class Room:
-    """A room in a folder, with a server that can be started, killed and started again."""
+    """A room in a folder, which it makes, with a server that can be started, killed and started again."""
     longest = WAIT  # seconds until it listens
 
     def __init__(self, folder, roster=ROSTER, owner="ann", group="eng", made=True):
+        os.makedirs(folder, exist_ok=True)
         self.db = os.path.join(folder, "room.db")
         self.roster = os.path.join(folder, "roster.toml")
         self.server = None

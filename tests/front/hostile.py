@@ -11,7 +11,7 @@ import threading
 import time
 
 from nginx import FOLDER, Front, login
-from served import Line, message, text_of
+from served import Line, message, text_of, until
 
 OPENS_AT_ONCE, OPENS_A_MINUTE, BULK_A_SECOND = 30, 6, 2  # of front/fileroom.conf
 QUESTIONS_AT_ONCE, QUESTIONS_A_SECOND = 8, 0.5
@@ -79,7 +79,6 @@ NOT_PASSED_ON = "content-type", "set-cookie", "refresh", "clear-site-data", "x-a
 def a_room_taken_over(front, tally):
     """Whatever a room's program answers is no page of the site's, and tells nginx nothing."""
     folder = os.path.join(front.folder, "taken")
-    os.mkdir(folder)
     with socket.create_server(("127.0.0.1", 0)) as room:
         def answer():
             line, _ = room.accept()
@@ -112,7 +111,6 @@ def bytes_without_end(front, target, tally):
     A front of its own, which lets fewer pass at once.
     """
     folder, most, user = os.path.join(front.folder, "less"), 20, "u02"
-    os.mkdir(folder)
     front = Front(folder, {it: front.users[it] for it in (user, "u03")}, {"watched": front.watcher.port}, front.page,
                   bulk=most)
     strange = at_once(OPEN_AT_ONCE, lambda at: status(front.once(None, "POST", target, bytes(1000), [
@@ -177,10 +175,9 @@ def wrong_logins_are_told(front, tally):
     line.send(message(None, "GET", "/whoami", fields=front.fields(None, [login("u01", "not waited for")])))
     front.settle()
     line.close()
-    end = time.monotonic() + SOON
-    while len(told := text_of(log).splitlines()[before:]) < 3 and time.monotonic() < end:
-        time.sleep(0.05)
+    until(lambda: len(text_of(log).splitlines()) >= before + 3, SOON)
     front.settle()
+    told = text_of(log).splitlines()[before:]
     form = r'\d{4}-\d\d-\d\dT[0-9:]{8}[+-]\d\d:\d\d wrong login from 127\.0\.0\.3 as "[A-Za-z0-9._-]{1,32}"'
     tally.differs("lines of wrong logins", (len(told), [it for it in told if not re.fullmatch(form, it)]), (3, []))
     fail2ban_reads(log, before + len(told), tally)

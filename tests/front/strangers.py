@@ -96,7 +96,6 @@ def no_such_room(front, tally):
 def without_end(front, tally):
     """A front of its own, which lets nobody ask more often than once a second, however slow this machine is."""
     folder = os.path.join(front.folder, "strange")
-    os.mkdir(folder)
     front = Front(folder, {it: front.users[it] for it in ("u01", "u02")}, {}, front.page, rate="1r/s")
     before = logged(front)
     for net, how in enumerate(PLACES):

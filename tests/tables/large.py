@@ -6,11 +6,10 @@ with as many entries as may be; the objects have numbers in no order of theirs.
 import contextlib
 import itertools
 import json
-import os
 import random
 import sqlite3
 
-from plain import ALL, GROUP_FLAG, INHERIT_ONLY, OWNER_RIGHTS, Caller, PlainRoom, Thing, allowed
+from plain import ALL, GROUP_FLAG, INHERIT_ONLY, OWNER_RIGHTS, PlainRoom, Thing
 from rows import other_rows, put
 from served import Room
 
@@ -61,24 +60,12 @@ def drawn(dice):
     return room
 
 
-def reports(room):
-    """The lines of both, as docs/RUNNING.md and LISTS have them."""
-    callers = [Caller(user, USERS[user]) for user in sorted(USERS, key=str.encode)]
-    access, lists = [], []
-    for at in sorted(room.things, key=lambda it: [name.encode() for name in it]):
-        it, list_, path = room.things[at], room.list_of(at), "/" + "/".join(at)
-        lists.append(f"{'d' if it.is_folder else 'f'} {it.aclflag} {it.owner:32} {it.group:32} {path}")
-        lists += [f"  {'AD'[e['type']]} {e['flag']:02x} {e['mask']:08x} {e['who']}" for e in list_]
-        access += [f"{allowed(list_, who, it.owner, it.group):08x} {who.user:32} {path}" for who in callers]
-    return {"access": access, "lists": lists}
-
-
 def others(room, due):
     """The lines of each report that are not as they are due: where, what stands there, and what is due."""
     found = {}
-    for kind, lines in due.items():
+    for kind, text in due.items():
         status, got, faults = room.report(kind)
-        pairs = itertools.zip_longest(got.decode().split("\n"), [*lines, ""])
+        pairs = itertools.zip_longest(got.decode().split("\n"), text.split("\n"))
         found[kind] = [(number, *it) for number, it in enumerate(pairs, 1) if it[0] != it[1]]
         found[kind] += [(status, faults)] if status or faults else []
     return found
@@ -99,15 +86,14 @@ def reported(folder, differs):
     plain, top = drawn(dice), 3 * OBJECTS
     numbers = {(): 1, **dict(zip([it for it in plain.things if it], dice.sample(range(2, top), OBJECTS - 1)))}
     plain.made = top - 1
-    os.mkdir(folder)
     room = Room(folder, "[users]\n" + "".join(f"{json.dumps(it)} = {json.dumps(USERS[it])}\n" for it in USERS))
     put(room.db, plain, numbers)
     differs("the rows of a large room", list(other_rows(room.db, plain).items())[:3], [])
-    due = reports(plain)
+    due = plain.reports()
     found = others(room, due)
     differs("its reports: other lines", {kind: it[:3] for kind, it in found.items()}, {"access": [], "lists": []})
     turned(plain, room.db, numbers)
     found = others(room, due)
     differs("an entry that is another shows", {kind: len(it) for kind, it in found.items()},
             {"access": len(USERS), "lists": 1})
-    return sum(map(len, due.values()))
+    return sum(text.count("\n") for text in due.values())

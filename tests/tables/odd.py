@@ -147,7 +147,6 @@ class Tables:
 
     def __init__(self, folder, made, *texts):
         self.folder = folder
-        os.mkdir(folder)
         self.first = Room(folder, made=made)
         if not changed(self.first.db, *texts):
             raise ValueError(texts)
