@@ -16,6 +16,7 @@ MOST = 1 << 20  # bytes of an answer; a room's have at most some 90,000
 OTHER_NAME = (62, 64)  # of OpenSSL's codes: the certificate is for another name, or another address
 EXPIRED = 10
 NO_TLS = ("HTTP_REQUEST", "WRONG_VERSION_NUMBER")
+NO_SUCH_NAME = "its host's name is not found"
 TRY_AGAIN = (408, 429, 500, 502, 503, 504)
 # Seconds, and tries: so that an address at which nobody is any more does not take all of the patience.
 LONGEST_CONNECT = 5.0
@@ -113,6 +114,9 @@ class Line:
         self.connection.timeout = seconds
         try:
             self.connection.connect()
+        except socket.gaierror:
+            self.close()
+            raise NotSent(NO_SUCH_NAME) from None
         except OSError as fault:
             self.close()
             told = untrusted(fault, self.connection.host) if isinstance(fault, ssl.SSLError) else None

@@ -7,7 +7,7 @@ import time
 from collections.abc import Callable, Sequence
 
 from .faults import BadWords, Fault, NoAnswer, Refused, refused
-from .line import Answer, Line, Lost, NotSent
+from .line import NO_SUCH_NAME, Answer, Line, Lost, NotSent
 from .settings import Settings
 from .state import State
 from .words import shown
@@ -31,7 +31,10 @@ def later(status: int) -> str:
 
 
 BUSY = "the room is being started again, or is busy"
-WAITS = {later(429): "the front lets no more of yours through for now"}
+WAITS = {
+    later(429): "the front lets no more of yours through for now",
+    NO_SUCH_NAME: "is the URL right, and this machine in the network?",
+}
 
 
 def compact(command: dict) -> str:

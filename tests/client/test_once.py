@@ -92,6 +92,14 @@ class Lost(Desk):
             self.assertEqual(len(said), 1)
             self.assertIn(f"no answer yet (it answered {fault}): {why}", said[0])
 
+    def test_a_name_that_is_not_found_is_told_as_such(self):
+        said = []
+        with self.assertRaisesRegex(NoAnswer, "its host's name is not found"):
+            with mock.patch("room_client.slots.WORD_AFTER", 0):
+                with self.behind(said.append, url="https://desk.invalid", patience=0.5) as room:
+                    room.children("/")
+        self.assertIn("no answer yet (its host's name is not found): is the URL right", said[0])
+
     def test_so_are_lines(self):
         """They are another request the second time, since the document ends its line by then."""
         with self.behind() as room:
