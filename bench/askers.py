@@ -3,12 +3,15 @@ request under way. Through the front each has a password, and each connection an
 limits of one address do not count. They ask as on a working day: 70 % READ and 20 % WRITE of 1 KiB, 5 % LIST of 20,
 5 % repeats.
 """
+import contextlib
 import itertools
 import multiprocessing
 import os
 import random
+import signal
 import sys
 import time
+from typing import NamedTuple
 
 from anchored import Anchored, built
 from asked import KIB, PIECE
@@ -18,7 +21,9 @@ from served import Line, message
 FILES = 20
 PAGE = "page.html"
 USER, PASSWORD = "ann", "a word of ann"
-LONGEST = 300  # seconds for an answer
+LONGEST = 300  # seconds for an answer, and until all have begun
+LATER = 429  # the front's answer beyond 120 requests under way to one room
+PAUSES = [0.05, 0.1, 0.2, 0.4, 0.8, 1.6, 3.2, 5.0]  # seconds, as the client waits before it sends again
 FORK = multiprocessing.get_context("fork")
 numbers = itertools.count(1)  # of askers, each of which has a session and a folder of its own
 
@@ -29,6 +34,7 @@ class Asker:
 
     def __init__(self, number, port, name=None):
         self.pick, self.seq, self.last = random.Random(number), 0, None
+        self.later = []  # when it was answered 429
         self.base = (f"/rooms/{name}" if name else "") + f"/v1/sessions/{self.pick.randbytes(16).hex()}"
         self.fields = ["host: a", login(USER, PASSWORD)] if name else [f"room-user: {USER}"]
         self.port, self.lines = port, itertools.count()
@@ -51,11 +57,13 @@ class Asker:
         return got
 
     def seconds_of(self, whole, due):
-        """The seconds that the answer to this message took, which has to have the bytes that are due. Where more
-        connections wait at the room's port than the system holds for it, 128, it is sent again, as clients do."""
-        begin = time.perf_counter()
+        """The seconds until this message was answered with the bytes that are due. Where the front answers 429 it is
+        sent again after a pause, as clients do."""
+        begin, pauses = time.perf_counter(), iter(PAUSES)
         got = self.answer(whole)
-        while got and got.status == 504:
+        while got and got.status == LATER and time.perf_counter() - begin < LONGEST:
+            self.later.append(time.perf_counter())
+            time.sleep(next(pauses, PAUSES[-1]) * self.pick.uniform(0.5, 1.0))
             got = self.answer(whole)
         seconds = time.perf_counter() - begin
         if not got or due not in got.body:
@@ -89,14 +97,14 @@ class Asker:
 
     def play(self, seconds, pace):
         """The seconds of each request that was answered in this time, sent one after another, or at random about once
-        in `pace` seconds."""
+        in `pace` seconds; and how often 429 came in its place."""
         self.reconnect()  # (the front ends a connection that waits for half a minute)
-        found, end = [], time.perf_counter() + seconds
+        self.later, found, end = [], [], time.perf_counter() + seconds
         while time.perf_counter() < end:
             if pace:
                 time.sleep(self.pick.expovariate(1 / pace))
             found.append((self.once(), time.perf_counter()))
-        return [took for took, at in found if at < end]
+        return [took for took, at in found if at < end], sum(at < end for at in self.later)
 
 
 class Appender(Asker):
@@ -114,30 +122,59 @@ class Visitor(Asker):
         return self.seconds_of(message(None, "GET", f"/{PAGE}", fields=self.fields), bytes(1024))
 
 
-def work(kind, place, seconds, pace, ready, begin, pipe):
+def work(kind, place, seconds, pace, begin, pipe):
+    signal.signal(signal.SIGTERM, signal.SIG_DFL)  # (it has no servers to end)
     asker = kind(*place)
     asker.fill()
-    ready.release()
+    pipe.send(None)  # (it is ready)
     begin.wait()
     pipe.send(asker.play(seconds, pace))
 
 
-def measured(seconds, places, pace=0.0, kind=Asker):
-    """Askers beside each other, one for each place (port, and name of the room): how many requests a second were
-    answered, and the seconds that each took, the shortest first."""
-    ready, begin, pipes = FORK.Semaphore(0), FORK.Event(), []
+def heard(pipe, end):
+    """What an asker says by then."""
+    with contextlib.suppress(EOFError):
+        if pipe.poll(max(end - time.perf_counter(), 0)):
+            return pipe.recv()
+    sys.exit("bench: an asker ended, or came to no end")
+
+
+class Found(NamedTuple):
+    """What askers found: how many requests a second were answered, the seconds that each took, the shortest first, how
+    many 429 a second came before, and the microseconds of the server's processor for each, in its own code and in the
+    system's."""
+    a_second: float
+    took: list
+    later: float
+    spent: tuple
+
+
+def spent(server):
+    """The microseconds of processor that a process has used, in its own code and in the system's."""
+    if not server:
+        return 0, 0
+    with open(f"/proc/{server.pid}/stat", encoding="utf-8") as file:
+        ticks = file.read().rpartition(")")[2].split()[11:13]
+    return [1e6 * int(it) / os.sysconf("SC_CLK_TCK") for it in ticks]
+
+
+def measured(seconds, places, pace=0.0, kind=Asker, server=None):
+    """Askers beside each other, one for each place (port, and name of the room)."""
+    begin, pipes, end = FORK.Event(), [], time.perf_counter() + LONGEST
     for place in places:
         reader, writer = FORK.Pipe(False)
-        words = kind, (next(numbers), *place), seconds, pace, ready, begin, writer
+        words = kind, (next(numbers), *place), seconds, pace, begin, writer
         FORK.Process(target=work, args=words, daemon=True).start()
         writer.close()
         pipes.append(reader)
-    for _ in places:
-        if not ready.acquire(timeout=LONGEST):
-            sys.exit("bench: an asker did not come to begin")
+    for pipe in pipes:
+        heard(pipe, end)
+    before, end = spent(server), time.perf_counter() + seconds + LONGEST
     begin.set()
-    found = sorted(it for pipe in pipes for it in pipe.recv())
-    return len(found) / seconds, found
+    took, later = zip(*(heard(pipe, end) for pipe in pipes))
+    found = sorted(itertools.chain(*took))
+    each = tuple((now - was) / len(found) for was, now in zip(before, spent(server)))
+    return Found(len(found) / seconds, found, sum(later) / seconds, each)
 
 
 def in_c(folder):

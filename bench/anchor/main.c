@@ -234,7 +234,7 @@ int main(int count, char **words)
     open_store(words[1]);
     at.sin_port = htons((unsigned short)atoi(words[2]));
     setsockopt(port, SOL_SOCKET, SO_REUSEADDR, &yes, sizeof yes);
-    if (bind(port, (struct sockaddr *)&at, sizeof at) || listen(port, 16))
+    if (bind(port, (struct sockaddr *)&at, sizeof at) || listen(port, 128))
         fail("port");
     for (int line; (line = accept(port, 0, 0)) >= 0;) {
         setsockopt(line, IPPROTO_TCP, TCP_NODELAY, &yes, sizeof yes);
