@@ -67,6 +67,7 @@ async function folder(app, place, stat, rights, found) {
   const names = found.names.filter(([name]) => !isPart(name)).sort(byName);
   const things = names.length ? new Things(app, place, names, rights) : null;
   const words = isOwn ? t.inTrash : mayPut && t.dropHere;
+  await things?.inOrder;
   const area = make("div.drops", await leftWords(found.names), things?.element ?? make("p.empty", t.nothingThere),
     about(place, stat, t.inIt(names.length)), words && make("p.about", words));
   if (mayPut) takeFiles(area, app, path);

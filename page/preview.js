@@ -72,7 +72,7 @@ export class SmallPictures {
 
   show(element, path, size) {
     if (!element.className) return;
-    const fail = () => element.classList.remove("small-picture");
+    const fail = () => { element.className = "no-picture"; }; // (as large: rows below stay where they are)
     if (!(size <= Math.min(SMALL.file, this.left))) return fail();
     this.left -= size;
     this.turn = this.turn.then(() => this.#draw(element, path, fail)).catch(fail);

@@ -1,4 +1,6 @@
-/** A row. Its size is asked for once it is seen, its rights where its menu is opened. */
+/** A row. Its size is asked for once it is seen, its rights where its menu is opened. Until then a folder of the room
+ * stands among folders or documents by what it was found to be before, or by its name: a row moves only where the user
+ * sorts, or the view is drawn anew. Else a click would meet another than the one it was for. */
 import { offersFor, rightsOn } from "./actions.js";
 import { FILE, FOLDER, LARGE, UNFINISHED, addressOf, button, inFolder, link, make, nameText, openMenu, shown, t,
   tellFault, tellIt } from "./common.js";
@@ -8,6 +10,9 @@ import { icon, isForDisk, kindBy } from "./icons.js";
 import { sizeWords } from "./transfers.js";
 import { beforeWords, nameAt } from "./trash.js";
 import { lookInto } from "./trees.js";
+
+const LIKE_FILE = /\.(?=\d*[a-z])\w{1,5}$/i; // (no date)
+const seenAs = new Map(); // what the room's folders are to people, by room and path, as far as it was looked at
 
 /** `{kind, words, size}`; a folder's size is the count of what is in it. */
 async function lookAt(room, path, kind) {
@@ -23,7 +28,9 @@ export class Row {
   constructor(things, [name, kind], pictures) {
     const { app, place } = things;
     const path = inFolder(place.path, name);
-    Object.assign(this, { things, app, name, kind, pictures, path, called: nameAt(path), isFolder: kind === FOLDER });
+    const [called, key] = [nameAt(path), `${place.room}${path}`];
+    Object.assign(this, { things, app, name, kind, pictures, path, called, key });
+    this.isFolder = kind === FOLDER && (seenAs.get(key) ?? (LIKE_FILE.test(called) ? LARGE : FOLDER)) === FOLDER;
     this.picture = pictures.placeOf(this.called);
     this.tick = make("input", { type: "checkbox", tabIndex: -1, "aria-label": t.choose(shown(this.called)) });
     this.link = link(addressOf({ room: place.room, path }), nameText(this.called));
@@ -53,7 +60,8 @@ export class Row {
     this.kindName = kindBy(this.called, this.isFolder ? FOLDER : FILE);
     this.kindCell.textContent = this.its?.kind === UNFINISHED ? t.unfinished : t.kinds[this.kindName];
     if (!this.picture.querySelector("img")) this.picture.replaceChildren(icon(this.kindName));
-    this.link.onclick = !this.isFolder && isForDisk(this.called) ? (event) => this.give(event) : null;
+    const isDocument = (this.its ?? this).kind !== FOLDER;
+    this.link.onclick = isDocument && isForDisk(this.called) ? (event) => this.give(event) : null;
   }
 
   give(event) {
@@ -74,8 +82,8 @@ export class Row {
     this.its = await lookAt(this.app.room, this.path, this.kind);
     this.sizeCell.textContent = this.its.words;
     this.isFolder = this.its.kind === FOLDER;
+    if (this.kind === FOLDER) seenAs.set(this.key, this.its.kind);
     this.showKind();
-    if (this.its.kind === LARGE) this.things.replace(this);
     this.pictures.show(this.picture, this.path, this.its.size);
     return this.its;
   }

@@ -131,7 +131,7 @@ export class Things {
     this.draw();
     this.keys = new GridKeys(this);
     this.watch();
-    if (this.sort.by === "size") this.lookAtAll();
+    this.inOrder = this.sort.by === "size" ? this.lookAtAll() : null;
   }
 
   head() {
@@ -182,11 +182,6 @@ export class Things {
   async lookAtAll() {
     await forEach(this.rows, (it) => it.look()).catch(tellIt);
     this.draw();
-  }
-
-  replace(row) {
-    const order = this.sorted([...this.shown.filter((it) => !it.isFolder && it !== row), row]);
-    this.bodies[1].insertBefore(row.element, order[order.indexOf(row) + 1]?.element ?? null);
   }
 
   watch() {

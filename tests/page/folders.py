@@ -306,6 +306,8 @@ def in_order(club, differs):
     browser.sees("1 file uploaded", "#notices")
     club.go("#open/club/order/f")
     browser.until("its size", lambda: "64 KiB" in row(browser, "Bread 3"))
+    club.go("#open/club")
+    club.go("#open/club/order/f")  # (no row moves by itself)
     names = "return [...document.querySelectorAll(arguments[0])].map((it) => it.textContent)"
     files = [*wanted[:3], "Bread 3", *wanted[3:]]
     differs("documents", browser.script(names, ".things bdi"), files)

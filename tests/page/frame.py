@@ -1,7 +1,7 @@
 """Scenes of the page as a file manager: what is seen first, keys, sorting, menus, several at once, drags, pasting."""
 import time
 
-from carried import names_at, row, saved
+from carried import PIECE, names_at, on_disk, put, row, saved
 from browser import KEYS
 from club import make_trash, offers, to_folder
 from folders import PNG
@@ -16,6 +16,7 @@ SORTS = "return [...document.querySelectorAll('.things thead th')].map((it) => i
 BAR = "return [...document.querySelectorAll('.chosen:not([hidden]) button:not([hidden])')].map((it) => it.textContent)"
 LINED = ("return [...document.querySelectorAll('.things *')].filter((it) => "
          "getComputedStyle(it).textDecorationLine === 'underline').map((it) => it.textContent)")
+PLACE = "return document.querySelector('main').dataset.place"
 TOP_ROW = "return document.querySelector('.things tbody tr').getBoundingClientRect().top"
 # what the mouse would do, event by event: a row is taken, held over an element, and let go
 DRAG = """const data = new DataTransfer(), [from, to] = [arguments[0], arguments[1]].map((path) =>
@@ -86,7 +87,7 @@ def sorted_by(club, differs):
     browser.until("the other way", lambda: browser.script(ROWS)[2:] == by_size[:1:-1])
     club.go("#open/club")
     club.go(f"#open/club{TOP}")
-    browser.until("it is kept", lambda: browser.script(ROWS)[2:] == by_size[:1:-1])
+    differs("it is kept, and so from the first", browser.script(ROWS)[2:], by_size[:1:-1])
     browser.press("Kind")
     differs("by kind", browser.script(ROWS)[2:], ["letter.docx", "bill.pdf", "list.xlsx", "notes.txt"])
     browser.press("Name")
@@ -190,6 +191,38 @@ def choose_both(club):
     club.go(f"#open/club{TOP}")
     for name in "list.xlsx", "notes 2.txt":
         club.browser.act(f"//tr[.//bdi='{name}']//input", "click")
+
+
+def stay(club, differs):
+    """Rows stay where they are while it becomes known what they are: a click opens what it was for."""
+    browser, top = club.browser, "/stay"
+    for name in "", "/alpha", "/omega", "/zeta":
+        club.holds({"cmd": "MKDIR", "path": top + name})
+    put(club, top, *(on_disk(club, name, bytes(PIECE + 1)) for name in ("middle", "report.pdf")))
+    browser.sees("2 files uploaded", "#notices")
+    rows = {"alpha": "0 in it", "middle": "64 KiB", "omega": "0 in it", "zeta": "0 in it", "report.pdf": "64 KiB"}
+    known = lambda: {it: row(browser, it).split("\n")[1] for it in rows} == rows
+    browser.until("what they are", known)  # (what is not answered yet would be held as the next page finishes it)
+    browser.go("about:blank")  # (a page that knows nothing of it)
+    club.lossy.hold('"LIST"', f'"{top}/')
+    club.go(f"#open/club{top}")
+    differs("by their names", browser.script(ROWS), [*rows])
+    browser.point("//main//a[.='omega']")
+    club.lossy.go_on()
+    browser.until("what they are", known)
+    differs("they stay", browser.script(ROWS), [*rows])
+    press_here(browser)
+    at_top = f"#open/club{top}"
+    place = browser.until("what it was for", lambda: (at := browser.script(PLACE)) != at_top and at)
+    differs("what is opened", place, f"{at_top}/omega")
+    club.go(at_top)
+    differs("drawn anew", browser.script(ROWS), ["alpha", "omega", "zeta", "middle", "report.pdf"])
+
+
+def press_here(browser):
+    """Presses the mouse where it is, whatever lies there by now."""
+    moves = [{"type": it, "button": 0} for it in ("pointerDown", "pointerUp")]
+    browser.ask("POST", "/actions", {"actions": [{"type": "pointer", "id": "mouse", "actions": moves}]})
 
 
 def dragged(club, differs):
@@ -339,4 +372,4 @@ def each_minute(club):
     club.log_in("ann")
 
 
-SCENES = [seen_first, sorted_by, by_keys, several, dragged, by_clipboard, menus, by_itself]
+SCENES = [seen_first, sorted_by, by_keys, stay, several, dragged, by_clipboard, menus, by_itself]

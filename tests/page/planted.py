@@ -144,6 +144,8 @@ def takes_no_memory(club, differs):
     count = "return document.querySelectorAll('.small-picture').length"
     browser.until("the small one alone", lambda: browser.script(
         "return document.querySelectorAll('.small-picture img').length") == 1 and browser.script(count) == 1)
+    heights = "return [...document.querySelectorAll('.things tbody tr')].map((it) => it.offsetHeight)"
+    differs("a row without one is as high", len(set(browser.script(heights))), 1)
     club.go("#open/club/planted/pictures/vast.png")
     browser.sees("This cannot be shown here", "main")
     differs("no picture", browser.script("return document.querySelectorAll('main img').length"), 0)
