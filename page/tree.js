@@ -83,8 +83,13 @@ export class FolderTree {
     it.scrollIntoView({ block: "nearest" });
   }
 
-  async open(it) {
-    if (!it || it.getAttribute("aria-expanded") !== "false") return;
+  /** Once it is open: who asks for one that opens already waits for that. */
+  open(it) {
+    if (it?.getAttribute("aria-expanded") === "false") it.opening = this.#open(it);
+    return it?.opening;
+  }
+
+  async #open(it) {
     it.setAttribute("aria-expanded", "true");
     it.setAttribute("aria-busy", "true");
     this.told.textContent = "";
