@@ -3,7 +3,8 @@
 A part is a command. Its last line may be 'N passed, M failed'; without that it counts as one. It has failed where it
 ends with another status than 0, counts a failure or nothing at all, takes longer than it may, or leaves a process or,
 in the folder for its temporary files, a file; and where it could not try something, since the machine lacks what that
-needs: it then prints a line 'NAME: NOT TRIED: WHAT', or ends with 'skipped: WHY'.
+needs: it then prints a line 'NAME: NOT TRIED: WHAT', or ends with 'skipped: WHY'. Lines 'FAILED: WHAT' tell which of
+its statements failed.
 """
 import os
 import re
@@ -18,6 +19,7 @@ import time
 from served import end_with_parent
 
 COUNTS = re.compile(r"(\d+) passed, (\d+) failed")
+FAILED = re.compile(r"(\w+: )?FAILED: ")
 NOT_TRIED = re.compile(r"(?:skipped|\w+: NOT TRIED): (.+)")
 GRACE = 20  # seconds to end in order
 MOMENT = 5  # seconds for what ends with a part to see that it has ended, where other work comes first
@@ -108,7 +110,7 @@ class Part:
         self.child = self.folder = None
         self.is_ended = False
         self.lines, self.why, self.rest, self.is_open = [], [], b"", False
-        self.not_tried = []
+        self.not_tried, self.statements = [], []
         self.passed = self.failed = 0
         self.seconds = self.ended = 0.0
 
@@ -140,6 +142,8 @@ class Part:
         untried = NOT_TRIED.fullmatch(text)
         if untried:
             self.not_tried.append(untried[1])
+        if FAILED.match(text):
+            self.statements.append(text)
         if self.watch:
             self.watch.line(text)
 
@@ -222,6 +226,11 @@ class Part:
             self.why.append(f"it ended with status {self.child.returncode}")
         if self.says is not None and lines != [self.says]:
             self.why.append(f"it did not say {self.says!r}")
+
+    def ended_with(self, most):
+        """The statements of it that failed, else the last lines that it printed: so many at most."""
+        lines = self.statements[:most] or [it for it in self.lines if it.strip() and not COUNTS.fullmatch(it)][-most:]
+        return [f"{self.name} | {it[:400]}" for it in lines]
 
     def showed(self):
         if self.child is None and not self.why:

@@ -33,6 +33,7 @@ WAIT = 30  # seconds for any one answer
 STOPS = (signal.SIGTERM, signal.SIGINT, signal.SIGHUP, signal.SIGALRM)
 LIBC = ctypes.CDLL(None)
 SET_PDEATHSIG = 1  # of prctl
+MOST_TOLD = 12  # statements that failed, at the end of a script
 SIOCGIFFLAGS, SIOCSIFFLAGS, IFF_UP = 0x8913, 0x8914, 1
 started_here = []
 stopping = threading.Event()  # from then on no server is started
@@ -184,27 +185,52 @@ def wait_for_port(port, server, longest=WAIT):
     sys.exit(f"{SCRIPT}: the server does not listen")
 
 
+def place_of(frame):
+    """The line of a script where a call is."""
+    return f"{os.path.relpath(frame.f_code.co_filename, os.path.join(HERE, '..'))}:{frame.f_lineno}"
+
+
 class Tally:
-    """Counts what a script compares, and prints what differs. Its last line is 'N passed, M failed'."""
+    """Counts what a script compares, and prints what differs; what failed once more at the end, a line each, since a
+    record may be the end alone. The last line is 'N passed, M failed'."""
 
     def __init__(self):
         self.passed = self.failed = 0
+        self.told = []  # of what failed
 
     def differs(self, name, got, want):
-        self.passed += got == want
-        self.failed += got != want
-        if got != want:
-            print(f"DIFFERS {name}\n  got  {str(got)[:600]}\n  want {str(want)[:600]}", flush=True)
+        if got == want:
+            self.passed += 1
+            return
+        self.fails(f"{name} ({place_of(sys._getframe(1))})")
+        print(f"DIFFERS {name}\n  got  {str(got)[:600]}\n  want {str(want)[:600]}", flush=True)
+
+    def fails(self, text):
+        self.failed += 1
+        self.told.append(text.split("\n")[0][:400])
 
     def need(self, fact, text):
         """As differs, where nothing can go on after what is wrong."""
         self.passed += bool(fact)
         if not fact:
-            self.failed += 1
+            self.fails(text)
             print(f"{SCRIPT}: {text}")
             self.end()
 
+    def take_over(self, name, said):
+        """Prints what another script said, but for its last line, and adds its counts."""
+        *lines, last = said.splitlines() or [""]
+        counts = re.fullmatch(r"(\d+) passed, (\d+) failed", last)
+        print("\n".join(lines if counts else [*lines, last]), flush=True)
+        self.differs(f"{name} came to its end", bool(counts), True)
+        if counts:
+            self.passed += int(counts[1])
+            self.failed += int(counts[2])
+            self.told += [it.removeprefix("FAILED: ") for it in lines if it.startswith("FAILED: ")]
+
     def end(self):
+        for it in self.told[:MOST_TOLD]:
+            print(f"FAILED: {it}")
         print(f"{self.passed} passed, {self.failed} failed", flush=True)
         sys.exit(self.failed != 0)
 

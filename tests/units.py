@@ -1,9 +1,10 @@
 """Plays the files test_*.py of a folder, as the last lines of `make test`'s parts have it."""
 import os
+import re
 import sys
 import unittest
 
-from served import need_program, stopping
+from served import MOST_TOLD, need_program, stopping
 
 
 class Result(unittest.TextTestResult):
@@ -18,6 +19,12 @@ class Result(unittest.TextTestResult):
         self.ends = ends
 
 
+def fault_of(why):
+    """The line of a traceback that names the fault."""
+    lines = why.strip().splitlines()
+    return next((it for it in reversed(lines) if re.match(r"[A-Za-z][\w.]*(: |$)", it)), lines[-1])
+
+
 def play(folder, seconds):
     """The status of a script, which may take so long: of all tests in a folder, or of those that its arguments name."""
     need_program(seconds)
@@ -25,6 +32,9 @@ def play(folder, seconds):
     tests = loader.loadTestsFromNames(sys.argv[1:]) if sys.argv[1:] else loader.discover(folder, "test_*.py")
     done = unittest.TextTestRunner(stream=sys.stdout, resultclass=Result).run(tests)
     failed = len(done.failures) + len(done.errors) + len(done.unexpectedSuccesses)
+    passed = [(it, "it passed") for it in done.unexpectedSuccesses]
+    for test, why in [*done.failures, *done.errors, *passed][:MOST_TOLD]:
+        print(f"FAILED: {test.id()}: {fault_of(why)[:300]}")
     for test, why in done.skipped:
         print(f"{name}: NOT TRIED: {test.id()}: {why}")
     print(f"{done.testsRun - failed - len(done.skipped)} passed, {failed} failed", flush=True)

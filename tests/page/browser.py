@@ -25,6 +25,14 @@ def start_driver(port, folder):
     return child
 
 
+class NeverCame(LookupError):
+    """What a page was to show, why not, and what it shows in one line."""
+
+    def __init__(self, what, why, shown):
+        super().__init__(f"never came: {what}{f' ({why})' if why else ''}")
+        self.shown = " / ".join(shown.split("\n"))
+
+
 class Browser:
     def __init__(self, folder, *more):
         self.port = free_port()
@@ -119,7 +127,7 @@ class Browser:
             except LookupError as fault:
                 last = fault
             time.sleep(0.03)
-        raise LookupError(f"never came: {what} ({last}); shown: {self.shown()[:600]}")
+        raise NeverCame(what, last, self.shown())
 
     def find(self, path):
         """The element at an XPath, which has to be there."""
