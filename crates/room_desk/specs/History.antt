@@ -35,7 +35,6 @@ opened_by sid (Open caller name slots) =
 opened_by sid (Close caller name) = None
 opened_by sid (Slot request) = None
 
--- one event later
 abbrev pub with_event : Option Session → Option Session → EventModel → Option Session
 with_event None opening event = opening
 with_event (Some session) opening event = Some (record session { since = event ∷ session.since })
@@ -45,7 +44,6 @@ abbrev pub session_of : History → List ℕ → Option Session
 session_of [] sid = None
 session_of (event ∷ past) sid = with_event (session_of past sid) (opened_by sid event) event
 
--- the event is a CLOSE of this name by its owner
 abbrev pub closes : List ℕ → List ℕ → EventModel → Bool
 closes sid owner (Close caller name) = bytes_eq sid name && bytes_eq owner caller.name
 closes sid owner (Open caller name slots) = false
@@ -55,17 +53,14 @@ closes sid owner (Slot request) = false
 abbrev pub is_open : List ℕ → Session → Bool
 is_open sid session = not (list_any (closes sid session.owner) session.since)
 
--- the session is open and the caller's
 abbrev pub is_open_for : List ℕ → SubjectModel → Option Session → Bool
 is_open_for sid caller None = false
 is_open_for sid caller (Some session) = bytes_eq session.owner caller.name && is_open sid session
 
--- how many slots a session has
 abbrev pub slots_of : Option Session → ℕ
 slots_of None = 0
 slots_of (Some session) = session.slots
 
--- an accepted request, and the events before it
 pub record Accepted : Type 0 where
   pub request : Request
   pub before : History
@@ -77,7 +72,6 @@ accepts past count q =
     is_open_for q.sid q.caller (session_of past q.sid)
     && (nat_lt q.slot (slots_of (session_of past q.sid)) && (q.seq == next_number count))
 
--- the request is to this slot
 abbrev pub is_for : List ℕ → ℕ → Request → Bool
 is_for sid slot q = bytes_eq sid q.sid && (slot == q.slot)
 
@@ -91,7 +85,6 @@ accepted (Slot q ∷ past) sid slot =
     then record { request = q; before = past } ∷ accepted past sid slot
     else accepted past sid slot
 
--- whether a request is accepted after a history
 abbrev pub is_accepted : History → Request → Bool
 is_accepted past q = accepts past (length (accepted past q.sid q.slot)) q
 
@@ -107,11 +100,9 @@ state_after start (Slot q ∷ past) = if is_accepted past q
 abbrev pub last_number : List Accepted → ℕ
 last_number requests = length requests % 2 ^ 32
 
--- the commands of these requests
 abbrev pub commands_of : List Accepted → List CommandModel
 commands_of requests = map (λ (a : Accepted). a.request.command) requests
 
--- each of them is lawful
 abbrev pub HaveLawfulCommands : List Accepted → Type 0
 HaveLawfulCommands requests = AllByRecursion IsLawful (commands_of requests)
 
@@ -166,7 +157,6 @@ answer_close caller None = Refused BadSession
 answer_close caller (Some session) =
     if bytes_eq session.owner caller.name then Reply (reply_text Done) else Refused BadSession
 
--- what an event is answered after a past
 abbrev pub answer_to : Room → History → EventModel → AnswerModel
 answer_to start past (Open caller sid slots) = answer_open caller sid slots (session_of past sid)
 answer_to start past (Close caller sid) = answer_close caller (session_of past sid)

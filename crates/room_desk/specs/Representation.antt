@@ -19,7 +19,6 @@ use Rattle.room_desk.specs.AnswerModel.{AnswerModel, Refused}
 use Rattle.room_desk.specs.History.{History, Session, session_of, is_open, Accepted, accepted, is_accepted, state_after}
 use Rattle.room_desk.specs.History.{AcceptsLawful, last_number, kept_reply, answer_to, changes_rows}
 
--- the row of a session
 abbrev pub session_row_of : List ℕ → Session → SessionRow
 session_row_of sid session =
     record { sid = sid; owner = session.owner; slots = session.slots; is_open = is_open sid session }

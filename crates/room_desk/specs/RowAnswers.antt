@@ -49,7 +49,6 @@ pub record HasSlot (r : Records) (sid : List ℕ) (slot : ℕ) : Type 0 where
   pub stands : r.session sid ≡ Some row
   pub below : slot < row.slots
 
--- the row that a request leaves in its slot
 abbrev pub ran_row : Room → Request → SlotRow
 ran_row room q = record {
   sid = q.sid;

@@ -30,12 +30,10 @@ abbrev pub AnswersOrDelays : Room → History → Result AskModel WireFault → 
 AnswersOrDelays start past ask answered next =
     AnswersAsk start past ask answered next ⊎ ((answered ≡ Refused Delay) × (next ≡ past))
 
--- a message to a room with these users is answered
 abbrev pub AnswersMessage : List SubjectModel → Room → History → MessageModel → AnswerModel → History → Type 0
 AnswersMessage users start past m answered next = AnswersOrDelays start past (ask_of users m) answered next
 
--- a run over messages from a history to a history, with its
--- output; `Serves` of `room_wire` says the same of a whole stream
+-- a run over messages from a history to a history, with its output
 abbrev pub IsRun : List SubjectModel → Room → History → List MessageModel → (out : List ℕ) → History → Type 0
 IsRun users start past ms out next = Outputs (AnswersMessage users start) past ms out next
 
@@ -59,7 +57,6 @@ pub record DeskCall (old new : View) : Type 0 where
   pub laid_out : new.is_available → old.is_laid_out → new.is_laid_out
   pub never_falls : old.failures ≤ new.failures
 
--- an event that was asked changes few rows
 abbrev pub AskChangesFew : Room → History → Result AskModel WireFault → (old new : Records) → Type 0
 AskChangesFew start past (Ok (Check question)) old new = Unit {0}
 AskChangesFew start past (Ok (Event event)) old new = EventChangesFew start past event old new
@@ -112,10 +109,8 @@ pub record Answered (ask : Result AskModel WireFault) (before : View)
       before.leaves_laid_out → after.leaves_laid_out
   pub alone : may_ask_shelf ask ≡ false → IsLeftAlone before after
 
--- what a shelf is after an event was answered
 abbrev pub EventAnswered : {S : Type 0} (view : S → View) → S → EventModel → AnswerModel → S → Type 0
 EventAnswered view before event answered after = Answered (Ok (Event event)) (view before) answered (view after)
 
--- what a message may be answered over a shelf
 abbrev pub MayAnswer : {S : Type 0} (view : S → View) → List SubjectModel → S → MessageModel → AnswerModel → S → Type 0
 MayAnswer view users before m answered after = Answered (ask_of users m) (view before) answered (view after)

@@ -31,13 +31,11 @@ InitEnds does made unmade db owner group old new done =
     ((fault : Fault) × (done ≡ Err fault) × IsNamesFault owner group fault × (new ≡ old))
     ⊎ (ArePrincipals owner group × MakesAt does made unmade db old new done)
 
--- the faults of serving connections
 abbrev pub ServeEnds : Result (Unit {0}) Fault → Type 0
 ServeEnds (Ok done) = Unit {0}
 ServeEnds (Err NetworkFailed) = Unit {0}
 ServeEnds (Err other) = ⊥
 
--- the faults of `selftest`
 abbrev pub IsSelftestFault : Fault → Type 0
 IsSelftestFault Memory = Unit {0}
 IsSelftestFault SelftestFailed = Unit {0}
@@ -64,7 +62,6 @@ abbrev pub second_sent : List ℕ
 second_sent = mkdir_sent ++ (codes "POST /v1/sessions/0123456789abcdef0123456789abcdef/slots/1/1 HTTP/1.1\r\n"
     ++ codes "room-user: ann\r\nconnection: close\r\ncontent-length: 25\r\n\r\n{\"cmd\":\"LIST\",\"path\":\"/\"}")
 
--- what the second one is answered
 abbrev pub due_answers : List ℕ
 due_answers = codes "HTTP/1.1 200 OK\r\ncontent-type: application/json\r\ncontent-length: 10\r\n\r\n{\"code\":0}"
     ++ (codes "HTTP/1.1 200 OK\r\ncontent-type: application/json\r\ncontent-length: 39\r\nconnection: close"

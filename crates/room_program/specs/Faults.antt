@@ -11,7 +11,6 @@ use Rattle.room_program.specs.declared.fault.Fault.TheVariants.{BadName, CannotR
 use Rattle.room_program.specs.declared.fault.Fault.TheVariants.{NotARoom, StoreFailed, Memory, NetworkFailed}
 use Rattle.room_program.specs.declared.fault.Fault.TheVariants.{BadMessage, ReadFailed, WriteFailed, SelftestFailed}
 
--- the line of a fault on standard error
 abbrev pub fault_line : Fault → List ℕ
 fault_line BadName = codes "fileroom: bad name\n"
 fault_line CannotReadRoster = codes "fileroom: cannot read roster\n"
@@ -34,7 +33,6 @@ done_of end.ReadFailed = Err ReadFailed
 done_of end.WriteFailed = Err WriteFailed
 done_of end.Memory = Err Memory
 
--- how a run ends where a report ended so
 abbrev pub done_of_report : Result (Unit {0}) ReportFault → Result (Unit {0}) Fault
 done_of_report (Ok done) = Ok tt
 done_of_report (Err report.Memory) = Err Memory

@@ -98,7 +98,6 @@ IsSpared g opened let_go commits =
     → (state g let_go).now ≡ (state g opened).now)
     × Survives (state g opened) (state g let_go) commits
 
--- the faults of taking a room
 abbrev pub IsTakeFault : Fault → Type 0
 IsTakeFault NotARoom = Unit {0}
 IsTakeFault StoreFailed = Unit {0}
@@ -113,7 +112,6 @@ pub record Untaken {S : Type 0} (g : Ghosts S) (opened let_go : Held S) (why : F
   pub no_room : why ≡ NotARoom → adoption.IsAsBefore (state g opened) (state g let_go)
       × (HasCleanDisk (state g let_go) → adoption.HasAnotherVersion (state g opened))
 
--- a store that was opened is taken, or let go
 abbrev pub Takes : {S : Type 0} (g : Ghosts S) → (opened : Held S)
     → Result (SqlShelf S g × Known) (Fault × Held S) → Type 0
 Takes g opened (Ok taken) = Adopted g opened taken
@@ -148,7 +146,6 @@ Makes {M} {C} does made unmade opened old new (Ok done) =
 Makes {M} {C} does made unmade opened old new (Err fault) =
     (let_go : C) × unmade opened let_go fault × does old (leaves let_go) new
 
--- and in the store at a path
 abbrev pub MakesAt : {M C : Type 0} → (does : M → Call C → M → Type 0)
     → (made : C → C → Type 0) → (unmade : C → C → Fault → Type 0) → List ℕ → M → M → Result (Unit {0}) Fault → Type 0
 MakesAt {M} {C} does made unmade path old new done =

@@ -101,7 +101,6 @@ ActsOn image other old new = new ≡ old
 
 -- ---- what files hold
 
--- files that hold this database
 pub record Holds (image : Image) (db : Database) : Type 0 where
   pub trees : ∥ HoldsDatabase image db.trees ∥₁
   pub sound : IsDatabase db
@@ -117,7 +116,6 @@ pub record HoldsRoom (image : Image) (start : Room) (past : History) : Type 0 wh
 abbrev pub HoldsNothing : Image → Type 0
 HoldsNothing image = image.db ≡ []
 
--- a crash may leave this image of the files of a store
 abbrev pub MayBeLeft : {D : Type 0} {g : Ghosts D} → FileStore D g → Image → Type 0
 MayBeLeft it image = (store.state it).may_leave image
 
@@ -240,8 +238,7 @@ MakesFound {M} {D} {g} does left image db owner group before later (Err fault) =
     ⊎ ((opened : Held (FileStore D g)) × (begun : M) × OpensStore does db before begun (Ok opened)
     × SparesFound does left image begun later))
 
--- what a job does over files that held this image as it began; one that is none of `init`, `serve` and `report` gives
--- no store up
+-- what a job does over files that held this image as it began; only `init`, `serve` and `report` give a store up
 abbrev pub JobFound : {M D Shelf : Type 0} {g : Ghosts D} → Means M (Held (FileStore D g)) Shelf
     → (left : M → Left D g) → Image → (before later : M) → Job → Streams → Streams → ℕ → Type 0
 JobFound m left image before later (Init db owner group) old new status =

@@ -71,7 +71,6 @@ abbrev pub HoldsRoomWith : Image → (Records → Type 0) → Type 0
 HoldsRoomWith image P =
     ∥ ((db : Database) × Holds image db × IsRoomOfVersion2 db × P (records_of db.trees)) ∥₁
 
--- the connection of a store that was taken as a shelf, or let go
 abbrev pub connection_of : {S : Type 0} {g : trees.Ghosts S} → Result (SqlShelf S g × Known) (Fault × Held S) → Held S
 connection_of (Ok taken) = taken.0.conn
 connection_of (Err (why, let_go)) = let_go

@@ -19,7 +19,6 @@ use Rattle.room_program.specs.Machines.{Call}
 use Rattle.room_program.specs.Machines.Call.{listens, closes, leaves}
 use Rattle.room_program.specs.Streams.{Served}
 
--- the report of a kind
 abbrev pub report_text : ReportKind → Room → List SubjectModel → List ℕ
 report_text Access room users = access_text room users
 report_text Lists room users = list_text room
@@ -33,12 +32,10 @@ pub record WritesReport {Shelf : Type 0} (view : Shelf → View)
   pub read : ShelfRead (view before) (view after) (shelf_fault_in written)
   pub ends : done ≡ done_of_report written
 
--- the roster's file gives no roster
 abbrev pub FailsRoster : {M C : Type 0} → (does : M → Call C → M → Type 0)
     → List ℕ → M → M → Result (Unit {0}) Fault → Type 0
 FailsRoster does path old new done = (fault : Fault) × (done ≡ Err fault) × TakesRoster does path old new (Err fault)
 
--- the room's file gives no room
 abbrev pub FailsRoom : {M C Shelf : Type 0} → (does : M → Call C → M → Type 0)
     → (takes : C → Result Shelf (Fault × C) → Type 0) → List ℕ → M → M → Result (Unit {0}) Fault → Type 0
 FailsRoom does takes path old new done =
@@ -65,7 +62,6 @@ pub record ServesAll {M Shelf : Type 0} (accepts : M → Exchange → M → Type
   pub fewer : OnErr done (ServesFewer accepts fails (Served view users) count bound later before after)
   pub ends : ServeEnds done
 
--- the port can't be listened on, or connections to it are served
 abbrev pub Listens : {M C Shelf : Type 0} → (does : M → Call C → M → Type 0)
     → (accepts : M → Exchange → M → Type 0) → (fails : M → M → Type 0) → (view : Shelf → View)
     → List SubjectModel → (port count : ℕ) → (taken later : M)

@@ -36,7 +36,6 @@ abbrev pub EndsWith : Result (Unit {0}) Fault → (old new : Option (List ℕ)) 
 EndsWith (Ok done) old new status = (status ≡ 0) × Appends old new []
 EndsWith (Err fault) old new status = (status ≡ 1) × AppendsFront old new (fault_line fault)
 
--- a job that may end so
 abbrev pub Ends : (Result (Unit {0}) Fault → Type 0) → (old new : Option (List ℕ)) → ℕ → Type 0
 Ends may_end old new status = (done : Result (Unit {0}) Fault) × may_end done × EndsWith done old new status
 

@@ -29,7 +29,6 @@ hex (suc places) n = hex places (n / 16) ++ hex_digit (n % 16) ∷ []
 abbrev pub in_places : List ℕ → List ℕ
 in_places text = text ++ replicate (max_principal_bytes - length text) 32
 
--- the rights of a user at a path
 abbrev pub mask_line : ℕ → List ℕ → List ℕ → List ℕ
 mask_line mask name path = hex 8 mask ++ 32 ∷ in_places name ++ 32 ∷ path ++ 10 ∷ []
 
@@ -50,12 +49,10 @@ abbrev pub type_letter : Bool → ℕ
 type_letter true = 65
 type_letter false = 68
 
--- an entry: its type, flags, mask and who
 abbrev pub entry_line : EntryModel → List ℕ
 entry_line e = codes "  " ++ type_letter e.allow ∷ 32 ∷ hex 2 e.flags
     ++ 32 ∷ hex 8 e.mask ++ 32 ∷ who_text e.who ++ 10 ∷ []
 
--- an object: its kind, list flags, owner and group, and its path
 abbrev pub head_line : Kind → ℕ → List ℕ → List ℕ → List ℕ → List ℕ
 head_line kind aclflag owner group path =
     kind_letter kind ∷ 32 ∷ (48 + aclflag) ∷ 32 ∷ in_places owner ++ 32 ∷ in_places group ++ 32 ∷ path ++ 10 ∷ []

@@ -7,7 +7,6 @@ use Rattle.room_acl.specs.Principals.{IsPrincipal}
 use Rattle.room_acl.specs.SubjectModel.{SubjectModel}
 use Rattle.room_records.specs.Roster.{IsRoster}
 
--- a list of names
 abbrev pub list_of_names : List (List ℕ) → Items
 list_of_names [] = no_items
 list_of_names (name ∷ names) = item (string name) (list_of_names names)
@@ -24,16 +23,13 @@ document_with users = member (codes "users") (table users) no_members
 abbrev pub user : List ℕ → List (List ℕ) → SubjectModel
 user name groups = record { name = name; groups = groups }
 
--- the user's name and those of its groups are principals
 abbrev pub IsNamed : SubjectModel → Type 0
 IsNamed user = IsPrincipal user.name × AllByRecursion IsPrincipal user.groups
 
--- users in name order and within the limits, named by principals
 pub record IsNamedRoster (users : List SubjectModel) : Type 0 where
   pub roster : IsRoster users
   pub named : AllByRecursion IsNamed users
 
--- the text is a document of these users
 pub record IsRosterText (text : List ℕ) (users : List SubjectModel) : Type 0 where
   pub document : parse_document text ≡ Some (document_with (table_of_users users))
   pub lawful : IsNamedRoster users

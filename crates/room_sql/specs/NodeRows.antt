@@ -13,7 +13,6 @@ use Rattle.room_tables.specs.Steps.{Steps}
 use Rattle.room_sql.specs.declared.new_object.NewObject.{NewObject}
 use Rattle.room_sql.specs.NewObject.{is_new, after_change}
 
--- the rows in a folder
 abbrev pub rows_in : ℕ → List Row → List Row
 rows_in folder rows = filter (has 2 folder) rows
 

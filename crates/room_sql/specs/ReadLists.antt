@@ -17,7 +17,6 @@ pub record IsStored (id : ℕ) (list : List EntryModel) (trees : Trees) : Type 0
   pub rows : entry_rows trees id ≡ placed 0 list
   pub back : AllByRecursion IsReadBack list
 
--- each list that is kept is that of its object
 abbrev pub AreStored : ReadLists → Trees → Type 0
 AreStored lists trees = (id : ℕ) (list : Vec EntryModel Global)
     → row_at nat_cmp lists.lists.entries id ≡ Some list → IsStored id list.items trees

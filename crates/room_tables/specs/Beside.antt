@@ -49,7 +49,6 @@ abbrev pub AddsTables : Schema → Schema → Database → Database → Type 0
 AddsTables ours next old new = (before : Database) → has_a_table before.schema ≡ false
     → IsBeside ours.tables no_trees before old → IsBeside next.tables no_trees before new
 
--- the tables of a room
 abbrev pub six : List Table
 six = (room_schema Fresh).tables
 

@@ -38,7 +38,6 @@ abbrev pub filled : Node → Vec EntryModel Global → Records
 filled root entries =
     apply_change (PutNext 2) (apply_change (PutEntries 1 entries) (apply_change (PutNode root) (no_records 0)))
 
--- a room of version 2 whose tables are the six
 pub record IsInSix (db : Database) : Type 0 where
   pub room : IsRoomOfVersion2 db
   pub schema : db.schema ≡ room_schema Fresh
@@ -47,7 +46,6 @@ pub record IsInSix (db : Database) : Type 0 where
 abbrev pub IsFilled : Node → Vec EntryModel Global → Database → Type 0
 IsFilled root entries db = IsInSix db × (records_of db.trees ≡ filled root entries)
 
--- a fresh room
 abbrev pub IsFreshRoom : List ℕ → List ℕ → Database → Type 0
 IsFreshRoom owner group db = IsInSix db × IsFresh owner group (records_of db.trees)
 

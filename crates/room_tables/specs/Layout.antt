@@ -19,7 +19,6 @@ pub record IsKeyed (rows : List Row) : Type 0 where
   pub table : IsTable rows
   pub ints : AllByRecursion (λ r. is_int (rowid r) ≡ true) rows
 
--- a parent's number as it is stored
 abbrev pub parent_value : Option ℕ → Value
 parent_value = or_null (λ n. Int (pos n))
 

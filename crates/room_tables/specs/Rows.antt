@@ -109,7 +109,6 @@ named_rows db parent name = map shown_node (filter (is_child_named parent name) 
 abbrev pub child_rows : Trees → ℕ → List Row
 child_rows db parent = map shown_node (filter (has 2 parent) (db 1))
 
--- the name and the kind alone, of a row as it is shown
 abbrev pub name_and_kind : Row → Row
 name_and_kind shown = column shown 2 ∷ column shown 3 ∷ []
 
@@ -137,7 +136,6 @@ entry_of row = record {
 abbrev pub entry_keys : List Key
 entry_keys = ascending Binary ∷ ascending Binary ∷ ascending Binary ∷ ascending Binary ∷ ascending Binary ∷ []
 
--- rows of entries as they are shown, in order
 abbrev pub in_order : List Row → List Row
 in_order rows = sort_by (key_cmp 0 entry_keys) (map shown_entry rows)
 

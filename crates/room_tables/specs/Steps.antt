@@ -28,7 +28,6 @@ flag_of b = if b then 1 else 0
 abbrev pub type_of : Bool → ℕ
 type_of allow = if allow then 0 else 1
 
--- the entry is read as it was written
 abbrev pub IsReadBack : EntryModel → Type 0
 IsReadBack e = who_of e.flags (who_text e.who) ≡ e.who
 

@@ -304,7 +304,6 @@ pub data Layout : Type 0 where
   -- made in version 1, and upgraded, so that an empty `slot` stands before `kept`
   Upgraded : Layout
 
--- the tree of the table of what slots keep
 abbrev pub slots_tree : Layout → ℕ
 slots_tree Fresh = 8
 slots_tree Upgraded = 10

@@ -3,7 +3,6 @@ use Rattle.std.specs.Prelude.{ℕ, List, [], codes}
 use Rattle.sqlite_value.specs.Order.{Row}
 use Rattle.sqlite.specs.State.{State, Shown}
 
--- the text that asks for it
 abbrev pub find_version_text : List ℕ
 find_version_text = codes "SELECT version FROM room WHERE one = 1"
 

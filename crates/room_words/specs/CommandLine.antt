@@ -49,7 +49,6 @@ abbrev pub report_command : ValueParser → App
 report_command kind = with_rule (with_rule (with_rule (new_app (codes "report")) (value_rule (codes "DB")))
     (value_rule (codes "ROSTER"))) (parsed_rule (codes "KIND") kind)
 
--- one of the words `access` and `lists`
 abbrev pub IsKindParser : ValueParser → Type 0
 IsKindParser (parser.Names names) = texts names.now ≡ codes "access" ∷ codes "lists" ∷ []
 IsKindParser other = ⊥
@@ -84,11 +83,9 @@ IsOneOf name (one ∷ names) = (name ≡ one) ⊎ IsOneOf name names
 abbrev pub command_names : List Text
 command_names = codes "check" ∷ codes "init" ∷ codes "replay" ∷ codes "serve" ∷ codes "report" ∷ codes "selftest" ∷ []
 
--- the value of this name
 abbrev pub IsValue : List Row → Text → Text → Type 0
 IsValue rows name value = first_of name rows ≡ Some value
 
--- the value of this name is this number in decimal
 abbrev pub IsNumber : List Row → Text → ℕ → Type 0
 IsNumber rows name n = (text : Text) × (one_of name rows ≡ Some text)
     × (n ≡ digits_value 10 (without_leading_plus text))
@@ -117,7 +114,6 @@ IsRowOf row Selftest = row.0 ≡ codes "selftest"
 abbrev pub texts_of : List (String Global) → List Text
 texts_of words = map string_bytes words
 
--- the words ask for a text: help, or the version
 abbrev pub IsAsked : ErrorKind → Type 0
 IsAsked k = (k ≡ kind.DisplayHelp) ⊎ (k ≡ kind.DisplayVersion)
 
@@ -135,7 +131,6 @@ ReadsWith p words (Ok job) = (row : Text × List Row) × (fault_of (program_comm
 -- they are refused, and not because they ask for a text
 ReadsWith p words (Err (Usage text)) =
     (k : ErrorKind) × IsAmong k (fault_of (program_command p) words) × (IsAsked k → ⊥)
--- they ask for help, or for the version
 ReadsWith p words (Err (Help text)) =
     (k : ErrorKind) × IsAmong k (fault_of (program_command p) words) × IsAsked k
 ReadsWith p words (Err Memory) = Unit {0}

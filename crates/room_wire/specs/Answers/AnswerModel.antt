@@ -9,7 +9,6 @@ use Rattle.room_wire.specs.declared.answers.code.Code.TheVariants.{BadRequest, R
 use Rattle.room_wire.specs.declared.answers.answer.Answer.{Answer}
 use Rattle.room_wire.specs.declared.answers.answer.Answer.TheVariants as A
 
--- a text, or a refusal
 pub data AnswerModel : Type 0 where
   Reply : List ℕ → AnswerModel
   Refused : Code → AnswerModel
@@ -48,7 +47,6 @@ abbrev pub end_text : Bool → List ℕ
 end_text true = codes "\r\nconnection: close\r\n\r\n"
 end_text false = codes "\r\n\r\n"
 
--- the status line, the fields and the empty line
 abbrev pub head_text : (status size : ℕ) → (last : Bool) → List ℕ
 head_text status size last =
     codes "HTTP/1.1 " ++ (code_digits status ++ (codes " " ++ (phrase status

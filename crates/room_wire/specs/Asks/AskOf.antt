@@ -32,7 +32,6 @@ use Rattle.room_wire.specs.Forms.Reading.{json_of, has_count, number_at, princip
 use Rattle.room_wire.specs.Asks.Routing.{TargetModel, target_at, room_rows}
 use Rattle.room_wire.specs.Messages.MessageModel.{MessageModel, fields_of}
 
--- a question, or an event
 pub data AskModel : Type 0 where
   Check : QuestionModel → AskModel
   Event : EventModel → AskModel
@@ -68,7 +67,6 @@ number_from text = if is_number text && nat_lt (digits_value 10 text) (2 ^ 32)
 abbrev pub slots_from : ℕ → Option ℕ
 slots_from n = if nat_le 1 n && nat_le n max_slots then Some n else None
 
--- one member, exactly
 abbrev pub slots_asked : Data → Option ℕ
 slots_asked d = if has_count 1 d then option_and_then slots_from (number_at (codes "slots") d) else None
 

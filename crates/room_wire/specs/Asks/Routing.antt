@@ -13,7 +13,6 @@ use Rattle.room_wire.specs.declared.asks.routing.Action.{Action}
 use Rattle.room_wire.specs.declared.asks.routing.Action.TheVariants.{Check, Session}
 use Rattle.room_wire.specs.declared.asks.routing.Target.{Target}
 
--- the route of questions
 abbrev pub check_row : List ℕ × RouteOf Route
 check_row =
     (codes "/v1/check", record { pattern = codes "/v1/check"; text = codes "/v1/check"; names = []; value = R.Check })
@@ -21,7 +20,6 @@ check_row =
 abbrev pub session_tokens : List ℕ
 session_tokens = codes "/v1/sessions/" ++ param_token ∷ []
 
--- the route of a session, with its name
 abbrev pub session_row : List ℕ × RouteOf Route
 session_row = (
   session_tokens,
@@ -47,7 +45,6 @@ slot_row = (
 abbrev pub check_rows : RowsOf (RouteOf Route)
 check_rows = check_row ∷ []
 
--- the router of a room
 abbrev pub room_rows : RowsOf (RouteOf Route)
 room_rows = check_row ∷ slot_row ∷ session_row ∷ []
 
@@ -94,8 +91,7 @@ target_of action pairs =
 abbrev pub is_ascii : List ℕ → Bool
 is_ascii text = list_all (λ b. nat_lt b 128) text
 
--- what the parameters of a route took of a target, in their order; all
--- that they may hold is ASCII, so nothing is read of another target
+-- what the parameters of a route took of a target, in their order. All that they may hold is ASCII
 abbrev pub pairs_in : (pattern text : List ℕ) → List (ℕ × ℕ) → (target : List ℕ) → List (List ℕ × List ℕ)
 pairs_in pattern text names target = if is_ascii target then walk pattern text target names 0 0 else []
 

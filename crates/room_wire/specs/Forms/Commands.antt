@@ -25,7 +25,6 @@ use Rattle.room_wire.specs.declared.fault.WireFault.{WireFault}
 use Rattle.room_wire.specs.declared.fault.WireFault.TheVariants.{BadRoute, UnknownUser, BadRequest, Memory}
 use Rattle.room_wire.specs.Forms.Reading.{has_count, json_of, number_at, text_at, entries_at, principal_at, mask_at}
 
--- a text that is a file name, as a test
 abbrev pub is_file_name : Name → Bool
 is_file_name name =
     is_utf8 name && (nat_le 1 (length name) && (nat_le (length name) max_name_bytes && (list_all is_name_byte name
@@ -50,14 +49,12 @@ path_at name d = option_and_then path_from (text_at name d)
 abbrev pub decoded_at : List ℕ → Data → Option (List ℕ)
 decoded_at name d = option_and_then (decoded_of standard) (text_at name d)
 
--- the flags of a whole list
 abbrev pub list_flags_from : ℕ → Option ℕ
 list_flags_from n = if nat_le n all_list_flags then Some n else None
 
 abbrev pub list_flags_at : List ℕ → Data → Option ℕ
 list_flags_at name d = option_and_then list_flags_from (number_at name d)
 
--- the command of a name
 abbrev pub verb_from : List ℕ → Option Verb
 verb_from text =
     if bytes_eq text (codes "STAT") then Some (V.OfPath P.Stat)

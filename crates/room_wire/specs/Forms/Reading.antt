@@ -17,7 +17,6 @@ pub use Rattle.room_acl.specs.Entries.{named_who, who_from}
 abbrev pub json_of : List ℕ → Option Data
 json_of body = if is_utf8 body then read body else None
 
--- how many members an object has
 abbrev pub count : Members → ℕ
 count no_members = 0
 count (member name value members) = count members + 1
@@ -52,7 +51,6 @@ flags_at name d = option_and_then flags_from (number_at name d)
 abbrev pub principal_at : List ℕ → Data → Option (List ℕ)
 principal_at name d = option_and_then principal_from (text_at name d)
 
--- the kind of an object
 abbrev pub kind_from : List ℕ → Option Kind
 kind_from text = if bytes_eq text (codes "file") then Some File
     else (if bytes_eq text (codes "folder") then Some Folder else None)
@@ -75,7 +73,6 @@ entry_by (Some flags) (Some mask) (Some allow) None = None
 entry_by (Some flags) (Some mask) (Some allow) (Some text) =
     option_map (λ who. record { allow = allow; flags = flags; mask = mask; who = who }) (who_from flags text)
 
--- four members, exactly
 abbrev pub entry_in : Data → Option EntryModel
 entry_in d =
     if has_count 4 d then entry_by (flags_at (codes "flag") d)

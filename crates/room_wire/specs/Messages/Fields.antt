@@ -8,7 +8,6 @@ use Rattle.room_wire.specs.Messages.Limits.{max_body}
 use Rattle.room_wire.specs.declared.messages.fields.Found.{Found}
 use Rattle.room_wire.specs.declared.messages.fields.Found.TheVariants.{Absent, One, Many}
 
--- the field has this name, in any case
 abbrev pub has_name : List ℕ → List ℕ × List ℕ → Bool
 has_name name field = bytes_eq (map to_ascii_lowercase field.0) (map to_ascii_lowercase name)
 
@@ -18,7 +17,6 @@ values_named name [] = []
 values_named name (field ∷ fields) =
     if has_name name field then field.1 ∷ values_named name fields else values_named name fields
 
--- 1 to 10 digits
 abbrev pub is_length_text : List ℕ → Bool
 is_length_text text = nat_le 1 (length text) && (nat_le (length text) 10 && list_all is_ascii_digit text)
 

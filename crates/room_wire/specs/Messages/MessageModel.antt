@@ -5,7 +5,6 @@ use Rattle.httparse.specs.Spans.{name_and_value}
 use Rattle.room_wire.specs.Messages.Fields.{body_length}
 use Rattle.room_wire.specs.Messages.Limits.{max_fields, max_head}
 
--- a head and a body
 pub record MessageModel : Type 0 where
   pub head : RequestHead
   pub body : List ℕ
@@ -14,7 +13,6 @@ pub record MessageModel : Type 0 where
 abbrev pub fields_of : MessageModel → List (List ℕ × List ℕ)
 fields_of m = map name_and_value m.head.fields
 
--- the bytes of a message
 abbrev pub print_message : MessageModel → List ℕ
 print_message m = print_request m.head ++ m.body
 
@@ -29,7 +27,6 @@ pub record IsMessage (m : MessageModel) : Type 0 where
   pub few_fields : length m.head.fields ≤ max_fields
   pub body : body_after m.head ≡ Some (length m.body)
 
--- the bytes are the message and then the rest
 pub record Reads (bytes : List ℕ) (m : MessageModel) (rest : List ℕ) : Type 0 where
   pub lawful : IsMessage m
   pub whole : bytes ≡ print_message m ++ rest

@@ -49,7 +49,6 @@ list_by (Some entries) (Some group) (Some groups) (Some mask) (Some owner) None 
 list_by (Some entries) (Some group) (Some groups) (Some mask) (Some owner) (Some user) =
     Some (record { entries = entries; group = group; groups = groups; mask = mask; owner = owner; user = user })
 
--- six members, exactly
 abbrev pub list_question_in : Data → Option ListQuestion
 list_question_in d =
     if has_count 6 d then list_by (entries_at (codes "entries") d)
@@ -62,7 +61,6 @@ child_by None entries = None
 child_by (Some kind) None = None
 child_by (Some kind) (Some entries) = Some (record { kind = kind; entries = entries })
 
--- two members, exactly
 abbrev pub child_question_in : Data → Option ChildQuestion
 child_question_in d = if has_count 2 d
     then child_by (kind_at (codes "child") d) (entries_at (codes "entries") d) else None
@@ -72,6 +70,5 @@ abbrev pub question_in : Data → Option QuestionModel
 question_in d = if has_count 2 d then option_map OfChild (child_question_in d)
     else option_map OfList (list_question_in d)
 
--- the question of a body
 abbrev pub question_of_body : List ℕ → Option QuestionModel
 question_of_body body = option_and_then question_in (json_of body)

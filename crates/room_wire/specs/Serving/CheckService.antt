@@ -21,7 +21,6 @@ abbrev pub answer_to_ask : Result QuestionModel WireFault → AnswerModel
 answer_to_ask (Ok question) = Reply (answer_text question)
 answer_to_ask (Err fault) = Refused (fault_code fault)
 
--- the answer to what was asked, or DELAY
 abbrev pub IsCheckAnswer : Result QuestionModel WireFault → AnswerModel → Type 0
 IsCheckAnswer ask answer = (answer ≡ answer_to_ask ask) ⊎ (answer ≡ Refused C.Delay)
 

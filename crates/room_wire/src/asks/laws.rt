@@ -12,8 +12,8 @@ pub fn check_route_is_one_target()
     ensures { (target : List ℕ) → is_route check_rows target ≡ bytes_eq target (codes "/v1/check") }
 {}
 
-/// The routes of a room are exactly these three texts, with any parts (`targets`); and such a target asks, by its
-/// method, with just these parts (`asked`).
+/// The routes of a room are exactly these three texts, with any parts (`targets`); and such a target, in ASCII without
+/// marks, asks by its method with just these parts (`asked`).
 pub fn routes_are_three_targets()
     ensures targets { (target : List ℕ) → AllByRecursion (λ b. b < 256) target →
         (is_route room_rows target ≡ true) ↔ ((list_any is_mark target ≡ false)
