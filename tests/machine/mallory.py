@@ -38,13 +38,16 @@ except OSError as fault:
     print("refused")
 """
 
-PROBE = """
-import glob, os, resource
+READS = """
+import glob, json, os, resource, socket
 def reads(path):
     try:
         return bool(os.listdir(path) if os.path.isdir(path) else open(path, "rb").read(1))
     except OSError:
         return False
+"""
+
+PROBE = READS + """
 looks = ["/var/lib/fileroom/club", "/var/lib/fileroom/club/room.db", "/var/backups/fileroom",
          "/etc/nginx/fileroom/rooms.json", *glob.glob("/proc/*/root/var/lib/fileroom/club")]
 seen = [it for it in looks if reads(it)]

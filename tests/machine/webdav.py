@@ -5,18 +5,13 @@ import json
 import os
 import pwd
 
+from mallory import READS
 from nginx import login
 from served import Line, message, text_of
 
 FOLDER = "/var/lib/fileroom-dav"
 GATEWAY, MEETING = "/run/fileroom-dav/gateway.sock", "/run/fileroom-front/dav.sock"
-PROBE = """
-import glob, json, os, socket
-def looks(path):
-    try:
-        return bool(os.listdir(path) if os.path.isdir(path) else open(path, "rb").read(1))
-    except OSError:
-        return False
+PROBE = READS + """
 def writes(path):
     try:
         return bool(open(path, "x"))
@@ -34,7 +29,7 @@ def told(at, *fields):
 places = ["/var/lib/fileroom", "/var/lib/fileroom/plans/room.db", "/var/backups", "/etc/nginx/fileroom/users",
           "/etc/fileroom", "/run/fileroom", "/root", *glob.glob("/proc/*/root/etc/nginx/fileroom")]
 open("/var/lib/fileroom-dav/probe", "w").write(json.dumps({
-    "sees": [it for it in places if looks(it)],
+    "sees": [it for it in places if reads(it)],
     "run": [os.path.join(top, it) for top, _, names in os.walk("/run") for it in names],
     "writes": [it for it in ("/etc/probe", "/run/probe", "/run/fileroom-front/probe") if writes(it)],
     "reaches": [told(it) for it in (("127.0.0.1", 8001), ("127.0.0.1", 8080), "/run/fileroom/plans.sock")],
