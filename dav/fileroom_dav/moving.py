@@ -10,7 +10,7 @@ from .asked import Asked, Reply
 from .faults import Answered, is_refused
 from .names import above, below, is_below, is_passing, last
 from .rules import Rules
-from .tree import Thing, bytes_of, opened, shown, standing
+from .tree import Thing, bytes_of, standing, thing_at
 from .visit import Visit
 from .writing import make_folder, need_folder_above, place, put_bytes
 
@@ -55,7 +55,7 @@ def moved(gate, visit: Visit, asked: Asked, source: str, target: str) -> bool:
         if not is_refused(fault, "EXIST"):
             raise moving(visit, fault, source) from None
     need_overwrite(asked)
-    its, there = opened(visit, source), shown(visit, target)
+    its, there = thing_at(visit, source), thing_at(visit, target, is_shown=True)
     if not its.is_folder and not there.is_folder:
         put_over(gate, visit, source, target)
     else:
@@ -68,7 +68,7 @@ def put_over(gate, visit: Visit, source: str, target: str) -> None:
     """(What goes is what was read: under another name nobody writes to it meanwhile.)"""
     aside = set_aside(visit, source)
     with put_back(visit, aside, source):
-        its = opened(visit, aside)
+        its = thing_at(visit, aside)
         with gate.for_size(its.size):
             put_bytes(visit, target, bytes_of(visit, its))
         files.remove_file(visit, aside) if its.large else visit.remove(aside)
@@ -78,7 +78,7 @@ def moving(visit: Visit, fault: Refused, source: str) -> Exception:
     """NOENT is of the source, or of the folder that it is to go to."""
     if not is_refused(fault, "NOENT", "NOTDIR"):
         return fault
-    shown(visit, source)
+    thing_at(visit, source, is_shown=True)
     return Answered(409, str(fault))
 
 
@@ -95,7 +95,7 @@ def need_overwrite(asked: Asked) -> None:
 
 def copy(gate, visit: Visit, asked: Asked) -> Reply:
     source, target = two_places(gate, visit, asked, leaves=False)
-    its = opened(visit, source)
+    its = thing_at(visit, source)
     with gate.changing(asked.room, target):
         is_made = copied(gate, visit, asked, its, target)
     return Reply(201 if is_made else 204)
@@ -103,7 +103,7 @@ def copy(gate, visit: Visit, asked: Asked) -> Reply:
 
 def copied(gate, visit: Visit, asked: Asked, its: Thing, target: str) -> bool:
     try:
-        there = shown(visit, target)
+        there = thing_at(visit, target, is_shown=True)
     except Answered:
         there = None
     if there:
@@ -148,7 +148,7 @@ def copy_folder(gate, visit: Visit, source: str, target: str, made: list[str], d
     if len(made) + len(names) > MOST_COPIED:
         raise Answered(507, f"a copy has at most {MOST_COPIED} things")
     for name in names:
-        its = opened(visit, below(source, name))
+        its = thing_at(visit, below(source, name))
         if its.is_folder:
             copy_folder(gate, visit, its.path, below(target, name), made, deep - 1)
         else:

@@ -9,7 +9,7 @@ from .faults import Answered
 from .locks import Lock
 from .names import href
 from .rules import Rules
-from .tree import Thing, listed, shown
+from .tree import Thing, listed, thing_at
 from .visit import Visit
 
 XML = ("Content-Type", "application/xml; charset=utf-8")
@@ -68,7 +68,7 @@ def propfind(gate, visit: Visit, asked: Asked) -> Reply:
     if asked.depth == "1":
         top, inside = listed(visit, asked.path, wants_sums, gate.memory, asked.room)
     else:
-        top, inside = shown(visit, asked.path), []
+        top, inside = thing_at(visit, asked.path, is_shown=True), []
     things = [top, *inside]
     times = gate.seen.times(asked.room, {it.path: it.sum for it in things if it.sum}) if wants_sums else {}
     mine = [it for it in gate.locks.of(asked.room) if it.user == asked.user]
@@ -82,7 +82,7 @@ def propfind(gate, visit: Visit, asked: Asked) -> Reply:
 def proppatch(gate, visit: Visit, asked: Asked) -> Reply:
     """The room has no place for properties. What Explorer sets is taken, or it would report each file as failed."""
     names = list(dict.fromkeys(bodies.proppatch_of(asked.body(bodies.MOST_BYTES))))
-    its = shown(visit, asked.path)
+    its = thing_at(visit, asked.path, is_shown=True)
     rules = Rules(visit, asked, gate.locks)
     rules.need()
     rules.need_free(its.path)

@@ -5,14 +5,14 @@ from email.utils import formatdate
 from .asked import Asked, Reply
 from .faults import Answered
 from .rules import Rules
-from .tree import Thing, bytes_of, opened
+from .tree import Thing, bytes_of, thing_at
 from .visit import Visit
 
 RANGE = re.compile(r"bytes=([0-9]{0,10})-([0-9]{0,10})")
 
 
 def get(gate, visit: Visit, asked: Asked) -> Reply:
-    its = opened(visit, asked.path)
+    its = thing_at(visit, asked.path)
     if its.is_folder:
         raise Answered(405, f"{its.path} is a folder: open it with a file manager")
     rules = Rules(visit, asked, gate.locks)

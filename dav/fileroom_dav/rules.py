@@ -8,7 +8,7 @@ from .asked import Asked
 from .faults import Answered, is_refused
 from .locks import Condition, Locks
 from .names import above, split_destination
-from .tree import Thing, opened, spelled
+from .tree import Thing, spelled, thing_at
 from .visit import Visit
 
 WRITE = 0x2  # on a folder: to add a document
@@ -31,7 +31,7 @@ class Rules:
         """Of what is at a path, `""` where it has none, or None where nothing is there."""
         if path not in self.tags:
             try:
-                self.tags[path] = opened(self.visit, path).etag or ""
+                self.tags[path] = thing_at(self.visit, path).etag or ""
             except Answered as fault:
                 if fault.status != 404:
                     raise

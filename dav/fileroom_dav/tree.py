@@ -82,43 +82,27 @@ def found_at(visit: Visit, path: str, look):
     raise not_there(path)
 
 
-def opened(visit: Visit, path: str) -> Thing:
-    """For who wants the bytes: a document comes with them, a large file with its manifest. One that may not be read is
-    refused."""
+def thing_at(visit: Visit, path: str, *, is_shown: bool = False) -> Thing:
+    """A document comes with its bytes, a large file with its manifest. What the caller may not read is refused or, with
+    `is_shown`, told of as far as the room does."""
     if path == "/":
+        if is_shown:
+            visit.stat(path)
         return Thing(path, True)
-    return found_at(visit, path, lambda it: _opened(visit, it))
+    return found_at(visit, path, lambda it: _thing_at(visit, it, is_shown))
 
 
-def _opened(visit: Visit, path: str) -> Thing:
+def _thing_at(visit: Visit, path: str, is_shown: bool) -> Thing:
     try:
         return document(path, visit.read(path))
     except Refused as fault:
-        if not is_refused(fault, "ISDIR"):
+        if not is_refused(fault, "ISDIR") and not (is_shown and is_refused(fault, "ACCESS")):
             raise
-    its = files.manifest_in(visit, path)
+    told = visit.stat(path) if is_shown else {"kind": FOLDER}
+    if told["kind"] != FOLDER:
+        return Thing(path, False, told["size"])
+    its = files.large_at(visit, path) if is_shown else files.manifest_in(visit, path)
     return large(path, its) if its else Thing(path, True)
-
-
-def shown(visit: Visit, path: str) -> Thing:
-    """For who wants to be told of it: also what may not be read, as far as the room tells it."""
-    if path == "/":
-        visit.stat(path)
-        return Thing(path, True)
-    return found_at(visit, path, lambda it: _shown(visit, it))
-
-
-def _shown(visit: Visit, path: str) -> Thing:
-    try:
-        return document(path, visit.read(path))
-    except Refused as fault:
-        if is_refused(fault, "NOENT", "NOTDIR"):
-            raise
-    its = visit.stat(path)
-    if its["kind"] != FOLDER:
-        return Thing(path, False, its["size"])
-    whole = files.large_at(visit, path)
-    return large(path, whole) if whole else Thing(path, True)
 
 
 def is_folder(visit: Visit, path: str) -> bool:
@@ -146,7 +130,7 @@ def listed(visit: Visit, path: str, wants_sums: bool, memory: Memory, room: str)
     try:
         path, names = found_at(visit, path, lambda it: (it, visit.children(it)))
     except Answered:  # (a document is no folder)
-        return shown(visit, path), []
+        return thing_at(visit, path, is_shown=True), []
     except Refused as fault:
         if is_refused(fault, "ACCESS"):
             return shown_without_names(visit, path, fault), []
@@ -166,7 +150,7 @@ def listed(visit: Visit, path: str, wants_sums: bool, memory: Memory, room: str)
 
 def shown_without_names(visit: Visit, path: str, fault: Refused) -> Thing:
     """A large file is one to whom the room shows no names, too; a folder is refused."""
-    its = shown(visit, path)
+    its = thing_at(visit, path, is_shown=True)
     if its.is_folder:
         raise fault
     return its
