@@ -27,7 +27,7 @@ class Lossy(Counter):
             self.does("ann", "PUT", f"{folder}/e", 412, b"", If_Match='"no"')
             self.assertEqual(sorted(self.names("ann", folder)), [f"/dav/plans{folder}/", f"/dav/plans{folder}/b"])
         self.does("ann", "PUT", "/large", 201, large)
-        self.does("ann", "PUT", "/large", 204, large[::-1])
+        self.does("ann", "PUT", "/large", 204, iter([large[:0:-1], large[:1]]))  # (in chunks)
         self.assertEqual(self.does("ann", "GET", "/large", 200).body, large[::-1])
         self.loser.share = 0.0
         self.assertTrue(all(self.loser.lost.values()), self.loser.lost)

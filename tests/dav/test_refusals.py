@@ -2,9 +2,10 @@
 import hashlib
 import os
 import socket
+import subprocess
 
 from room_client import files
-from counter import ANNS, BOB_READS, BOB_WRITES, HERS, Counter, make_folders
+from counter import ANNS, BOB_READS, BOB_WRITES, HERS, PASSWORDS, Counter, make_folders
 
 LOCKINFO = (b'<?xml version="1.0"?><D:lockinfo xmlns:D="DAV:"><D:lockscope><D:%s/></D:lockscope><D:locktype><D:write/>'
             b"</D:locktype><D:owner>me &amp; mine</D:owner></D:lockinfo>")
@@ -189,6 +190,25 @@ class Refusals(Counter):
         self.does("ann", "PUT", "/sixteen", 413, b"x" * (1 << 24) + b"y")
         self.does("ann", "PUT", "/sixteen", 413, b"", Content_Length="99999999999")
         self.does("ann", "GET", "/sixteen", 404)
+
+    def test_a_body_of_a_length_that_is_not_told(self):
+        """Finder sends such, and curl from a pipe. (What is iterated http.client sends in chunks.)"""
+        large = os.urandom(200_000)
+        for status, parts in (201, [b"one, ", b"two"]), (204, [large[:70_000], large[70_000:]]), (204, []):
+            self.does("ann", "PUT", "/chunked", status, iter(parts))
+            self.assertEqual(self.does("ann", "GET", "/chunked", 200).body, b"".join(parts))
+        words = ["curl", "-s", "-o", "/dev/null", "-w", "%{http_code}", "-u", f"ann:{PASSWORDS['ann']}", "-T", "-"]
+        said = subprocess.run([*words, self.url("chunked")], input=large, capture_output=True, timeout=120).stdout
+        self.assertEqual((said, self.does("ann", "GET", "/chunked", 200).body), (b"204", large))
+        top = b'<D:propfind xmlns:D="DAV:"><D:prop><D:resourcetype/></D:prop></D:propfind>'
+        self.does("ann", "PROPFIND", "/chunked", 207, iter([top[:9], top[9:]]), Depth="0")
+
+    def test_a_body_without_a_length_that_is_too_large(self):
+        for path, end, status in ("/._just", [], 201), ("/chunked-17", [b"y"], 413):
+            self.does("ann", "PUT", path, status, iter([b"x" * (1 << 20)] * 16 + end))
+        self.does("ann", "GET", "/chunked-17", 404)
+        self.does("nobody", "PUT", "/chunked-17", 401, iter([b"x"]))
+        self.does("ann", "POST", "/rooms/plans/v1/check", 411, iter([b"{}"]), raw=True)
 
     def test_passing_files_stay_here(self):
         for name in "._notes.txt", ".DS_Store", "Thumbs.db", "desktop.ini":
