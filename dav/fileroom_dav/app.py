@@ -135,7 +135,7 @@ class Gate:
                                      ("Content-Disposition", "attachment")])
         its = props.Thing(asked.path, False, len(data), sum_of(data))
         wanted = bodies.propfind_of(asked.body(bodies.MOST_BYTES)) if asked.method == "PROPFIND" else []
-        inside = props.told_of(wanted, props.properties(its, [], None))
+        inside = props.told_of(wanted, props.properties(its, "", None))
         return Reply(207, bodies.multistatus([bodies.response(
             props.href(asked.room, asked.path, False), inside)]), [props.XML])
 
@@ -152,7 +152,7 @@ def refusal(fault: Answered) -> Reply:
     fields = [("Content-Type", "text/plain; charset=utf-8")]
     body = (re.sub(r"[\x00-\x1f\x7f]", "?", fault.why) + "\n").encode(errors="replace")
     if fault.condition:
-        fields, body = [props.XML], bodies.error(fault.condition, fault.why)
+        fields, body = [props.XML], bodies.error(fault.condition, fault.why, fault.where)
     if fault.status == 401:
         fields.append(("WWW-Authenticate", 'Basic realm="rooms"'))
     if fault.status == 405:

@@ -86,10 +86,22 @@ def prop(inside: str) -> bytes:
     return f'{HEAD}<D:prop xmlns:D="DAV:">{inside}</D:prop>\n'.encode()
 
 
-def error(condition: str, why: str) -> bytes:
-    """A refusal with a name of RFC 4918, and why."""
-    return (f'{HEAD}<D:error xmlns:D="DAV:"><D:{condition}/><D:responsedescription>{text(why)}'
-            "</D:responsedescription></D:error>\n").encode()
+def error(condition: str, why: str, where: str | None = None) -> bytes:
+    """A refusal with a name of RFC 4918, of what is at an address, and why."""
+    return f'{HEAD}<D:error xmlns:D="DAV:">{of_what(condition, where)}{in_words(why)}</D:error>\n'.encode()
+
+
+def refused(status: int, condition: str, why: str, where: str) -> str:
+    """The same inside a response."""
+    return f"{status_line(status)}<D:error>{of_what(condition, where)}</D:error>{in_words(why)}"
+
+
+def of_what(condition: str, where: str | None) -> str:
+    return element(DAV + condition, f"<D:href>{text(where)}</D:href>" if where else "")
+
+
+def in_words(why: str) -> str:
+    return f"<D:responsedescription>{text(why)}</D:responsedescription>"
 
 
 # What is asked

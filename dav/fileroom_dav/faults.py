@@ -15,11 +15,11 @@ REASONS = {200: "OK", 201: "Created", 204: "No Content", 206: "Partial Content",
 
 
 class Answered(Exception):
-    """A request that is refused here, with a status and why."""
+    """A request that is refused here, with a status, why, and what RFC 4918 calls it, of what is at an address."""
 
-    def __init__(self, status: int, why: str, condition: str | None = None):
+    def __init__(self, status: int, why: str, condition: str | None = None, where: str | None = None):
         super().__init__(why)
-        self.status, self.why, self.condition = status, why, condition
+        self.status, self.why, self.condition, self.where = status, why, condition, where
 
 
 class Busy(Answered):

@@ -2,7 +2,8 @@
 from . import bodies
 from .asked import Asked, Reply
 from .faults import Answered
-from .locks import timeout_of
+from .locks import Held, Lock, timeout_of
+from .names import href, is_below
 from .props import XML, active
 from .rules import ALL_BELOW, Rules
 from .tree import is_folder, spelled, standing
@@ -27,7 +28,10 @@ def lock(gate, visit: Visit, asked: Asked) -> Reply:
         rules.need_right(path, ALL_BELOW)
     if not is_there:
         rules.need_free(path, is_member=True)
-    held = gate.locks.take(asked.room, path, asked.user, is_shared, asked.depth == "infinity", owner, seconds)
+    try:
+        held = gate.locks.take(asked.room, path, asked.user, is_shared, asked.depth == "infinity", owner, seconds)
+    except Held as fault:
+        return in_the_way(rules, path, fault.lock)
     if not is_there:
         try:
             need_folder_above(gate, visit, asked, path)
@@ -39,8 +43,18 @@ def lock(gate, visit: Visit, asked: Asked) -> Reply:
     return told_lock(held, 200 if is_there else 201)
 
 
+def in_the_way(rules: Rules, path: str, lock: Lock) -> Reply:
+    """Where it is not the path itself that is locked, but something in it, each has its own status."""
+    its = rules.held(path, lock, "no-conflicting-lock")
+    if not is_below(lock.path, path) or its.where is None:
+        raise its
+    told = [bodies.response(its.where, bodies.refused(423, its.condition, its.why, its.where)),
+            bodies.response(href(lock.room, path, False), bodies.status_line(424))]
+    return Reply(207, bodies.multistatus(told), [XML])
+
+
 def told_lock(held, status: int) -> Reply:
-    body = bodies.prop(f"<D:lockdiscovery>{active(held)}</D:lockdiscovery>")
+    body = bodies.prop(f"<D:lockdiscovery>{active(held, True)}</D:lockdiscovery>")
     return Reply(status, body, [XML, ("Lock-Token", f"<{held.token}>")])
 
 

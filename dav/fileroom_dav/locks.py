@@ -37,6 +37,14 @@ class Lock:
         return self.path == path or self.is_deep and is_below(path, self.path)
 
 
+class Held(Exception):
+    """A lock is in the way of another."""
+
+    def __init__(self, lock: Lock):
+        super().__init__(lock)
+        self.lock = lock
+
+
 class Locks:
     def __init__(self, path: str, now=time.time):
         self.path, self.now = path, now
@@ -66,14 +74,15 @@ class Locks:
         return [it for it in self.of(room) if it.covers(path)]
 
     def in_the_way(self, room: str, path: str, is_deep: bool, is_shared: bool) -> list[Lock]:
-        """Those beside which a new lock cannot be."""
-        touched = [it for it in self.of(room) if it.covers(path) or is_deep and is_below(it.path, path)]
-        return [it for it in touched if not (is_shared and it.is_shared)]
+        """Those beside which a new lock cannot be, those of the path itself first."""
+        beside = [it for it in self.of(room) if not (is_shared and it.is_shared)]
+        return [it for it in beside if it.covers(path)] + [
+            it for it in beside if is_deep and is_below(it.path, path)]
 
     def take(self, room: str, path: str, user: str, is_shared: bool, is_deep: bool, owner: str, seconds: int) -> Lock:
         with self.mutex:
-            if self.in_the_way(room, path, is_deep, is_shared):
-                raise Answered(423, f"{path} is locked", "no-conflicting-lock")
+            for lock in self.in_the_way(room, path, is_deep, is_shared):
+                raise Held(lock)
             if len(self.held) >= MOST or sum(it.user == user for it in self.held.values()) >= MOST_OF_ONE:
                 raise Busy("there are too many locks")
             token = f"opaquelocktoken:{secrets.token_hex(16)}"

@@ -7,8 +7,8 @@ from .asked import Asked, Reply
 from .bodies import DAV
 from .faults import Answered
 from .locks import Lock
-from .names import href
-from .rules import Rules
+from .names import href, is_below
+from .rules import Rules, may_write
 from .tree import Thing, listed, thing_at
 from .visit import Visit
 
@@ -24,20 +24,21 @@ def kind_of(path: str) -> str:
     return KINDS.guess_type(path, strict=False)[0] or "application/octet-stream"
 
 
-def active(lock: Lock) -> str:
+def active(lock: Lock, is_theirs: bool) -> str:
+    """The token is for who has the lock."""
     scope, depth = "shared" if lock.is_shared else "exclusive", "infinity" if lock.is_deep else "0"
     owner = f"<D:owner>{lock.owner}</D:owner>" if lock.owner else ""
+    token = f"<D:locktoken><D:href>{lock.token}</D:href></D:locktoken>" if is_theirs else ""
     return (f"<D:activelock><D:locktype><D:write/></D:locktype><D:lockscope><D:{scope}/></D:lockscope>"
             f"<D:depth>{depth}</D:depth>{owner}<D:timeout>Second-{lock.seconds}</D:timeout>"
-            f"<D:locktoken><D:href>{lock.token}</D:href></D:locktoken>"
-            f"<D:lockroot><D:href>{bodies.text(href(lock.room, lock.path, False))}</D:href></D:lockroot>"
+            f"{token}<D:lockroot><D:href>{bodies.text(href(lock.room, lock.path, False))}</D:href></D:lockroot>"
             "</D:activelock>")
 
 
-def properties(its: Thing, locks: list[Lock], time: int | None) -> dict[str, str]:
-    """Each property's name, and what is in its element. Only the caller's own locks are among them."""
+def properties(its: Thing, locks: str, time: int | None) -> dict[str, str]:
+    """Each property's name, and what is in its element."""
     found = {DAV + "resourcetype": "<D:collection/>" if its.is_folder else "",
-             DAV + "supportedlock": SCOPES, DAV + "lockdiscovery": "".join(map(active, locks))}
+             DAV + "supportedlock": SCOPES, DAV + "lockdiscovery": locks}
     if its.is_folder:
         return found
     found[DAV + "getcontenttype"] = bodies.text(kind_of(its.path))
@@ -71,12 +72,24 @@ def propfind(gate, visit: Visit, asked: Asked) -> Reply:
         top, inside = thing_at(visit, asked.path, is_shown=True), []
     things = [top, *inside]
     times = gate.seen.times(asked.room, {it.path: it.sum for it in things if it.sum}) if wants_sums else {}
-    mine = [it for it in gate.locks.of(asked.room) if it.user == asked.user]
+    locks = told_locks(gate, visit, asked, things)
     told = []
     for it in things:
-        found = properties(it, [lock for lock in mine if lock.covers(it.path)], times.get(it.path))
+        held = "".join(active(lock, lock.user == asked.user) for lock in locks if lock.covers(it.path))
+        found = properties(it, held, times.get(it.path))
         told.append(bodies.response(href(asked.room, it.path, it.is_folder), told_of(wanted, found)))
     return Reply(207, bodies.multistatus(told), [XML])
+
+
+def told_locks(gate, visit: Visit, asked: Asked, things: list[Thing]) -> list[Lock]:
+    """The caller's own locks of what is shown, and others', where the caller may write what is locked. (Of what has more
+    than is shown it is what is shown: who has to be told why nothing can be written may see no more.)"""
+    locks = [it for it in gate.locks.of(asked.room) if any(it.covers(shown.path) for shown in things)]
+    others = [it for it in locks if it.user != asked.user]
+    top = things[0].path
+    allowed = may_write(visit, [it.path if is_below(it.path, top) else top for it in others])
+    kept = {it.token for it, is_allowed in zip(others, allowed) if is_allowed}
+    return [it for it in locks if it.user == asked.user or it.token in kept]
 
 
 def proppatch(gate, visit: Visit, asked: Asked) -> Reply:

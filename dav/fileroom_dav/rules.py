@@ -6,14 +6,20 @@ from room_client.faults import Refused
 from . import locks as form
 from .asked import Asked
 from .faults import Answered, is_refused
-from .locks import Condition, Locks
-from .names import above, split_destination
+from .locks import Condition, Lock, Locks
+from .names import above, href, is_below, split_destination
 from .tree import Thing, spelled, thing_at
 from .visit import Visit
 
 WRITE = 0x2  # on a folder: to add a document
 ALL_BELOW = WRITE | 0x4 | 0x40  # on a folder: to add what one likes, and to take away what is in it
 TAGS = re.compile(r'(?:W/)?"[^"]*"')
+
+
+def may_write(visit: Visit, paths: list[str]) -> list[bool]:
+    """Whether the caller may write what is there, as far as the room tells them."""
+    replies = visit.ask_all({"cmd": "ACCESS", "keep": False, "mask": WRITE, "path": it} for it in paths)
+    return [it.get("allowed") == WRITE for it in replies]
 
 
 class Rules:
@@ -89,7 +95,13 @@ class Rules:
         if lock is None:
             return
         self.need_right(path)
-        raise Answered(423, f"{path} is locked", "lock-token-submitted")
+        raise self.held(path, lock, "lock-token-submitted")
+
+    def held(self, path: str, lock: Lock, condition: str) -> Answered:
+        """What is locked, and by whom; of what is below a path, for who may write that."""
+        if is_below(lock.path, path) and not may_write(self.visit, [lock.path])[0]:
+            return Answered(423, f"something in {path} is locked by somebody else")
+        return Answered(423, f"{lock.path} is locked by {lock.user}", condition, href(lock.room, lock.path, False))
 
     def need_right(self, path: str, wanted: int = WRITE) -> bool:
         """That the caller may write what is there, or make it. Whether it is there."""

@@ -10,6 +10,7 @@ from counter import ANNS, BOB_READS, BOB_WRITES, HERS, PASSWORDS, Counter, make_
 LOCKINFO = (b'<?xml version="1.0"?><D:lockinfo xmlns:D="DAV:"><D:lockscope><D:%s/></D:lockscope><D:locktype><D:write/>'
             b"</D:locktype><D:owner>me &amp; mine</D:owner></D:lockinfo>")
 EXCLUSIVE, SHARED = LOCKINFO % b"exclusive", LOCKINFO % b"shared"
+OF_IT = "<D:href>/dav/plans/both/held/it</D:href>"
 BOMB = (b'<?xml version="1.0"?><!DOCTYPE a [<!ENTITY b "0123456789"><!ENTITY c "&b;&b;&b;&b;&b;&b;&b;&b;&b;">]>'
         b'<D:propfind xmlns:D="DAV:"><D:prop><D:x>&c;</D:x></D:prop></D:propfind>')
 FILE_ENTITY = (b'<?xml version="1.0"?><!DOCTYPE a [<!ENTITY b SYSTEM "file:///etc/passwd">]>'
@@ -335,5 +336,45 @@ class Refusals(Counter):
             now = self.ask("bob", "PUT", path, b"x")
             self.assertEqual(now.status, was.status, path)
             self.assertNotIn(b"locked", now.body)
+        for path, token in tokens.items():
+            self.does("ann", "UNLOCK", path, 204, Lock_Token=token)
+
+    def test_who_holds_what(self):
+        """Whoever may write there is told what is locked, and by whom, and not the token."""
+        self.does("ann", "MKCOL", "/both/held", 201)
+        self.does("ann", "PUT", "/both/held/it", 201, b"1")
+        token = self.locked("ann", "/both/held/it", Depth="0")
+        for method, path in ("PUT", "/both/held/it"), ("DELETE", "/both/held/it"), ("DELETE", "/both/held"):
+            told = self.does("bob", method, path, 423).body.decode()
+            self.assertIn(f"<D:lock-token-submitted>{OF_IT}</D:lock-token-submitted>", told)
+            self.assertIn("/both/held/it is locked by ann", told)
+        told = self.does("bob", "LOCK", "/both/held/it", 423, EXCLUSIVE).body.decode()
+        self.assertIn(f"<D:no-conflicting-lock>{OF_IT}</D:no-conflicting-lock>", told)
+        self.assertIn("/both/held/it is locked by ann", told)
+        told = self.does("bob", "LOCK", "/both/held", 207, EXCLUSIVE).body.decode()
+        self.assertIn(f"<D:response>{OF_IT}<D:status>HTTP/1.1 423 Locked</D:status>", told)
+        self.assertIn("<D:href>/dav/plans/both/held</D:href><D:status>HTTP/1.1 424 Failed Dependency</D:status>", told)
+        for path, depth in ("/both/held/it", "0"), ("/both/held", "1"):
+            told = self.does("bob", "PROPFIND", path, 207, Depth=depth).body.decode()
+            self.assertIn("<D:owner>me &amp; mine</D:owner>", told)
+            self.assertIn(f"<D:lockroot>{OF_IT}</D:lockroot>", told)
+            self.assertNotIn("locktoken", told)
+        self.does("ann", "UNLOCK", "/both/held/it", 204, Lock_Token=token)
+
+    def test_who_holds_what_is_not_for_everybody(self):
+        """Not for who only reads it, nor what they may not see of what is below."""
+        with self.room("ann") as room:
+            room.mkdir("/both/top")
+            room.mkdir("/both/top/closed")
+            room.set_list("/both/top/closed", 3, [HERS])
+        tokens = {path: self.locked("ann", path, status, Depth="0")
+                  for path, status in (("/read/it", 200), ("/both/top/closed/secret", 201))}
+        for user, path in ("bob", "/read"), ("cat", "/read"), ("bob", "/both/top"):
+            told = self.ask(user, "PROPFIND", path, Depth="1").body.decode()
+            self.assertNotIn("activelock", told)
+            self.assertNotIn("mine", told)
+        for method, path in ("DELETE", "/both/top"), ("LOCK", "/both/top"):
+            told = self.does("bob", method, path, 423, EXCLUSIVE if method == "LOCK" else b"").body.decode()
+            self.assertEqual(told, "something in /both/top is locked by somebody else\n")
         for path, token in tokens.items():
             self.does("ann", "UNLOCK", path, 204, Lock_Token=token)
