@@ -41,17 +41,19 @@ class Memory:
         with self.mutex:
             return self.changes.get(room, 0)
 
-    def recall(self, room: str, user: str, path: str) -> dict[str, Told]:
+    def recall(self, room: str, user: str, path: str) -> tuple[float, dict[str, Told]]:
+        """What was told, and when: it grows no younger by being told again."""
         with self.mutex:
+            now = self.now()
             when, told = self.folders.get((room, user, path), (0.0, {}))
-            return told if told and self.now() - when < FRESH else {}
+            return (when, told) if told and now - when < FRESH else (now, {})
 
-    def keep(self, room: str, user: str, path: str, told: dict[str, Told], mark: int) -> None:
+    def keep(self, room: str, user: str, path: str, told: dict[str, Told], mark: int, when: float) -> None:
         with self.mutex:
             if self.changes.get(room, 0) != mark:
                 return
             self._forget((room, user, path))
-            self.folders[room, user, path] = self.now(), told
+            self.folders[room, user, path] = when, told
             self.count += len(told)
             while self.count > MOST_NAMES:
                 self._forget(next(iter(self.folders)))

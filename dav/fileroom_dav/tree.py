@@ -140,11 +140,11 @@ def listed(visit: Visit, path: str, wants_sums: bool, memory: Memory, room: str)
         if its:
             return large(path, its), []
     names = {name: kind for name, kind in names.items() if not is_hidden(name) and not is_passing(name)}
-    before = memory.recall(room, user, path)
+    when, before = memory.recall(room, user, path)
     told = {name: before[name] for name, kind in names.items()
             if name in before and before[name].kind == kind and (before[name].has_sum or not wants_sums)}
     told |= ask_of(visit, path, {name: kind for name, kind in names.items() if name not in told}, wants_sums)
-    memory.keep(room, user, path, told, mark)
+    memory.keep(room, user, path, told, mark, when)
     return Thing(path, True), [thing_of(below(path, name), told[name]) for name in names]
 
 

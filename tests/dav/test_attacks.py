@@ -16,7 +16,7 @@ from nginx import hashed, login
 from test_refusals import EXCLUSIVE, tag_of
 
 sys.path += [os.path.dirname(GATEWAY), "/usr/lib/python3/dist-packages"]
-from fileroom_dav import app, bodies, faults, locks, passing, seats, seen
+from fileroom_dav import app, bodies, faults, locks, memory, passing, seats, seen, tree, visit
 
 BOB_LISTS = {"flag": 0, "mask": 0x21, "type": 0, "who": "bob"}  # and is told nothing of what is inside
 BOB_ADDS = {"flag": 0, "mask": 0x1200A3, "type": 0, "who": "bob"}
@@ -219,6 +219,19 @@ class Alone(unittest.TestCase):
                 found += [path, *(f"{path}.{end}" for end in ("lock", "boot", "new", *range(8)))]
         self.assertEqual(len(found), len(set(found)))
 
+    def test_what_is_kept_of_a_slot(self):
+        """A small request is written in its place, and a large one takes the file's place: both are read back."""
+        path = os.path.join(self.folder, "ann@0")
+        for kept, is_page in ("a", False), ("bb", True), ("c" * 90_000, False), ("", False), ("d", True):
+            state = visit.KeptState(path, "http://x", "ann", 1.0)
+            before = os.path.exists(path) and os.stat(path).st_ino
+            state.record(kept)
+            self.assertEqual(os.stat(path).st_ino == before, is_page, kept[:9])
+            state.close()
+            again = visit.KeptState(path, "http://x", "ann", 1.0)
+            self.assertEqual(again.kept[0], state.kept[0])
+            again.close()
+
     def asked(self, method, path, length, body, **fields):
         return {"REQUEST_METHOD": method, "PATH_INFO": quote(path, safe="/"), "CONTENT_LENGTH": str(length),
                 "wsgi.input": body, "HTTP_AUTHORIZATION": login("ann", "word").partition(": ")[2], **fields}
@@ -244,6 +257,24 @@ class Alone(unittest.TestCase):
             gate.answer(self.asked(method, "/dav/plans/x", app.MOST_BODY, Body()))
         gate.answer(self.asked("PUT", "/dav/plans/._x", app.MOST_BODY, Body()))
         self.assertIn(said, ([], ["turn", "read", "over"]))
+
+    def test_a_listing_is_remembered_for_fifteen_seconds(self):
+        """Also by who lists more often than that."""
+        now, said = [0.0], []
+        its = memory.Memory(now=lambda: now[0])
+
+        class Visit:
+            settings = types.SimpleNamespace(user="ann")
+
+            def children(self, path):
+                return {"it": "file"}
+
+            def ask_all(self, commands):
+                said.extend((now[0], it["cmd"]) for it in commands)
+                return [{"code": 0, "data": "aGk="} for _ in said[:1]]
+        for now[0] in 0.0, 5.0, 10.0, 16.0, 20.0, 29.0, 32.0:
+            tree.listed(Visit(), "/folder", True, its, "plans")
+        self.assertEqual([it for it, cmd in said if cmd == "READ"], [0.0, 16.0, 32.0])
 
     def test_passing_files_are_few(self):
         its = passing.Passing(now=lambda: 0.0)
