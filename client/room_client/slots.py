@@ -67,8 +67,9 @@ class Pace:
         with self.lock:
             now = time.monotonic()
             self.left, self.at = min(self.left + (now - self.at) * self.rate, BURST) - 1, now
-            pause = max(-self.left / self.rate, 0)
-        time.sleep(pause)
+            pause = -self.left / self.rate
+        if pause > 0:
+            time.sleep(pause)
 
 
 class Slot:

@@ -6,6 +6,8 @@ left pending is never done late; and a refusal by the front is known by its stat
 """
 import base64
 import contextlib
+import errno
+import functools
 import http.client
 import json
 import os
@@ -20,6 +22,7 @@ from room_client.slots import Pace, Slot
 from room_client.state import Session, State
 
 RATE = 240.0  # requests a second of one user, below what the front's socket takes of one (front/dav-http.conf)
+PAGE = 4096
 WIDTH = 4  # slots of a session: with four sessions of a user that is what a front takes of one at once
 BOOT = "/proc/sys/kernel/random/boot_id"
 
@@ -43,6 +46,7 @@ class SocketConnection(http.client.HTTPConnection):
         self.sock.connect(self.path)
 
 
+@functools.cache
 def line_to(front: str) -> type[Line]:
     """Lines to the front: at the path of its socket, or at 127.0.0.1:PORT."""
     class FrontLine(Line):
@@ -82,10 +86,18 @@ class KeptState(State):
             return None
 
     def _write(self, path: str, what: dict) -> None:
-        new = path + ".new"
-        with open(os.open(new, os.O_WRONLY | os.O_CREAT | os.O_TRUNC, 0o600), "w", encoding="utf-8") as file:
-            json.dump(what, file)
-        os.replace(new, path)
+        """One page in its place, which a kill does not cut: a file that is replaced waits for the disk."""
+        text = json.dumps(what).encode().ljust(PAGE)
+        is_page = len(text) == PAGE and os.path.exists(path) and os.path.getsize(path) == PAGE
+        at = path if is_page else path + ".new"
+        file = os.open(at, os.O_WRONLY if is_page else os.O_WRONLY | os.O_CREAT | os.O_TRUNC, 0o600)
+        try:
+            if os.pwrite(file, text, 0) < len(text):
+                raise OSError(errno.ENOSPC, os.strerror(errno.ENOSPC))
+        finally:
+            os.close(file)
+        if not is_page:
+            os.replace(at, path)
 
     @property
     def boot_path(self) -> str:
