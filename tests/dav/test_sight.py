@@ -1,28 +1,53 @@
 """Nobody sees or does by WebDAV what the lists do not let them: random requests of three users, compared with a plain
-model of the room (tests/plain.py), while lists change past the gateway."""
+model of the room (tests/plain.py), while lists and bytes change past the gateway."""
 import base64
 import hashlib
+import json
 import os
 import random
 import re
+import time
 from urllib.parse import unquote
 
 from plain import Caller, PlainRoom, Refused
 from counter import Counter, PASSWORDS
+from served import session, slot
 
 GROUPS = {"ann": ["eng"], "bob": ["eng", "staff"], "cat": []}
-COUNT = int(os.environ.get("COUNT", "1500"))
+COUNT, SEED = int(os.environ.get("COUNT", "3000")), int(os.environ.get("SEED", "7"))
 NAMES = ["a", "b", "c"]
+FRESH = 15.0  # seconds, as docs/DAV.md has it
 ALL_BELOW = 0x46  # on a folder: for who locks it with all that is in it
 MASKS = [0x1, 0x2, 0x4, 0x20, 0x40, 0x80, 0x10000, 0x1200A9, 0x1301EF, 0x1F07FF]
 
 
+class Wire:
+    """A user past the gateway and the front. (What a desk's client keeps on its disk takes longer than the room.)"""
+
+    def __init__(self, served, user):
+        self.served, self.user, self.number = served, user, 0
+        self.sid = f"{sum(user.encode()):032x}"
+        self.send(session(1, self.sid, user))
+
+    def send(self, message):
+        line = self.served.line()
+        try:
+            return json.loads(line.ask(message).body)
+        finally:
+            line.close()
+
+    def ask(self, command):
+        self.number += 1
+        return self.send(slot(0, self.number, command, self.user, self.sid))
+
+
 class Sight(Counter):
     def setUp(self):
-        self.random = random.Random(int(os.environ.get("SEED", "7")))
+        self.random = random.Random(SEED)
         self.plain = PlainRoom(GROUPS, "ann", "eng")
-        self.told = set()  # (user, path, size, sum): what a listing may still tell
-        self.done = 0
+        self.at_wire = {it: Wire(self.served, it) for it in PASSWORDS}
+        self.told = {}  # when a user was told this size and sum of a path: so long a listing may still tell it
+        self.done, self.since = 0, 0.0
 
     def caller(self, user):
         return Caller(user, GROUPS[user])
@@ -37,29 +62,30 @@ class Sight(Counter):
     def test_three_users(self):
         self.share_root()
         kinds = [self.listing, self.one, self.get, self.get, self.put, self.put, self.mkcol, self.delete, self.move,
-                 self.copy, self.lock, self.change_list, self.change_list]
-        for at in range(COUNT):
+                 self.copy, self.lock, self.change_list, self.change_list, self.write]
+        while self.done < COUNT:
             user = self.random.choice(sorted(PASSWORDS))
             kind = self.random.choice(kinds)
-            with self.subTest(at=at, kind=kind.__name__, user=user):
+            try:
                 kind(user)
+            except AssertionError as fault:  # (the model is another room from here on)
+                fault.add_note(f"SEED={SEED}, request {self.done}: {kind.__name__} by {user}")
+                raise
         self.compare_rooms()
         print(f"dav: {self.done} requests were compared with the model, {len(self.plain.things)} things at the end",
               flush=True)
-        self.assertGreater(self.done, COUNT // 3)
 
     def share_root(self):
         entries = [{"flag": 0, "mask": 0x1301EF, "type": 0, "who": "EVERYONE@"},
                    {"flag": 3, "mask": 0x1F07FF, "type": 0, "who": "OWNER@"}]
-        with self.room("ann") as room:
-            room.set_list("/", 0, entries)
+        self.at_wire["ann"].ask({"aclflag": 0, "cmd": "SETLIST", "entries": entries, "path": "/"})
         self.model("ann", "SETLIST", "/", aclflag=0, entries=entries)
 
     def draw(self):
         return "/" + "/".join(self.random.choice(NAMES) for _ in range(self.random.randint(1, 3)))
 
     def asks(self, user, method, path, body=b"", **how):
-        self.done += 1
+        self.done, self.since = self.done + 1, time.monotonic()
         return self.ask(user, method, path, body, **how)
 
     def fits(self, got, *wanted):
@@ -120,7 +146,7 @@ class Sight(Counter):
 
     def compare_file(self, user, path, size, tag):
         """What a listing tells of a document is what the room tells this user of it now, or told them a moment ago."""
-        if (user, path, size, tag) in self.told:
+        if self.since - self.told.get((user, path, size, tag), -FRESH) < FRESH:
             return
         read, stat = self.model(user, "READ", path), self.model(user, "STAT", path)
         if isinstance(read, dict):
@@ -129,10 +155,10 @@ class Sight(Counter):
             return self.note(user, path, data)
         self.assertIsNone(tag, path)
         self.assertEqual(size, stat["size"] if isinstance(stat, dict) else None, path)
-        self.told.add((user, path, size, tag))
+        self.told[user, path, size, tag] = time.monotonic()
 
     def note(self, user, path, data):
-        self.told.add((user, path, len(data), tag_of(data)))
+        self.told[user, path, len(data), tag_of(data)] = time.monotonic()
 
     # What changes
 
@@ -217,8 +243,14 @@ class Sight(Counter):
             return
         entries = [it, *its["entries"]][:6]
         want = self.model(owner, "SETLIST", path, aclflag=its["aclflag"], entries=entries)
-        with self.room(owner) as room:
-            reply, = room.ask_all([{"aclflag": its["aclflag"], "cmd": "SETLIST", "entries": entries, "path": path}])
+        reply = self.at_wire[owner].ask({"aclflag": its["aclflag"], "cmd": "SETLIST", "entries": entries, "path": path})
+        self.assertEqual(reply["code"], 0 if isinstance(want, dict) else want)
+
+    def write(self, user):
+        """Past the gateway."""
+        path, data = self.draw(), self.random.randbytes(self.random.randint(0, 9))
+        want = self.model(user, "WRITE", path, data=data)
+        reply = self.at_wire[user].ask({"cmd": "WRITE", "data": base64.b64encode(data).decode(), "path": path})
         self.assertEqual(reply["code"], 0 if isinstance(want, dict) else want)
 
     def compare_rooms(self):
@@ -226,11 +258,9 @@ class Sight(Counter):
         for at, it in self.plain.things.items():
             path = "/" + "/".join(at)
             for user in PASSWORDS:
-                want = self.model(user, "LIST" if it.is_folder else "READ", path)
-                if isinstance(want, dict):
-                    with self.room(user) as room:
-                        got = room.children(path) if it.is_folder else room.read(path)
-                    self.assertEqual(got, dict(want["names"]) if it.is_folder else base64.b64decode(want["data"]))
+                cmd = "LIST" if it.is_folder else "READ"
+                want, got = self.model(user, cmd, path), self.at_wire[user].ask({"cmd": cmd, "path": path})
+                self.assertEqual(got if got["code"] == 0 else got["code"], want)
 
 
 def parts(path):
