@@ -71,7 +71,13 @@ impl<S: Shelf> TripShelf<S> {
 }
 
 impl<S: Shelf> Shelf for TripShelf<S> {
-    ghost use Rattle.room_records.specs.Trip.{trip_view};
+    ghost use Rattle.std.specs.Prelude.{◌≡◌, [], length, unwrap_or, OnOk};
+    ghost use Rattle.room_acl.specs.Access.{decision};
+    ghost use Rattle.room_records.specs.Changes.{apply_changes, RulesHoldAfterEach, Untouched};
+    ghost use Rattle.room_records.specs.Shelf.{ShelfCall, fault_in, AreChildren};
+    ghost use Rattle.room_records.specs.Shelf.{AreNames, IsChildCount, IsChildNamed, LeavesOldOrNew};
+    ghost use Rattle.room_slots.specs.Slots.{kept_seq};
+    ghost use Rattle.room_records.specs.Trip.{trip_view, TripCall, TripRead};
 
     ghost view = { trip_view S.view };
 
@@ -83,42 +89,58 @@ impl<S: Shelf> Shelf for TripShelf<S> {
 
     ghost leaves_laid_out = { λ s h d. S.leaves_laid_out s.inner h d };
 
-    fn node(&mut self, id: u32) -> Result<Option<Node>, ShelfFault> {
+    fn node(&mut self, id: u32) -> Result<Option<Node>, ShelfFault>
+        ensures { TripRead S.view self.old self.new result (λ records found. found ≡ records.objects.node id) }
+    {
         if self.trips() {
             return Err(ShelfFault::Store);
         }
         self.inner.node(id)
     }
 
-    fn child(&mut self, parent: u32, name: &FileName) -> Result<Option<Node>, ShelfFault> {
+    fn child(&mut self, parent: u32, name: &FileName) -> Result<Option<Node>, ShelfFault>
+        ensures { TripRead S.view self.old self.new result (λ records. IsChildNamed records.objects parent name.now) }
+    {
         if self.trips() {
             return Err(ShelfFault::Store);
         }
         self.inner.child(parent, name)
     }
 
-    fn children(&mut self, parent: u32) -> Result<Vec<Node>, ShelfFault> {
+    fn children(&mut self, parent: u32) -> Result<Vec<Node>, ShelfFault>
+        ensures { TripRead S.view self.old self.new result
+            (λ records found. AreChildren records.objects parent found.items) }
+    {
         if self.trips() {
             return Err(ShelfFault::Store);
         }
         self.inner.children(parent)
     }
 
-    fn names(&mut self, parent: u32) -> Result<Vec<(FileName, Kind)>, ShelfFault> {
+    fn names(&mut self, parent: u32) -> Result<Vec<(FileName, Kind)>, ShelfFault>
+        ensures { TripRead S.view self.old self.new result
+            (λ records found. AreNames records.objects parent found.items) }
+    {
         if self.trips() {
             return Err(ShelfFault::Store);
         }
         self.inner.names(parent)
     }
 
-    fn child_count(&mut self, parent: u32) -> Result<u64, ShelfFault> {
+    fn child_count(&mut self, parent: u32) -> Result<u64, ShelfFault>
+        ensures { TripRead S.view self.old self.new result
+            (λ records count. IsChildCount records.objects parent count) }
+    {
         if self.trips() {
             return Err(ShelfFault::Store);
         }
         self.inner.child_count(parent)
     }
 
-    fn entries(&mut self, id: u32) -> Result<Vec<Entry>, ShelfFault> {
+    fn entries(&mut self, id: u32) -> Result<Vec<Entry>, ShelfFault>
+        ensures { TripRead S.view self.old self.new result
+            (λ records found. found.items ≡ records.objects.entries id) }
+    {
         if self.trips() {
             return Err(ShelfFault::Store);
         }
@@ -131,56 +153,89 @@ impl<S: Shelf> Shelf for TripShelf<S> {
         subject: &Subject,
         standing: &Standing,
         wanted: Mask,
-    ) -> Result<Decision, ShelfFault> {
+    ) -> Result<Decision, ShelfFault>
+        ensures { TripRead S.view self.old self.new result (λ records found.
+            found ≡ decision (records.objects.entries id) subject.now standing.now wanted) }
+    {
         if self.trips() {
             return Err(ShelfFault::Store);
         }
         self.inner.decide_at(id, subject, standing, wanted)
     }
 
-    fn doc(&mut self, id: u32) -> Result<Vec<u8>, ShelfFault> {
+    fn doc(&mut self, id: u32) -> Result<Vec<u8>, ShelfFault>
+        ensures { TripRead S.view self.old self.new result (λ records found.
+            found.items ≡ unwrap_or (records.objects.document id) []) }
+    {
         if self.trips() {
             return Err(ShelfFault::Store);
         }
         self.inner.doc(id)
     }
 
-    fn doc_size(&mut self, id: u32) -> Result<u64, ShelfFault> {
+    fn doc_size(&mut self, id: u32) -> Result<u64, ShelfFault>
+        ensures { TripRead S.view self.old self.new result (λ records found.
+            found ≡ length (unwrap_or (records.objects.document id) [])) }
+    {
         if self.trips() {
             return Err(ShelfFault::Store);
         }
         self.inner.doc_size(id)
     }
 
-    fn session(&mut self, sid: &Sid) -> Result<Option<SessionRow>, ShelfFault> {
+    fn session(&mut self, sid: &Sid) -> Result<Option<SessionRow>, ShelfFault>
+        ensures { TripRead S.view self.old self.new result (λ records found. found ≡ records.session sid.now) }
+    {
         if self.trips() {
             return Err(ShelfFault::Store);
         }
         self.inner.session(sid)
     }
 
-    fn slot(&mut self, sid: &Sid, slot: u32) -> Result<Option<Kept>, ShelfFault> {
+    fn slot(&mut self, sid: &Sid, slot: u32) -> Result<Option<Kept>, ShelfFault>
+        ensures { TripRead S.view self.old self.new result (λ records found. found ≡ records.slot sid.now slot) }
+    {
         if self.trips() {
             return Err(ShelfFault::Store);
         }
         self.inner.slot(sid, slot)
     }
 
-    fn slot_seq(&mut self, sid: &Sid, slot: u32) -> Result<Option<u32>, ShelfFault> {
+    fn slot_seq(&mut self, sid: &Sid, slot: u32) -> Result<Option<u32>, ShelfFault>
+        ensures { TripRead S.view self.old self.new result (λ records found.
+            found ≡ kept_seq (records.slot sid.now slot)) }
+    {
         if self.trips() {
             return Err(ShelfFault::Store);
         }
         self.inner.slot_seq(sid, slot)
     }
 
-    fn next_id(&mut self) -> Result<u32, ShelfFault> {
+    fn next_id(&mut self) -> Result<u32, ShelfFault>
+        ensures { TripRead S.view self.old self.new result (λ records next. next ≡ records.objects.next) }
+    {
         if self.trips() {
             return Err(ShelfFault::Store);
         }
         self.inner.next_id()
     }
 
-    fn commit(&mut self, changes: &[Change]) -> Result<(), ShelfFault> {
+    fn commit(&mut self, changes: &[Change]) -> Result<(), ShelfFault>
+        ensures there { (trip_view S.view self.new).is_intact → OnOk result (trip_view S.view self.new).is_available }
+        ensures frame { ShelfCall (trip_view S.view self.old) (trip_view S.view self.new) (fault_in result) }
+        ensures ok { (trip_view S.view self.new).is_intact → (trip_view S.view self.old).is_laid_out
+            → RulesHoldAfterEach changes.now (trip_view S.view self.old).records →
+            OnOk result ((trip_view S.view self.new).records
+            ≡ apply_changes changes.now (trip_view S.view self.old).records) }
+        ensures crash { (trip_view S.view self.old).is_laid_out
+            → RulesHoldAfterEach changes.now (trip_view S.view self.old).records →
+            LeavesOldOrNew (trip_view S.view self.old) (trip_view S.view self.new)
+            (λ left. left ≡ apply_changes changes.now (trip_view S.view self.old).records) }
+        ensures untouched { (trip_view S.view self.new).is_intact → (trip_view S.view self.old).is_laid_out →
+            OnOk result (Untouched changes.now (trip_view S.view self.old).records
+            (trip_view S.view self.new).records) }
+        ensures trips { TripCall self.old self.new result }
+    {
         if self.trips() {
             // No change is made.
             return Err(ShelfFault::Store);
