@@ -51,6 +51,11 @@ class Asked:
         return self.environ.get("HTTP_" + name.upper().replace("-", "_"))
 
     @property
+    def is_of_folder(self) -> bool:
+        """Whether the address ends with a slash, without which most programs ask for files alone."""
+        return self.environ.get("PATH_INFO", "").endswith("/")
+
+    @property
     def depth(self) -> str:
         told = (self.field("Depth") or "infinity").strip().lower()
         if told not in ("0", "1", "infinity"):

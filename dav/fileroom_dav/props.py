@@ -67,7 +67,8 @@ def propfind(gate, visit: Visit, asked: Asked) -> Reply:
         raise Answered(403, "ask for one folder at a time (Depth 0 or 1)", "propfind-finite-depth")
     wants_sums = wanted == "allprop" or bool(SUMS & set(wanted))
     if asked.depth == "1":
-        top, inside = listed(visit, asked.path, wants_sums, gate.memory, asked.room)
+        top, inside = listed(visit, asked.path, wants_sums, gate.memory, asked.room,
+                             is_file_first=not asked.is_of_folder)
     else:
         top, inside = thing_at(visit, asked.path, is_shown=True), []
     things = [top, *inside]
@@ -82,8 +83,8 @@ def propfind(gate, visit: Visit, asked: Asked) -> Reply:
 
 
 def told_locks(gate, visit: Visit, asked: Asked, things: list[Thing]) -> list[Lock]:
-    """The caller's own locks of what is shown, and others', where the caller may write what is locked. (Of what has more
-    than is shown it is what is shown: who has to be told why nothing can be written may see no more.)"""
+    """The caller's own locks of what is shown, and others', where the caller may write what is locked (or is shown of
+    it)."""
     locks = [it for it in gate.locks.of(asked.room) if any(it.covers(shown.path) for shown in things)]
     others = [it for it in locks if it.user != asked.user]
     top = things[0].path

@@ -1,5 +1,6 @@
 """What is in a room, as WebDAV shows it: a document or a large file is a file, and has a sum of its bytes."""
 import base64
+import contextlib
 import hashlib
 from dataclasses import dataclass
 
@@ -124,8 +125,12 @@ def bytes_of(visit: Visit, its: Thing) -> bytes:
 
 # Listings
 
-def listed(visit: Visit, path: str, wants_sums: bool, memory: Memory, room: str) -> tuple[Thing, list[Thing]]:
+def listed(visit: Visit, path: str, wants_sums: bool, memory: Memory, room: str,
+           is_file_first: bool = False) -> tuple[Thing, list[Thing]]:
     """What is at a path, and what is in it. The names are the room's of now."""
+    if is_file_first:
+        with contextlib.suppress(Refused):  # (of a folder, or by who may not read it)
+            return found_at(visit, path, lambda it: document(it, visit.read(it))), []
     user, mark = visit.settings.user, memory.mark(room)
     try:
         path, names = found_at(visit, path, lambda it: (it, visit.children(it)))

@@ -20,6 +20,15 @@ class Meanwhile(Counter):
         with self.room("ann") as room:
             return room.read(path)
 
+    def test_what_a_look_costs(self):
+        """Requests to the front. rclone asks so, with Depth 1, for each file that it put."""
+        self.does("ann", "MKCOL", "/look", 201)
+        self.does("ann", "PUT", "/look/it", 201, b"x")
+        for path, names, most in ("/look/it", 1, 1), ("/look/none", 0, 1), ("/look/", 2, 2), ("/look", 2, 2):
+            before = self.loser.count
+            self.assertEqual(len(self.ask("ann", "PROPFIND", path, Depth="1").hrefs), names)
+            self.assertLessEqual(self.loser.count - before, most, path)
+
     def test_a_copy_that_may_not_replace(self):
         self.does("ann", "PUT", "/source", 201, b"mine")
         self.before("CREATE", "/target", lambda room: room.create("/target", b"theirs"))
