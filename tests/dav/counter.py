@@ -44,6 +44,7 @@ class Counter(unittest.TestCase):
 
     is_lossy = False
     patience = "60"
+    host = ""  # whose front and gateway it is
 
     @classmethod
     def setUpClass(cls):
@@ -52,11 +53,8 @@ class Counter(unittest.TestCase):
         cls.addClassCleanup(held.cleanup)
         cls.served = Served(cls.folder, ROSTER).start()
         cls.addClassCleanup(cls.served.kill)
-        front = cls.path("front")
-        cls.front = Front(front, PASSWORDS, {"plans": cls.served.port}, PAGE, dav=cls.path("gate.sock"),
-                          opens="600r/m")
-        cls.addClassCleanup(stop, cls.front.server)
-        cls.at_front = os.path.join(front, "work", "dav.sock")
+        cls.start_front()
+        cls.addClassCleanup(lambda: stop(cls.front.server))
         cls.loser = None
         if cls.is_lossy:
             cls.loser = Loser(cls.path("lossy.sock"), cls.at_front)
@@ -70,11 +68,17 @@ class Counter(unittest.TestCase):
         return os.path.join(cls.folder, name)
 
     @classmethod
+    def start_front(cls):
+        front = cls.path(f"front{cls.host}")
+        cls.front = Front(front, PASSWORDS, {"plans": cls.served.port}, PAGE, dav=cls.path("gate.sock"), opens="600r/m")
+        cls.at_front = os.path.join(front, "work", "dav.sock")
+
+    @classmethod
     def start_gateway(cls):
         with contextlib.suppress(FileNotFoundError):
             os.remove(cls.path("gate.sock"))
         to = cls.path("lossy.sock") if cls.is_lossy else cls.at_front
-        words = [PYTHON, "-B", GATEWAY, to, cls.path("state"), cls.path("gate.sock")]
+        words = [PYTHON, "-B", GATEWAY, to, cls.path(f"state{cls.host}"), cls.path("gate.sock")]
         env = {**os.environ, "PATIENCE": cls.patience}
         cls.gateway = subprocess.Popen(words, preexec_fn=end_with_parent, env=env)
         started_here.append(cls.gateway)

@@ -5,6 +5,7 @@ import time
 
 from room_client import files
 from counter import Counter, stop
+from test_refusals import EXCLUSIVE
 
 SHARE = 0.3  # of requests to the room that something happens to
 FILES = 30
@@ -113,6 +114,43 @@ class Kills(Counter):
         self.served.server = start_program("serve", self.served.db, self.served.roster, str(self.served.port),
                                            "4294967295")
         self.assertTrue(self.served.listens())
+
+
+class TakeOver(Counter):
+    """A room's file goes to another host, which has a front and a gateway of its own (docs/SCALE.md, A standby)."""
+    is_lossy = True
+    patience = "5"
+
+    @classmethod
+    def moves_to(cls, host):
+        """What was there is gone at once."""
+        for it in cls.gateway, cls.front.server:
+            stop(it)
+        cls.served.kill()
+        cls.host = host
+        cls.served.start()
+        cls.start_front()
+        cls.loser.to = cls.at_front
+        cls.start_gateway()
+
+    def test_another_host_and_back(self):
+        """Each gateway goes on in its own session, and does nothing late. Locks do not come along."""
+        self.does("ann", "PUT", "/it", 201, b"first")
+        token = self.does("ann", "LOCK", "/it", 200, EXCLUSIVE, Depth="0").fields["lock-token"]
+        self.loser.share = 1.0
+        self.does("ann", "PUT", "/it", 503, b"late", If=f"({token})")
+        self.loser.share = 0.0
+        self.moves_to("-other")
+        self.assertIn(self.does("ann", "GET", "/it", 200).body, (b"first", b"late"))
+        self.does("ann", "PUT", "/it", 412, b"x", If=f"({token})")
+        self.does("ann", "PUT", "/it", 204, b"second")
+        self.moves_to("")
+        for _ in range(4):  # (each seat)
+            self.assertEqual(self.does("ann", "GET", "/it", 200).body, b"second")
+        self.does("ann", "PUT", "/it", 204, b"third", If=f"({token})")
+        self.moves_to("-other")
+        self.assertEqual(self.does("ann", "GET", "/it", 200).body, b"third")
+        self.does("ann", "PUT", "/it", 204, b"fourth")
 
 
 class Two(Counter):
