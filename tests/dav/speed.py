@@ -43,8 +43,9 @@ class Speed(RcloneCounter):
         self.does("ann", "MKCOL", "/full", 201)
         for it in range(256):
             self.does("ann", "PUT", f"/full/{it}", 201, b"%d" % it)
-        for what in "a listing of 256", "again", "and again":
-            self.assertEqual(len(self.told(what, lambda: self.names("ann", "/full"))), 257)
+        for what, pause in ("a listing of 256", 0), ("again", 0), ("after 16 seconds", 16):
+            time.sleep(pause)
+            self.assertEqual(len(self.told(what, lambda: self.names("ann", "/full/"))), 257)
 
     def test_of_many_users(self):
         with self.room("ann") as room:
