@@ -5,7 +5,7 @@ import os
 import shutil
 import subprocess
 
-from served import HERE, Line, end_with_parent, free_port, message, started_here, wait_for_port
+from served import HERE, end_with_parent, free_port, message, one_answer, started_here, wait_for_port
 
 FOLDER = os.path.join(HERE, "..", "front")
 PATH = os.pathsep.join([os.environ.get("PATH", ""), "/usr/sbin"])  # (where Debian has nginx)
@@ -65,12 +65,4 @@ class Front:
 
     def once(self, user, method, target, body=b"", more=(), source="127.0.0.1"):
         """The answer to one message over a connection of its own, or None where there was none."""
-        line = None
-        try:
-            line = Line(self.port, source)
-            return line.ask(message(None, method, target, body, fields=self.fields(user, more)))
-        except OSError:
-            return None
-        finally:
-            if line:
-                line.close()
+        return one_answer(self.port, message(None, method, target, body, fields=self.fields(user, more)), source)

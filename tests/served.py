@@ -348,6 +348,12 @@ class Line:
         self.socket.close()
 
 
+def one_answer(port, data, source="127.0.0.1"):
+    """The answer to one message over a connection of its own, or None where there was none."""
+    with contextlib.suppress(OSError), contextlib.closing(Line(port, source)) as line:
+        return line.ask(data)
+
+
 class Room:
     """A room in a folder, which it makes, with a server that can be started, killed and started again."""
     longest = WAIT  # seconds until it listens
