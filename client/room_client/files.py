@@ -114,8 +114,10 @@ def pieces_of(room: Room, path: str, its: Manifest, heard: Callable[[dict], None
     denied = next((it for it in zip(replies, commands) if it[0]["code"] == ACCESS), None)
     if denied:
         raise Refused(*denied)
-    data = b"".join(base64.b64decode(it.get("data", "")) for it in replies)
-    return data if all(it["code"] == 0 for it in replies) and its.is_of(data) else None
+    pieces = [base64.b64decode(it.get("data", "")) for it in replies]
+    fits = all(it["code"] == 0 for it in replies) and all(len(it) == form.PIECE for it in pieces[:-1])
+    data = b"".join(pieces)
+    return data if fits and its.is_of(data) else None
 
 
 # Writing
@@ -425,7 +427,7 @@ def clear_beside(room: Room, path: str) -> None:
         room.rename(f"{at}/{new}", left)
         room.say(f"{shown(left)} is a whole version that was to take the place of {shown(path)}: look at it")
     elif new in names:
-        clear(room, at, new, file_at)
+        clear(room, at, new, unfinished_at)
 
 
 # What is at a path and below it, in the order in which it can be removed, where it is of that form; else None.
@@ -455,6 +457,12 @@ def file_at(room: Room, path: str) -> list[list[str]] | None:
         return None
     manifest = [f"/{form.NAME}"] if form.NAME in names else []
     return [manifest, [at + it for at, (pieces, _) in parts.items() for it in pieces], [*parts], [""]]
+
+
+def unfinished_at(room: Room, path: str) -> list[list[str]] | None:
+    """Of one that has no manifest yet."""
+    found = file_at(room, path)
+    return None if found and found[0] else found
 
 
 def remove_levels(room: Room, levels: list[list[str]]) -> None:
