@@ -1,9 +1,10 @@
 /** What uploads made is removed; whatever else has such a name stays. */
-import { FOLDER, NOENT, NOTDIR, folderOf, forEach, inFolder, isRefused, lastName, orElse, shown, t } from "./common.js";
+import { FOLDER, ISDIR, NOENT, NOTDIR, folderOf, forEach, fromBase64, fromText, inFolder, isRefused, lastName, orElse,
+  shown, t } from "./common.js";
 import * as form from "./manifest.js";
 
 const OUR_PIECE = /^[0-9]{3}$/; // as a version names them that is made here
-const MOST_KEPT = 40; // letters of a name that a mark follows
+const MOST_KEPT = 50; // bytes of a name that a mark follows
 const isFolder = async (room, path) => (await room.aside("STAT", path)).kind === FOLDER;
 
 // What is at a path and below it, in the order in which it can be removed, where it is of that form; else null.
@@ -27,6 +28,12 @@ export async function fileAt(room, path) {
   return parts.includes(null) ? null : [paths(true), parts.flatMap(([pieces]) => pieces), paths(false), [path]];
 }
 
+/** One that has no manifest yet. */
+async function unfinishedAt(room, path) {
+  const found = await fileAt(room, path);
+  return found?.[0].length ? null : found;
+}
+
 /** Takes what an upload made out of a file or from beside it, in one request, and then removes it. Somebody may have
  * given another thing such a name: what `looks` otherwise, or is in the way, is told and left. */
 export async function clear(room, at, name, transfer, looks = piecesIn) {
@@ -44,15 +51,22 @@ export async function clear(room, at, name, transfer, looks = piecesIn) {
   }
 }
 
+function startOf(name) {
+  const letters = [...name];
+  while (fromText(letters.join("")).length > MOST_KEPT) letters.pop();
+  return letters.join("");
+}
+
 /** What a stopped replacement left beside a document. A whole file there, maybe somebody's, gets another name. */
 export async function clearBeside(room, path, transfer) {
   const [above, { gone, its }] = [folderOf(path), await form.beside(lastName(path))];
   const names = (await room.names(above))?.map(([name]) => name) ?? [];
   if (names.includes(gone)) await clear(room, above, gone, transfer, documentAt);
   if (!names.includes(its)) return;
-  const inside = await orElse(room.list(inFolder(above, its)), [], NOTDIR);
-  if (!inside.some(([name]) => name === form.NAME)) return clear(room, above, its, transfer, fileAt);
-  const left = `${lastName(path).slice(0, MOST_KEPT)} (${form.otherName("").slice(0, 4)})`;
+  const found = await orElse(room.aside("READ", inFolder(above, its, form.NAME)), null, NOENT, ISDIR, NOTDIR);
+  const isWhole = found && form.readManifest(fromBase64(found.data));
+  if (!isWhole) return clear(room, above, its, transfer, unfinishedAt);
+  const left = `${startOf(lastName(path))} (${form.otherName("").slice(0, 4)})`;
   await room.step("RENAME", inFolder(above, its), { to: inFolder(above, left) });
   transfer.fail(t.wholeLeft(shown(left)));
 }

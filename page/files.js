@@ -119,7 +119,7 @@ class Upload {
     if (this.before === null && !this.isMade) await this.share([[inFolder(this.path, form.NAME)]]);
     await this.lookAfter();
     if (this.clears) this.transfer.note(t.leftCleared(this.called));
-    if (this.isMade) await clearBeside(this.room, this.path, this.transfer);
+    await clearBeside(this.room, this.path, this.transfer);
     return this.path;
   }
 
