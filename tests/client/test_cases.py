@@ -1,0 +1,76 @@
+"""The cases of docs/FILES.md, played by the command."""
+import json
+from unittest import mock
+
+import cases
+from cases import No
+from room_client.line import Line
+from test_files import Behind
+
+
+class Client:
+    name = "client"
+    size_words = staticmethod(str)
+
+    def __init__(self, desk):
+        self.desk, self.patched = desk, None
+
+    def does(self, *words):
+        """What it tells beside its output, which is left in `said`."""
+        status, self.said, told = self.desk.does(*words)
+        if status:
+            raise No(told)
+        return told
+
+    def put(self, path, data):
+        return self.does("put", self.desk.file("up", data), path)
+
+    def get(self, path):
+        self.does("get", path, "down")
+        with open(self.desk.path("down"), "rb") as file:
+            return file.read()
+
+    def list(self, path):
+        self.does("ls", "-l", "--json", path)
+        found = {it["name"]: it for it in json.loads(self.said)}
+        return {name: "/" if it["kind"] == "folder" and not self.is_left(f"{path}/{name}") else
+                "?" if it["kind"] == "folder" else str(it["size"]) for name, it in found.items()}
+
+    def is_left(self, path):
+        self.does("stat", path)
+        return self.said.startswith("unfinished upload")
+
+    def append(self, path):
+        return self.does("append", self.desk.file("up", b"more"), path)
+
+    def rename(self, path, to):
+        return self.does("mv", path, to)
+
+    def copy(self, path, to):
+        return self.does("cp", path, to)
+
+    def remove(self, path, how=None):
+        return self.does("rm", "-r", *(["--for-good"] if how else []), path)
+
+    def restore(self, name):
+        return self.does("trash", "restore", name)
+
+    def watch(self, hears):
+        if self.patched:
+            self.patched.stop()
+        ask = Line.ask
+
+        def heard(line, method, target, body):
+            hears(body)
+            return ask(line, method, target, body)
+        self.patched = mock.patch.object(Line, "ask", heard) if hears else None
+        if hears:
+            self.patched.start()
+
+
+class Cases(Behind):
+    def test_cases(self):
+        def differs(name, got, want):
+            with self.subTest(name):
+                self.assertEqual(got, want)
+        cases.play(Client(self), self.served.port, differs)
