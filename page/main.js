@@ -20,7 +20,7 @@ const VIEWS = new Map([["open", showContents], ["access", showAccess], ["who", s
 
 class App {
   constructor(user, rooms) {
-    Object.assign(this, { user, rooms, opened: new Map(), turn: 0, room: null, here: "" });
+    Object.assign(this, { user, rooms, opened: new Map(), turn: 0, tries: 0, room: null, here: "" });
   }
 
   openRoom(name) {
@@ -42,9 +42,11 @@ class App {
     (isDone ? say : tellFault)(t.sentBefore(cmd, shown(path), how));
   }
 
-  /** Gives what the task does, true where that is nothing, or null where its fault was told. */
+  /** Gives what the task does, true where that is nothing, or null where its fault was told. Meanwhile nothing can be
+   * pressed: of two at once until the later one has ended, whose view is about to come. */
   async attempt(what, task) {
     const about = `${this.room?.name} ${what}`;
+    const turn = this.tries += 1;
     const main = part("main");
     main.inert = true;
     main.ariaBusy = "true";
@@ -56,8 +58,10 @@ class App {
       tellFault(t.about(what, fault.message), about);
       return null;
     } finally {
-      main.inert = false;
-      main.ariaBusy = null;
+      if (turn === this.tries) {
+        main.inert = false;
+        main.ariaBusy = null;
+      }
     }
   }
 

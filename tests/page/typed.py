@@ -1,4 +1,6 @@
 """Scenes of the page: what somebody typed is never lost, names that deceive, and where the page stands."""
+import time
+
 from club import append, by_menu, make_document, make_new, of_user, set_list
 from room_client.words import RIGHTS, SETS
 
@@ -257,6 +259,26 @@ def stays(club, differs):
     differs("the rooms that are there", browser.sees("club", "main li"), True)
 
 
+def left_behind(club, differs):
+    """While the view of a place is still to come, nothing can be pressed, also as that of a place left before comes."""
+    browser, lossy = club.browser, club.lossy
+    inert = "return document.querySelector('main').inert"
+    club.go("#open/club")
+    lossy.hold('"LIST"', '"path":"/long"')
+    browser.script("location.hash = '#open/club/long'")
+    browser.until("it is asked for", lambda: lossy.held)
+    sent = lossy.times('"path":"/plans"')
+    lossy.lose('"path":"/plans"', 10_000)
+    browser.script("location.hash = '#open/club/plans'")
+    browser.until("the other too", lambda: lossy.times('"path":"/plans"') > sent)
+    lossy.go_on()
+    time.sleep(1)  # (the first one comes, and is not shown)
+    differs("nothing can be pressed", browser.script(inert), True)
+    lossy.lose("")
+    browser.until("the other", lambda: browser.script(PLACE) == "#open/club/plans")
+    differs("it can be pressed then", browser.script(inert), False)
+
+
 def one_vocabulary(club, differs):
     """The page's words for rights and sets are those of the command."""
     told = club.browser.ask("POST", "/execute/async", {"script": WORDS, "args": []})
@@ -292,4 +314,4 @@ def log_out(club, differs):
     club.log_in("ann")
 
 
-SCENES = [names, leaving, at_work, after_refusal, lines, conflicts, stays, one_vocabulary, log_out]
+SCENES = [names, leaving, at_work, after_refusal, lines, conflicts, stays, left_behind, one_vocabulary, log_out]
