@@ -216,8 +216,8 @@ def stopped(club, differs):
     lossy.lose('"CREATE"', 10_000)
     put(club, "/big", file)
     browser.sees("sent again until", "#busy")
-    kept = browser.script("return Object.keys(localStorage).filter((it) => /^fileroom.ann.*body$/.test(it)).length")
-    differs("several are under way, each kept", kept, 6)
+    kept = "return Object.keys(localStorage).filter((it) => /^fileroom.ann.*body$/.test(it)).length"
+    differs("several are under way, each kept", browser.until("six", lambda: browser.script(kept) == 6), True)
     browser.go("about:blank")
     lossy.lose("")
     club.go("#open/club/big")

@@ -151,9 +151,14 @@ def make_trash(club):
     club.holds({"cmd": "SETLIST", "path": "/trash/ann", "aclflag": 2, "entries": list_of_trash("ann")})
 
 
+def forget_told(browser):
+    """Takes away what is told: what is seen from then on is new."""
+    browser.script("document.getElementById('notices').replaceChildren()")
+
+
 def choose(browser, words, *paths):
     """Chooses files, or a folder, for the button of these words."""
-    browser.script("document.getElementById('notices').replaceChildren()")
+    forget_told(browser)
     if words == "Upload a folder":
         browser.press("+ New")
     browser.act(f"//main//input[@type='file' and @aria-label='{words}']", "value", {"text": "\n".join(paths)})
@@ -161,7 +166,7 @@ def choose(browser, words, *paths):
 
 def append(browser, text, before=lambda: None):
     """Appends to the document that is shown; `before` is done right before the page sends it."""
-    browser.script("document.getElementById('notices').replaceChildren()")
+    forget_told(browser)
     browser.press("Append", "//main")
     browser.fill("Text", text)
     before()

@@ -3,7 +3,7 @@ import time
 
 from carried import PIECE, names_at, on_disk, put, row, saved
 from browser import KEYS
-from club import make_trash, offers, to_folder
+from club import forget_told, make_trash, offers, to_folder
 from folders import PNG
 
 TOP = "/frame"
@@ -339,7 +339,7 @@ def by_itself(club, differs):
         browser.sees("1 file uploaded", "#notices")
         browser.until(name, lambda: name in names_at(club, TOP))
         browser.until("it is shown", lambda: len(browser.script(ROWS)) == 6 + count)
-        browser.script("document.getElementById('notices').replaceChildren()")
+        forget_told(browser)
     differs("its bytes", club.bytes(f"{TOP}/screenshot.png") == PNG, True)
     club.holds({"cmd": "CREATE", "path": f"{TOP}/of eve.txt", "data": ""})
     browser.script("dispatchEvent(new Event('focus'))")

@@ -46,6 +46,8 @@ def by_mouse(club, differs):
     browser.fill("Name", "made")
     browser.press("Make")
     browser.sees("made is made.", "#notices")
+    browser.sees("made", ".things")
+    browser.until("what it is", lambda: "0 in it" in row(browser, "letters"))  # (till then it takes nothing)
     browser.script(DROP_FILE, "letters")
     browser.sees("1 file uploaded", "#notices")
     differs("where it is", ["dropped.txt" in names_at(club, f"{TOP}{it}") for it in ("", "/letters")], [False, True])

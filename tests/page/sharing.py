@@ -2,7 +2,7 @@
 import json
 import os
 
-from club import set_list
+from club import forget_told, set_list
 
 ALL, WORK_HERE, CHANGE, VIEW, PASS = 0x1F07FF, 0x1201EF, 0x1301EF, 0x1200A9, 0x20
 GROUP = 0x40
@@ -78,6 +78,7 @@ def go(club, place):
 def changed(club, differs):
     """What somebody has is changed and taken away; what else a list says is counted, and told where it decides."""
     browser, path = club.browser, "/board/plans"
+    forget_told(browser)
     browser.act("//main//*[@class='shares']//select/option[.='view']", "click")
     browser.until("view", lambda: own(club, path) == [(0, GROUP | 3, VIEW, "staff")])
     browser.sees("The list is set.", "#notices")
