@@ -1,5 +1,6 @@
 """PROPFIND, PROPPATCH, and the properties that a thing has."""
 import mimetypes
+from collections import Counter
 from email.utils import formatdate
 
 from . import bodies
@@ -12,6 +13,7 @@ from .rules import Rules, may_write
 from .tree import Thing, listed, thing_at
 from .visit import Visit
 
+MOST_TOLD = 5  # locks of a path
 XML = ("Content-Type", "application/xml; charset=utf-8")
 SUMS = {DAV + "getetag", DAV + "getlastmodified"}
 TAKEN = "{urn:schemas-microsoft-com:}"  # times and attributes, which Explorer sets behind each file: they are forgotten
@@ -83,14 +85,18 @@ def propfind(gate, visit: Visit, asked: Asked) -> Reply:
 
 
 def told_locks(gate, visit: Visit, asked: Asked, things: list[Thing]) -> list[Lock]:
-    """The caller's own locks of what is shown, and others', where the caller may write what is locked (or is shown of
-    it)."""
-    locks = [it for it in gate.locks.of(asked.room) if any(it.covers(shown.path) for shown in things)]
-    others = [it for it in locks if it.user != asked.user]
-    top = things[0].path
-    allowed = may_write(visit, [it.path if is_below(it.path, top) else top for it in others])
-    kept = {it.token for it, is_allowed in zip(others, allowed) if is_allowed}
-    return [it for it in locks if it.user == asked.user or it.token in kept]
+    """The caller's own locks of what is shown, and then others', where the caller may write what is locked (or is shown
+    of it): some of those that a path has."""
+    top, paths = things[0].path, {it.path for it in things}
+    locks = [it for it in gate.locks.of(asked.room) if it.path in paths or it.is_deep and is_below(top, it.path)]
+    places = list({it.path if it.path in paths else top for it in locks if it.user != asked.user})
+    allowed = dict(zip(places, may_write(visit, places)))
+    found, counts = [], Counter()
+    for it in sorted(locks, key=lambda it: it.user != asked.user):
+        counts[it.path] += 1
+        if counts[it.path] <= MOST_TOLD and (it.user == asked.user or allowed[it.path if it.path in paths else top]):
+            found.append(it)
+    return found
 
 
 def proppatch(gate, visit: Visit, asked: Asked) -> Reply:

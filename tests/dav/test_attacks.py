@@ -16,7 +16,7 @@ from nginx import hashed, login
 from test_refusals import EXCLUSIVE, tag_of
 
 sys.path += [os.path.dirname(GATEWAY), "/usr/lib/python3/dist-packages"]
-from fileroom_dav import app, bodies, faults, locks, memory, passing, seats, seen, tree, visit
+from fileroom_dav import app, bodies, faults, locks, memory, passing, props, seats, seen, tree, visit
 
 BOB_LISTS = {"flag": 0, "mask": 0x21, "type": 0, "who": "bob"}  # and is told nothing of what is inside
 BOB_ADDS = {"flag": 0, "mask": 0x1200A3, "type": 0, "who": "bob"}
@@ -348,6 +348,23 @@ class Alone(unittest.TestCase):
         for at in range(3):
             sums = {f"/{'n' * 60}{at}-{it}": "s" for it in range(500)}
             self.assertEqual(its.times("plans", sums).keys(), sums.keys())
+
+    def test_shared_locks_of_many(self):
+        """A listing does not tell each of them with each thing, nor ask the room about each."""
+        gate, said = app.Gate("/none", self.folder), []
+        for at in range(60):
+            gate.locks.take("plans", "/f" if at % 2 else "/f/it", f"user{at % 4}", True, True, "", 60)
+
+        def ask_all(commands):
+            said.extend(commands)
+            return [{"code": 0, "allowed": 2} for _ in said]
+        things = [tree.Thing("/f", True), *(tree.Thing(f"/f/{it}", False) for it in ("it", *range(255)))]
+        asked = types.SimpleNamespace(room="plans", user="user0")
+        found = props.told_locks(gate, types.SimpleNamespace(ask_all=ask_all), asked, things)
+        self.assertEqual({it.path for it in found}, {"/f", "/f/it"})
+        self.assertIn("user0", {it.user for it in found})
+        self.assertLess(len(found), 20)
+        self.assertLess(len(said), 20)
 
     def test_locks_that_a_halt_cut(self):
         for text in "", "[{", json.dumps([{"token": "x"}]), "7":
