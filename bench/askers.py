@@ -67,7 +67,7 @@ class Asker:
             got = self.answer(whole)
         seconds = time.perf_counter() - begin
         if not got or due not in got.body:
-            raise RuntimeError(f"bench: {whole[:300]} was answered {got}")
+            sys.exit(f"bench: {whole[:300]} was answered {got}")
         return seconds
 
     def ask(self, target, body):
