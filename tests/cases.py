@@ -66,9 +66,11 @@ def compact(it):
 
 def odd_manifest(words):
     """Of some bytes, with other members; `sum=` names other bytes, `text=` has what stands in its place, `blanks=` how
-    many stand behind it."""
+    many stand behind it, `turned=` that the last member comes first, with blanks between."""
     its, other = manifest_of(some(words[0])), dict(it.split("=", 1) for it in words[1:])
     text, blanks = other.pop("text", None), int(other.pop("blanks", "0"))
+    if other.pop("turned", None):
+        return json.dumps(dict(reversed(its.items()))).encode() + b" " * blanks
     if "sum" in other:
         its["sha256"] = hashlib.sha256(b"".join(map(some, other.pop("sum").split("+")))).hexdigest()
     its |= {name: json.loads(it) for name, it in other.items()}

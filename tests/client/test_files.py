@@ -62,43 +62,20 @@ class Who(Behind):
 
 
 class Sizes(Behind):
-    def test_each_size_comes_back(self):
-        for size in (0, 1, PIECE, PIECE + 1, 3 * PIECE):
-            data = some(size, size)
-            self.file("in", data)
-            self.prints("put", "in", f"/{size}", want=f"/{size}: {size} bytes\n")
-            self.prints("get", f"/{size}", "out", want=f"{size} bytes to out\n")
-            with open(self.path("out"), "rb") as file:
-                self.assertEqual(file.read(), data)
-        with self.room() as room:
-            self.assertEqual(room.children("/"), {"0": "file", "1": "file", str(PIECE): "file",
-                                                  str(PIECE + 1): "folder", str(3 * PIECE): "folder"})
-            self.assertEqual(room.stat(f"/{PIECE + 1}")["size"], 2)
-        self.prints("ls", want="0\n1\n196608\n65536\n65537\n")
-        self.prints("stat", "/65537",
-                    want="file, 65537 bytes in 2 pieces, owner ann, group eng, list flags auto-inherit\n")
-        self.assertIn("\n 65537  ann:eng  65537\n", self.does("ls", "-l")[1])
+    def test_a_large_one_is_told_as_a_file(self):
+        self.file("in", some(PIECE + 1, 1))
+        self.prints("put", "in", "/a", want="/a: 65537 bytes\n")
+        self.prints("stat", "/a", want="file, 65537 bytes in 2 pieces, owner ann, group eng, list flags auto-inherit\n")
+        self.prints("ls", "-l", want="65537  ann:eng  a\n")
+        self.prints("get", "/a", "out", want="65537 bytes to out\n")
 
-    def test_the_largest_and_one_more(self):
-        data = some(MOST, 1)
-        self.file("in", data)
-        self.prints("put", "in", "/big", want=f"/big: {MOST} bytes\n")
-        with self.behind() as room:
-            self.assertEqual(files.read(room, "/big"), data)
-        self.file("in", data + b"x")
+    def test_of_one_that_is_too_large_nothing_is_sent(self):
+        self.file("in", some(MOST + 1, 1))
+        self.prints("ls", want="")
         passed = self.front.passed
         self.refuses("put", "in", "/bigger", want="FBIG (9) at /bigger: a file has at most 16 MiB (16,777,216 bytes): "
                      "split it; nothing was sent")
         self.assertEqual(self.front.passed, passed)
-
-    def test_small_over_large_and_back(self):
-        large, small = some(2 * PIECE + 5, 1), b"small"
-        with self.behind() as room:
-            for data in (small, large, small, b"", large):
-                files.write(room, "/a", data)
-                self.assertEqual(files.read(room, "/a"), data)
-                self.assertEqual(list(room.children("/")), ["a"])
-            self.assertEqual(self.parts(room, "/a"), [".room-pieces"])
 
     def test_what_is_there_is_not_taken(self):
         self.file("in", some(PIECE + 1, 1))
@@ -112,19 +89,6 @@ class Sizes(Behind):
         deep = "/" + "/".join("d" * 15)
         self.refuses("put", "in", deep, want=f"TOO_DEEP (10) at {deep}: a path has at most 16 names, and a large file "
                      "takes two of them: move it higher")
-
-    def test_moved_copied_removed(self):
-        data = some(PIECE + 1, 2)
-        self.file("in", data)
-        self.prints("put", "in", "/a", want="/a: 65537 bytes\n")
-        self.prints("mv", "/a", "/b", want="/a is now /b\n")
-        self.prints("cp", "/b", "/c", want="/b is also /c\n")
-        with self.behind() as room:
-            self.assertEqual(files.read(room, "/c"), data)
-        self.prints("rm", "/b", want="/b: removed\n")
-        self.prints("rm", "/c", want="/c: removed\n")
-        with self.room() as room:
-            self.assertEqual(room.children("/"), {})
 
 
 class Shown(Behind):
@@ -142,7 +106,6 @@ class Shown(Behind):
             self.assertTrue(said.endswith("\r\033[K"), said)
         os.close(main)
         os.close(terminal)
-
 
     def test_what_is_left_of_an_upload_is_told(self):
         left = ".room-writing-0123456789abcdef"
@@ -185,27 +148,6 @@ class Damaged(Behind):
             room.write(f"{self.at}/001", bytes(PIECE))
         self.told_damaged()
 
-    def test_a_piece_that_is_gone_or_longer(self):
-        with self.room() as room:
-            room.append(f"{self.at}/002", b"x")
-        self.told_damaged()
-        with self.room() as room:
-            room.remove(f"{self.at}/002")
-        self.told_damaged()
-        self.file("in", self.data)
-        self.prints("put", "in", "/a", want="/a: 131073 bytes\n")
-        with self.behind() as room:
-            self.assertEqual(files.read(room, "/a"), self.data)
-
-    def test_what_is_no_manifest_is_a_folder(self):
-        good = json.loads(self.its.text())
-        for other in (good | {"form": 2}, good | {"more": 1}, good | {"size": MOST + 1}, good | {"pieces": ["/"]}, 7,
-                      good | {"folder": "../x"}, good | {"sha256": "x"}, []):
-            with self.room() as room:
-                room.write(f"/a/{manifest.NAME}", json.dumps(other).encode())
-            self.assertEqual(self.does("ls")[1], "a/\n", other)
-            folder = "ISDIR (3) at /a: a document is needed, and a folder is there: correct the path"
-            self.refuses("get", "/a", want=folder)
 
 
 class Writers(Behind):
@@ -279,28 +221,6 @@ class Writers(Behind):
             self.assertEqual(files.read(room, "/a"), b"theirs")
             self.assertEqual(list(room.children("/")), ["a"])
 
-    def test_readers_see_one_version_whole(self):
-        wholes = [some(3 * PIECE, 1), some(2 * PIECE, 2), b"small"]
-        with self.behind() as room:
-            files.write(room, "/a", wholes[0])
-        seen, ends = [], threading.Event()
-
-        def look():
-            with self.behind(state=self.path("reader")) as reader:
-                while not ends.is_set() or not seen:
-                    with contextlib.suppress(OtherVersion):
-                        seen.append(files.read(reader, "/a"))
-        thread = threading.Thread(target=look)
-        thread.start()
-        try:
-            with self.behind() as room:
-                for count in range(9):
-                    files.write(room, "/a", wholes[count % 3])
-        finally:
-            ends.set()
-            thread.join()
-        self.assertLessEqual({*map(hash, seen)}, {*map(hash, wholes)})
-        self.assertGreater(len(seen), 1)
 
 
 class Stopped(Behind):
@@ -533,53 +453,6 @@ class Slots(Behind):
 class Kept(Behind):
     """A large file in the place of a document is nobody else's, and nobody else reads it."""
 
-    def test_list_and_owner(self):
-        data = some(PIECE + 1, 1)
-        with self.behind() as room:
-            room.create("/a", b"x")
-            room.set_list("/a", 3, [{"flag": 0, "mask": 0x1F07FF, "type": 0, "who": "OWNER@"},
-                                    {"flag": 0, "mask": 1, "type": 0, "who": "bob"}])
-            files.write(room, "/a", data)
-            self.assertEqual(room.stat("/a")["aclflag"], 3)
-        with self.room(user="bob") as bob:
-            self.assertEqual(files.read(bob, "/a"), data)
-        with self.behind() as room:
-            room.set_list("/a", 3, [{"flag": 3, "mask": 0x1F07FF, "type": 0, "who": "OWNER@"}])
-        with self.room(user="bob") as bob, self.assertRaisesRegex(files.Refused, "you lack the right"):
-            files.read(bob, "/a")
-
-    def test_a_new_version_by_somebody_else(self):
-        """(bob has rights by his name, and ann as the owner alone.)"""
-        first, second, third = (some(PIECE + it, it) for it in (1, 2, 3))
-        with self.behind() as room:
-            room.set_list("/", 0, [{"flag": 3, "mask": 0x1F07FF, "type": 0, "who": "OWNER@"},
-                                   {"flag": 3, "mask": 0x1301EF, "type": 0, "who": "bob"}])
-            files.write(room, "/a", first)
-        said = []
-        with self.room(user="bob", say=said.append) as bob:
-            files.write(bob, "/a", second)
-        with self.behind(said.append) as room:
-            self.assertEqual(files.read(room, "/a"), second)
-            files.write(room, "/a", third)
-            self.assertEqual(files.read(room, "/a"), third)
-            self.assertEqual(self.parts(room, "/a"), [".room-pieces"])
-        self.assertEqual(said, [])
-
-    def test_what_nobody_else_finishes(self):
-        """An upload of ann's that was stopped (bob has rights by his name, and ann as the owner alone)."""
-        with self.behind() as room:
-            room.set_list("/", 0, [{"flag": 3, "mask": 0x1F07FF, "type": 0, "who": "OWNER@"},
-                                   {"flag": 3, "mask": 0x1301EF, "type": 0, "who": "bob"}])
-            for path in "/a", "/a/.room-writing-0123456789abcdef":
-                room.mkdir(path)
-        data = some(PIECE + 1, 1)
-        with self.room(user="bob") as bob, self.assertRaisesRegex(files.Refused, "it is a folder of ann, who could"):
-            files.write(bob, "/a", data)
-        with self.behind(lambda _: None) as room:
-            self.assertEqual(self.parts(room, "/a"), [".room-writing"])
-            files.write(room, "/a", data)
-            self.assertEqual(files.read(room, "/a"), data)
-
     def test_rights_and_owner_by_command(self):
         data = some(PIECE + 1, 1)
         self.file("in", data)
@@ -633,20 +506,3 @@ class Kept(Behind):
             with self.room(user=user) as room:
                 reply, = room.ask_all([{"cmd": "READ", "path": f"/a/{manifest.NAME}"}])
                 self.assertEqual(reply["code"], code)
-
-    def test_nothing_is_added_to_a_large_file(self):
-        self.file("in", some(PIECE + 1, 1))
-        self.prints("put", "in", "/a", want="/a: 65537 bytes\n")
-        self.refuses("append", "-", "/a", want="ISDIR (3) at /a: it is a large file, and nothing is added at its end: "
-                     "get it, and put it anew")
-
-    def test_of_somebody_else(self):
-        with self.behind() as room:
-            room.set_list("/", 0, [{"flag": 3, "mask": 0x1F07FF, "type": 0, "who": "EVERYONE@"}])
-            room.create("/a", b"x")
-            room.set_list("/a", 1, [{"flag": 0, "mask": 0x1701FF, "type": 0, "who": "bob"},
-                                    {"flag": 0, "mask": 0x80000, "type": 1, "who": "bob"}])
-        with self.room(user="bob") as bob:
-            with self.assertRaisesRegex(OtherVersion, "ask its owner to put it"):
-                files.write(bob, "/a", some(PIECE + 1, 1))
-            self.assertEqual((bob.read("/a"), list(bob.children("/"))), (b"x", ["a"]))

@@ -372,39 +372,6 @@ def both_ways(club, differs):
         club.holds({"cmd": "REMOVE", "path": path})
 
 
-def of_somebody_else(club, differs):
-    """Who writes a new version of another's file gives it to its owner, who may have no right on what is theirs not.
-    What another began is nobody else's to end."""
-    browser = club.browser
-    change = {"type": 0, "flag": 3, "mask": 0x1301EF, "who": "eve"}
-    alone = {"aclflag": 2, "entries": [{"type": 0, "flag": 3, "mask": 0x1F07FF, "who": "OWNER@"}, change]}
-    club.holds({"cmd": "MKDIR", "path": "/ours"})
-    club.holds({"cmd": "SETLIST", "path": "/ours", **alone})
-    put(club, "/ours", on_disk(club, "large", dice.randbytes(PIECE + 1)), on_disk(club, "small", b"small"))
-    browser.sees("2 files uploaded", "#notices")
-    for path in "/ours/stopped", "/ours/stopped/.room-writing-0123456789abcdef":
-        club.holds({"cmd": "MKDIR", "path": path})
-    data = dice.randbytes(2 * PIECE + 1)
-    club.log_in("eve")
-    for name in "large", "small", "stopped":
-        path = f"/ours/{name}"
-        club.go(f"#open/club{path}")
-        file = on_disk(club, "of eve", data)
-        if name == "stopped":
-            browser.sees("Upload a new version")
-            choose(browser, "Upload a new version", file)
-            browser.sees("stopped is an unfinished upload of ann, and others could read what you put", "#notices")
-            continue
-        replace(browser, file)
-        browser.sees("1 file uploaded", "#notices")
-        differs(f"ann reads what eve wrote: {name}", held(club, path) == data, True)
-        inside = [f"{path}/{it}" for it in names_at(club, path)]
-        pieces = [f"{at}/{it}" for at in inside for it in names_at(club, at)]
-        owners = {club.holds({"cmd": "STAT", "path": it}).get("owner") for it in [path, *inside, *pieces]}
-        differs(f"all of it is ann's: {name}", (len(inside), len(pieces), owners), (2, 3, {"ann"}))
-    club.log_in("ann")
-
-
 def room(club, *words):
     """What the command writes, as ann straight at the room."""
     command = [os.path.join(HERE, "..", "client", "room"), "--url", f"http://127.0.0.1:{club.room.port}", "--room-user",
@@ -414,4 +381,4 @@ def room(club, *words):
     return done.stdout
 
 
-SCENES = [sizes, largest, versions, of_somebody_else, overtaken, stopped, late, left_beside, drops, too_many, both_ways]
+SCENES = [sizes, largest, versions, overtaken, stopped, late, left_beside, drops, too_many, both_ways]

@@ -64,6 +64,7 @@ class Page:
             if answer is None or fault:
                 why += fault or dialog
                 self.close()
+                browser.until("its end", lambda: not browser.script(TOLD)[2])
                 if not browser.script(TOLD)[1]:
                     raise No(why)
             else:
@@ -101,15 +102,16 @@ class Page:
     def list(self, path):
         self.browser.devtools("Emulation.setDeviceMetricsOverride", **TALL)
         self.see(path)
-        rows = self.browser.until("all rows", self.rows)
+        rows, = self.browser.until("all rows", self.rows)
         self.browser.devtools("Emulation.clearDeviceMetricsOverride")
         return {name: "?" if kind == "unfinished upload" else "/" if size.endswith(" in it") else size
                 for name, size, kind in rows}
 
     def rows(self):
+        """What the rows tell, once all do."""
         rows = self.browser.script(ROWS)
-        is_empty = "Nothing is in it." in self.browser.text_of("main")
-        return rows if rows and all(size or kind == "unfinished upload" for _, size, kind in rows) else is_empty and []
+        is_all = rows or "Nothing is in it." in self.browser.text_of("main")
+        return is_all and all(size or kind == "unfinished upload" for _, size, kind in rows) and [rows]
 
     def append(self, path):
         self.see(path)

@@ -12,9 +12,7 @@ from carried import NAME, saved
 from club import choose, of_folder
 from folders import TRASH, make_trashes
 
-LEFT = ".room-writing-0123456789abcdef"
 PIECES = ".room-pieces-0123456789abcdef"
-GONE = ".room-gone-0000000000000000"
 FOUND = "return [...document.querySelectorAll('.found li')].map((it) => it.textContent)"
 ALL = {"flag": 3, "mask": 0x1F07FF, "type": 0}
 
@@ -70,50 +68,6 @@ def hides_nothing(club, differs):
     told = zipped(club, "/planted", "planted.zip", "planted.zip is made")
     differs("the zip", [it for it in told if NAME not in it], ["planted/right/.room-000", "planted/right/three.txt",
                                                                 "planted/wrong/three.txt"])
-
-
-def takes_nothing(club, differs):
-    """What somebody else began under a name takes in nothing."""
-    browser = club.browser
-    made(club, "/planted/drop")
-    club.holds({"cmd": "SETLIST", "path": "/planted/drop", "aclflag": 2, "entries": [ALL | {"who": "EVERYONE@"}]})
-    for path in "/planted/drop/a.bin", f"/planted/drop/a.bin/{LEFT}":
-        made(club, path, user="bob")
-    club.go("#open/club/planted/drop/a.bin")
-    browser.sees("Upload a new version")
-    at = os.path.join(club.folder, "a.bin")
-    with open(at, "wb") as file:
-        file.write(bytes(70_000))
-    choose(browser, "Upload a new version", at)
-    browser.sees("a.bin is an unfinished upload of bob, and others could read what you put there", "#notices")
-    club.holds({"cmd": "SETLIST", "path": "/planted/drop/a.bin", "aclflag": 2, "entries": [ALL | {"who": "EVERYONE@"}]},
-               "bob")
-    club.holds({"cmd": "CHOWN", "path": "/planted/drop/a.bin", "owner": "ann", "group": "eng"}, "bob")
-    club.go("#open/club/planted/drop")
-    club.go("#open/club/planted/drop/a.bin")
-    choose(browser, "Upload a new version", at)
-    browser.sees("a.bin is an unfinished upload with a list of its own", "#notices")
-    differs("what is in it", club.names("/planted/drop/a.bin"), [LEFT])
-
-
-def is_not_cleared(club, differs):
-    """A folder that was moved under the name of such a part stays, with what is in it."""
-    browser = club.browser
-    at = os.path.join(club.folder, "video.bin")
-    with open(at, "wb") as file:
-        file.write(bytes(70_000))
-    made(club, "/planted/films")
-    club.go("#open/club/planted/films")
-    choose(browser, "Upload", at)
-    browser.sees("uploaded", "#notices")
-    made(club, "/planted/finance")
-    made(club, "/planted/finance/salaries", b"ann's")
-    club.holds({"cmd": "RENAME", "path": "/planted/finance", "to": f"/planted/films/video.bin/{GONE}"})
-    club.go("#open/club/planted/films/video.bin")
-    choose(browser, "Upload a new version", at)
-    browser.press("Replace", "//dialog[@open]")
-    browser.sees("is no part of a file, whatever its name: look at it", "#notices")
-    differs("what is in it", club.text(f"/planted/films/video.bin/{GONE}/salaries"), "ann's")
 
 
 def can_be_unpacked(club, differs):
@@ -197,5 +151,4 @@ def keeps_the_rest(club, differs):
     differs("it is told", browser.sees("1 of ", "#notices") and browser.sees(" failed", "#notices"), True)
 
 
-SCENES = [hides_nothing, takes_nothing, is_not_cleared, can_be_unpacked, takes_no_memory, copies_open_nothing, no_view,
-          keeps_the_rest]
+SCENES = [hides_nothing, can_be_unpacked, takes_no_memory, copies_open_nothing, no_view, keeps_the_rest]
