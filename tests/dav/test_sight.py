@@ -146,16 +146,16 @@ class Sight(Counter):
 
     def compare_file(self, user, path, size, tag):
         """What a listing tells of a document is what the room tells this user of it now, or told them a moment ago."""
-        if self.since - self.told.get((user, path, size, tag), -FRESH) < FRESH:
-            return
         read, stat = self.model(user, "READ", path), self.model(user, "STAT", path)
         if isinstance(read, dict):
             data = base64.b64decode(read["data"])
-            self.assertEqual((size, tag), (len(data), tag_of(data)), path)
-            return self.note(user, path, data)
-        self.assertIsNone(tag, path)
-        self.assertEqual(size, stat["size"] if isinstance(stat, dict) else None, path)
-        self.told[user, path, size, tag] = time.monotonic()
+            now = len(data), tag_of(data)
+        else:
+            now = stat["size"] if isinstance(stat, dict) else None, None
+        if (size, tag) == now:
+            self.told[user, path, size, tag] = time.monotonic()
+        elif self.since - self.told.get((user, path, size, tag), -FRESH) >= FRESH:
+            self.assertEqual((size, tag), now, path)
 
     def note(self, user, path, data):
         self.told[user, path, len(data), tag_of(data)] = time.monotonic()
