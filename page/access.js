@@ -10,7 +10,7 @@ import { standing } from "./stand.js";
 import { standingAt } from "./trees.js";
 
 function knownNames(roster, entries) {
-  const seen = entries.map(whomOf).map((it) => it.name).filter((it) => it !== "");
+  const seen = entries.map(whomOf).map((it) => it.name).filter(Boolean);
   const names = new Set([...Object.keys(roster ?? {}), ...Object.values(roster ?? {}).flat(), ...seen]);
   return make("datalist", { id: "known-names" }, [...names].sort().map((value) => make("option", { value })));
 }
@@ -124,7 +124,7 @@ class ListView {
     this.element.replaceChildren(this.taking(), make("h2", t.ownEntries),
       own.length ? make("ol.entries", own) : make("p", t.nothingThere),
       make("p.tools", button(t.addEntry, () => this.add())),
-      make("section.handed", { hidden: rest.length === 0 }, make("h2", t.handedTitle),
+      make("section.handed", { hidden: !rest.length }, make("h2", t.handedTitle),
         make("p", t.handedBehind, link(addressOf({ ...this.place, path: above }), nameText(above))),
         sentences(rest, this.standing, { start: own.length + 1 })),
       make("p.actions", button(t.saveList, () => this.save(), "main"), button(t.discard, () => this.leave())));
@@ -179,7 +179,7 @@ class ListView {
     const count = this.own.length;
     const fault = this.own.some(isForNobody) ? t.needWhom : count > MOST_ENTRIES ? t.listFull(count, MOST_ENTRIES) : "";
     if (fault) return tellFault(t.about(about, fault));
-    const unknown = this.own.map((it) => whomFault(it, this.roster)).filter((it) => it !== "");
+    const unknown = this.own.map((it) => whomFault(it, this.roster)).filter(Boolean);
     if (unknown.length && !await ask({ title: `${t.setAllTheSame}?`, does: t.setAllTheSame,
       words: unknown.map((it) => t.countsForNobody(it)) })) return;
     const now = await this.app.attempt(about, async () => {

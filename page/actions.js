@@ -1,4 +1,4 @@
-/** What is offered for an object: what the lists allow, or all where the room does not say; and its dialogs. */
+/** What is offered for an object: what the lists allow, or all where the room does not say. */
 import { ADD_FILE, ADD_FOLDER, ALL, APPEND, DELETE, DELETE_CHILD, EXIST, FILE, FOLDER, LARGE, MOST_BYTES,
   PASS_THROUGH as PASS, READ, READ_LIST, ROOT, UNFINISHED, WRITE, addressOf, area, ask, besideIt, button, clean,
   faultLine, folderOf, fromBase64, fromText, inFolder, isRefused, lastName, make, nameFault, nameInput, pathFault, say,
@@ -10,8 +10,7 @@ import { makeLike, placeIn } from "./overflow.js";
 import { isTrash, toldBy } from "./trash.js";
 import { filesButton, newVersion } from "./uploads.js";
 
-export const rightsOn = async (room, path) =>
-  (await room.asideIfAllowed("ACCESS", path, { mask: ALL }))?.allowed ?? ALL;
+export const rightsOn = async (room, path) => await room.rights(path) ?? ALL;
 
 async function copyLink(address) {
   await navigator.clipboard.writeText(new URL(address, location.href.split("#")[0]).href)

@@ -2,15 +2,12 @@
 import { forDisk } from "./names.js";
 
 export const MOST_BYTES = 65_536;
-const STRETCH = 8_192; // bytes that are one call's arguments
 
 /** (Browsers of before 2025 have no form of their own.) */
 export function toBase64(bytes) {
   if (bytes.toBase64) return bytes.toBase64();
   let letters = "";
-  for (let at = 0; at < bytes.length; at += STRETCH) {
-    letters += String.fromCharCode(...bytes.subarray(at, at + STRETCH));
-  }
+  for (let at = 0; at < bytes.length; at += 8_192) letters += String.fromCharCode(...bytes.subarray(at, at + 8_192));
   return btoa(letters);
 }
 

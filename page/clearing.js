@@ -7,7 +7,7 @@ const OUR_PIECE = /^[0-9]{3}$/; // as a version names them that is made here
 const MOST_KEPT = 50; // bytes of a name that a mark follows
 const isFolder = async (room, path) => (await room.aside("STAT", path)).kind === FOLDER;
 
-// What is at a path and below it, in the order in which it can be removed, where it is of that form; else null.
+// What is at a path and below it, as it can be removed in turn, where it is of that form; else null.
 
 const documentAt = async (room, path) => (await isFolder(room, path) ? null : [[path]]);
 
@@ -34,8 +34,8 @@ async function unfinishedAt(room, path) {
   return found?.[0].length ? null : found;
 }
 
-/** Takes what an upload made out of a file or from beside it, in one request, and then removes it. Somebody may have
- * given another thing such a name: what `looks` otherwise, or is in the way, is told and left. */
+/** Takes what an upload made away in one request, and then removes it. Somebody may have given another thing such a
+ * name: what `looks` otherwise, or is in the way, is told and left. */
 export async function clear(room, at, name, transfer, looks = piecesIn) {
   const path = inFolder(at, name);
   const gone = name.startsWith(form.GONE) ? path : inFolder(at, form.otherName(form.GONE));

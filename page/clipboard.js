@@ -1,11 +1,11 @@
-/** Rows are cut or copied by the browser's keys, and pasted into the folder that is shown; so is a picture. (The
- * clipboard has links alone: who else fills it moves nothing.) */
+/** Rows are cut or copied, and pasted into the folder that is shown; so is a picture. (The clipboard has links alone:
+ * who else fills it moves nothing.) */
 import { folderOf, inFolder, lastName, say, t, tellIt } from "./common.js";
 import { copyInto, moveInto, named } from "./moving.js";
 import { isInTrash } from "./trash.js";
 import { freePath, upload } from "./uploads.js";
 
-const ENDINGS = { "image/png": "png", "image/jpeg": "jpg", "image/gif": "gif", "image/webp": "webp" };
+const PICTURE = /^image\/(png|jpeg|gif|webp)$/;
 const heldKey = (app) => `fileroom/held/${app.user}/${app.room.name}`;
 const isTyping = (event) => event.target.closest?.("input:not([type=checkbox]), textarea, dialog");
 
@@ -17,7 +17,7 @@ function rowsOf(app) {
 
 function hold(app, event) {
   const rows = rowsOf(app);
-  if (rows.length === 0 || isTyping(event) || !getSelection().isCollapsed) return;
+  if (!rows.length || isTyping(event) || !getSelection().isCollapsed) return;
   event.preventDefault();
   const [paths, isCut] = [rows.map((it) => it.path), event.type === "cut"];
   const text = rows.map((it) => it.link.href).join("\n");
@@ -34,13 +34,13 @@ function heldIn(app, data) {
 async function putRows(app, { paths, isCut }, folder) {
   if (!isCut) return copyInto(app, paths, folder);
   const others = paths.filter((it) => folderOf(it) !== folder);
-  if (others.length === 0) return;
+  if (!others.length) return;
   localStorage.removeItem(heldKey(app));
   await moveInto(app, others, folder);
 }
 
 async function putPicture(app, file, folder) {
-  const path = await freePath(app.room, inFolder(folder, `screenshot.${ENDINGS[file.type]}`));
+  const path = await freePath(app.room, inFolder(folder, file.type.replace(PICTURE, "screenshot.$1")));
   await upload(app, folder, [{ names: [lastName(path)], file }]);
 }
 
@@ -48,7 +48,7 @@ function paste(app, event) {
   const [its, data] = [app.watched, event.clipboardData];
   if (!its || isTyping(event)) return;
   const held = isInTrash(its.path) ? null : heldIn(app, data);
-  const picture = its.put && [...data.files].find((it) => it.type in ENDINGS);
+  const picture = its.put && [...data.files].find((it) => PICTURE.test(it.type));
   if (!held && !picture) return;
   event.preventDefault();
   (held ? putRows(app, held, its.path) : putPicture(app, picture, its.path)).catch(tellIt);

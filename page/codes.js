@@ -3,14 +3,7 @@ import { shown } from "./names.js";
 import { FILE, FOLDER, rightsIn } from "./rights.js";
 import { t } from "./words.js";
 
-export const NOENT = 1;
-export const NOTDIR = 2;
-export const ISDIR = 3;
-export const EXIST = 4;
-export const ACCESS = 5;
-export const NOTEMPTY = 6;
-export const TOO_DEEP = 10;
-export const FOLDER_FULL = 11;
+export const [NOENT, NOTDIR, ISDIR, EXIST, ACCESS, NOTEMPTY, TOO_DEEP, FOLDER_FULL] = [1, 2, 3, 4, 5, 6, 10, 11];
 const OF_DOCUMENTS = new Set(["READ", "WRITE", "APPEND"]);
 
 /** By name, as far as the user may see: `owner` is the object's, `above` that of its folder. */

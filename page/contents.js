@@ -22,7 +22,7 @@ const orShut = (task, path) => orFault(task, (it) => it.code === ACCESS && it.pa
 
 function about(place, stat, size) {
   const whose = stat.owner ? t.owned(personText(stat.owner), stat.group) : "";
-  return make("p.about", [size, whose, beforeWords(place.path)].filter((it) => it !== "").join(", "));
+  return make("p.about", [size, whose, beforeWords(place.path)].filter(Boolean).join(", "));
 }
 
 function newsFor(app, path, own) {
@@ -72,7 +72,7 @@ async function folder(app, place, stat, rights, found) {
     about(place, stat, t.inIt(names.length)), words && make("p.about", words));
   if (mayPut) takeFiles(area, app, path);
   area.oncontextmenu = (event) => {
-    if (news.length === 0 || event.target !== area) return;
+    if (!news.length || event.target !== area) return;
     event.preventDefault();
     openMenu(bar.querySelector("button"), news, t.new, pointOf(event));
   };

@@ -16,7 +16,7 @@ function added(set, it) {
   return () => set.delete(it);
 }
 
-/** Whoever would leave is asked where `look` says so, until what is returned is called. */
+/** Whoever leaves is asked where `look` says so, until what is returned is called. */
 export const watch = (look) => added(typed, look);
 export const watchEnd = (what) => added(running, what);
 export const isUnsaved = () => !isEnding && [...typed].some((it) => it());
@@ -138,7 +138,7 @@ export const ask = (how) => new Dialog(how).show();
 export const input = (value = "", how = {}) =>
   make("input", { value, autocomplete: "off", spellcheck: false, ...how });
 
-/** All but a name's ending is marked at first; in the place of one too long a shorter one is offered. */
+/** All but a name's ending is marked at first; for one too long a shorter one is offered. */
 export function nameInput(value = "", how = {}) {
   const [field, hint] = [input(value, how), make("p.about", { role: "status" })];
   const dot = value.lastIndexOf(".");

@@ -138,8 +138,8 @@ class Upload {
     return false;
   }
 
-  /** That this folder is as the user would have made it. (Else anyone who may add could make one under a name that
-   * somebody is about to put, open it to others, and give it away.) */
+  /** That this folder is as the user would have made it. (Else anyone who may add could make one under such a name,
+   * and open it to others.) */
   async needOwn() {
     const { owner } = this.stat;
     if (owner !== this.room.user) throw new Error(t.notYourUpload(this.called, t.uploadBy(owner)));
@@ -253,7 +253,7 @@ class Upload {
 
 const piecesAt = (at, { folder, pieces }) => [pieces.map((it) => inFolder(at, folder, it)), [inFolder(at, folder)]];
 
-/** Gives what is at these paths to somebody, level by level: whoever gave a folder may not pass through it any more. */
+/** Gives these paths to somebody, level by level: whoever gave a folder may not pass through it any more. */
 async function give(room, levels, whose) {
   for (const paths of levels) await forEach(paths, (it) => room.step("CHOWN", it, whose));
 }

@@ -1,6 +1,6 @@
 /** The view that looks for names below a folder. */
-import { FOLDER, addressOf, button, clean, inOrder, labelled, lastName, link, make, nameText, onSubmit, shown,
-  t } from "./common.js";
+import { FOLDER, addressOf, button, clean, inOrder, input, labelled, lastName, link, make, nameText, onSubmit, once,
+  shown, t } from "./common.js";
 import { NOBODY } from "./files.js";
 import { head } from "./heads.js";
 import { walk } from "./trees.js";
@@ -12,12 +12,12 @@ const small = (name) => clean(name).toLowerCase();
 class Search {
   constructor(app, place) {
     Object.assign(this, { app, place, turn: 0 });
-    this.field = make("input.first", { type: "search", autocomplete: "off", spellcheck: false });
+    this.field = input("", { type: "search", className: "first" });
     this.told = make("p", { role: "status" });
     this.list = make("ul.found");
-    const form = make("form", labelled(t.lettersBelow(shown(place.path)), this.field),
+    const form = make("form", { onsubmit: onSubmit(() => this.run()) },
+      labelled(t.lettersBelow(shown(place.path)), this.field),
       make("p.tools", make("button.main", t.search), button(t.cancel, () => this.stop())));
-    form.onsubmit = onSubmit(() => this.run());
     this.element = make("div", form, this.told, this.list);
   }
 
@@ -59,11 +59,7 @@ class Search {
   }
 }
 
-function searchAt(app, place) {
-  const key = addressOf(place);
-  if (!kept.has(key)) kept.set(key, new Search(app, place));
-  return kept.get(key);
-}
+const searchAt = (app, place) => once(kept, addressOf(place), () => new Search(app, place));
 
 export function searchFor(app, word) {
   const place = { ...app.place, view: "find" };

@@ -1,4 +1,4 @@
-/** The help in German: a line begins a paragraph, `# ` a heading, `1. ` an item of a list. */
+/** The help in German (help.js). */
 export const help = `
 # Ordner und Dokumente
 Wählen Sie einen Namen, um ihn zu öffnen; der Knopf ⋯ einer Zeile zeigt, was Sie damit tun dürfen. Ein Text fasst 65.536
@@ -9,9 +9,10 @@ Wählen Sie einen Namen, um ihn zu öffnen; der Knopf ⋯ einer Zeile zeigt, was
   Datei und behält auf Wunsch die alte daneben: von selbst bewahrt der Raum keine alten Fassungen und keine Zeiten auf.
 Was Sie anlegen, auch eine Kopie, gehört Ihnen. **Entfernen** legt Dinge in Ihren Papierkorb, wo Sie einen haben: der
   Weg dorthin steht ganz oben im Raum. Ein neues Passwort gibt, wer den Raum betreibt.
-Tasten: **/** führt zur Suche, **Alt ↑** zum Ordner darüber, **Strg Z** macht rückgängig; in der Liste benennt **F2**
-  um, **Entf** entfernt, **Strg A** wählt alles, **Strg X** oder **Strg C** und dann **Strg V** verschieben oder
-  kopieren in den gezeigten Ordner, und Buchstaben führen zu einem Namen; **Strg S** beendet, was geschrieben wird.
+Tasten: **Strg /** führt zur Suche, **Alt ↑** zum Ordner darüber, **Strg Z** macht rückgängig; in der Liste sucht **/**,
+  **F2** benennt um, **Entf** entfernt, **Strg A** wählt alles, **Strg X** oder **Strg C** und dann **Strg V**
+  verschieben oder kopieren in den gezeigten Ordner, und Buchstaben führen zu einem Namen; **Strg S** beendet, was
+  geschrieben wird.
 # Wenn keine Antwort kommt
 Jede Anfrage wird in diesem Browser aufbewahrt und gesendet, bis eine Antwort kommt, auch nach einem Neuladen. Der Raum
   führt sie einmal aus. **Aufgeben** beendet das: sehen Sie dann nach, ob es getan wurde, bevor Sie es wiederholen.
@@ -23,10 +24,6 @@ Jeder Ordner und jedes Dokument hat eine Liste von Einträgen. Ein Eintrag erlau
 1. Eine Ausnahme steht also über der Regel.
 1. Wer an etwas in einem Ordner kommen will, muss auch durch jeden Ordner darüber **hindurchgehen** dürfen.
 1. Der Eigentümer darf die Liste immer sehen und ändern; keine Liste sperrt ihn aus.
-Wer **ansehen** darf, sieht es und was darin ist. Wer **bearbeiten** darf, darf auch ersetzen, anhängen und Neues
-  anlegen. Wer **ändern** darf, darf auch entfernen und umbenennen. Wer **alles** darf, darf auch die Liste und den
-  Eigentümer ändern.
 Ein Eintrag eines Ordners kann **weitergegeben** werden: an die Dokumente darin, an die Ordner darin oder an beide, und
   weiter nach unten. Was weitergegeben ist, steht hinter den eigenen Einträgen.
-Die Seite entscheidet nichts selbst: sie fragt den Raum zu jedem Benutzer und jeder Liste.
 `;

@@ -1,4 +1,4 @@
-/** The help in English: a line begins a paragraph, `# ` a heading, `1. ` an item of a list. */
+/** The help in English (help.js). */
 export const help = `
 # Folders and documents
 Choose a name to open it; the button ⋯ of a row has what you may do with it. A text holds 65,536 bytes, a file that is
@@ -8,9 +8,9 @@ Choose a name to open it; the button ⋯ of a row has what you may do with it. A
   keeps the old one beside it if you want that: by itself the room keeps no old versions, and no times.
 What you make, a copy too, is yours. **Remove** moves things to your trash, where you have one: the way to it is at the
   top of the room. A new password comes from whoever runs the room.
-Keys: **/** goes to the search, **Alt ↑** to the folder above, **Ctrl Z** undoes; in the list **F2** renames, **Delete**
-  removes, **Ctrl A** chooses all, **Ctrl X** or **Ctrl C** and then **Ctrl V** move or copy into the folder shown, and
-  letters go to a name; **Ctrl S** ends what is written.
+Keys: **Ctrl /** goes to the search, **Alt ↑** to the folder above, **Ctrl Z** undoes; in the list **/** searches,
+  **F2** renames, **Delete** removes, **Ctrl A** chooses all, **Ctrl X** or **Ctrl C** and then **Ctrl V** move or copy
+  into the folder shown, and letters go to a name; **Ctrl S** ends what is written.
 # When no answer comes
 Each request is kept in this browser before it is sent, and sent again until it is answered, also after a reload. The
   room does it once. **Give up** ends that: look then whether it was done before you repeat it.
@@ -22,12 +22,6 @@ Each folder and document has a list of entries. An entry allows or denies some r
 1. So an exception stands above the rule.
 1. To reach anything in a folder, a person must also be allowed to **pass through** each folder above it.
 1. The owner of an object may always see its list and change it, so no list can lock its owner out.
-Who may **view** sees it and what is in it. Who may **edit** may also replace, append, and make things in it. Who may
-  **change** may also remove and rename. Who may do **all** may also change its list and its owner.
 A folder's entry can be **handed down** to the documents in it, to the folders in it, or to both, and further down. What
-  is handed down stands behind an object's own entries. An object that does not take it over has only its own.
-An example, the list of **/plans**: all but the guests may view what is in it.
-1. Deny the group guests to do all. Counts here, and is handed down to documents and folders in it, and further down.
-1. Allow everyone to view. Counts here, and is handed down to documents and folders in it, and further down.
-The page decides nothing by itself: it asks the room about each user and each list.
+  is handed down stands behind an object's own entries.
 `;

@@ -1,4 +1,4 @@
-/** The help, from its text in the language of the page. */
+/** The help, from its text in the language of the page: a line begins a paragraph, `# ` a heading, `1. ` an item. */
 import { ask, language, make, t } from "./common.js";
 
 const inline = (text) => text.split("**").map((it, at) => (at % 2 ? make("b", it) : it));

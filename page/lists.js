@@ -115,8 +115,8 @@ function isFor(entry, { owner, group }, user, groups) {
   return id === "EVERYONE@" || (id === "user" ? name === user : groups.includes(name));
 }
 
-/** The places of the entries that decide what a user may do of these rights: each is the first to name one of them.
- * Null where that would not come to what the room `allowed`. */
+/** The places of the entries that decide on these rights for a user: each is the first to name one of them. Null
+ * where that would not come to what the room `allowed`. */
 export function deciding(object, user, groups, { rights, allowed }) {
   let [left, found] = [rights, user === object.owner ? OF_OWNERS : 0];
   const places = [];

@@ -129,7 +129,7 @@ class MatrixView {
   columns() {
     const has = (name) => name.toLowerCase().includes(this.word.toLowerCase());
     const members = (users) => users.slice(0, MOST_USERS).map((it) => ({ title: it[0], users: [it] }));
-    if (this.groups.length === 0) return members(this.users);
+    if (!this.groups.length) return members(this.users);
     const users = this.word ? this.users.filter(([user]) => has(personText(user))) : [];
     const groups = this.groups.filter(({ title }) => has(title)).slice(0, MOST_GROUPS);
     this.told = this.word ? t.narrow(t.shownOf(Math.min(users.length, MOST_USERS)), users.length, groups.length) :
@@ -161,7 +161,7 @@ class MatrixView {
   }
 
   narrow() {
-    if (this.groups.length === 0) return [];
+    if (!this.groups.length) return [];
     const field = make("input", { type: "search", value: this.word });
     field.onchange = () => this.change(() => { this.word = field.value.trim(); });
     return [labelled(this.told, field)];

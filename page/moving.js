@@ -14,7 +14,7 @@ import { freePath, freePaths } from "./uploads.js";
 export const named = (paths) => (paths.length === 1 ? calledAt(paths[0]) : t.allThings(paths.length));
 const shortNamed = (paths) => (paths.length === 1 ? shown(nameAt(paths[0])) : t.allThings(paths.length));
 
-/** Does the task for each, and tells in one line what failed. Gives those with which it went well. */
+/** Does the task for each, and tells what failed. Gives those with which it went well. */
 async function withEach(does, paths, task) {
   const [done, faults] = [[], []];
   await forEach(paths, async (path) => {
@@ -30,7 +30,7 @@ async function withEach(does, paths, task) {
   return done;
 }
 
-/** Asks for a folder, and of a single thing for its name there; gives the paths there, or null. `task` gets them. */
+/** Asks for a folder, and the name there of a single thing; gives the paths there, or null. `task` gets them. */
 async function askWhere(app, paths, { words, does, start = folderOf(paths[0]), called = nameAt(paths[0]) }, task) {
   const [tree, name] = [new FolderTree(app, paths, start), nameInput(called)];
   const isOne = paths.length === 1;
@@ -113,7 +113,7 @@ async function copyAll(app, paths, goals) {
 async function contentsWords(app, paths) {
   const all = await Promise.all(paths.map((it) => whole(app.room, it, NOBODY)));
   const found = all.flat().filter((it) => !paths.includes(it.path));
-  if (found.length === 0) return [];
+  if (!found.length) return [];
   const folders = found.filter((it) => it.kind === FOLDER).length;
   const [files, shut] = [found.length - folders, found.filter((it) => it.isShut).length];
   const counts = [...files ? [t.documents(files)] : [], ...folders ? [t.folders(folders)] : []];

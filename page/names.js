@@ -2,7 +2,7 @@
 import { fileOfFront } from "./wire.js";
 import { language, t } from "./words.js";
 
-/** In turn: a pictograph with what belongs to it; what nobody would see or what turns the text around it; the rest. */
+/** In turn: a pictograph with what belongs to it; what nobody would see or turns the text around it; the rest. */
 const PARTS = new RegExp(
   "(\\p{Extended_Pictographic}(?:\\ufe0f|\\p{Emoji_Modifier})?" +
   "(?:\\u200d\\p{Extended_Pictographic}(?:\\ufe0f|\\p{Emoji_Modifier})?)*)" +

@@ -9,7 +9,7 @@ export async function makeLike(room, path, like) {
   if (own) await room.step("SETLIST", path, own);
 }
 
-/** Where one more thing has a place: there, or in the first folder beside it that has room, or is not there yet. */
+/** Where one more thing has a place: there, or in the first folder beside it that has room, or is new. */
 export async function placeIn(room, path) {
   if (namesOf(path).length === MAX_NAMES) throw new Error(t.refusals[TOO_DEEP]);
   const namesIn = async (it) => await room.names(it) ?? [];
@@ -23,7 +23,7 @@ export async function placeIn(room, path) {
   }
 }
 
-/** Which new things of the folders that would be too full go elsewhere, as `{like, goal, rest}` with their names. */
+/** Which new things of too full folders go elsewhere, as `{like, goal, rest}` with their names. */
 async function restsOf(over, folders) {
   const found = [];
   for (const [path, names] of over) {
@@ -48,7 +48,7 @@ function spread(wanted, { like, goal, rest }) {
   }
 }
 
-/** Asks what becomes of what has no place: whether it goes on; `wanted.beside` has the folders that it needs then. */
+/** Whether what has no place goes elsewhere; `wanted.beside` has the folders that it needs then. */
 export async function mayOverflow(over, wanted, folders) {
   const rests = await restsOf(over, folders);
   const words = listOf(over.map(([path, names]) => t.wouldHave(shown(path), names.size, MOST_THINGS)));

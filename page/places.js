@@ -6,7 +6,7 @@ const MAX_NAME_BYTES = 64;
 export const MAX_NAMES = 16;
 export const MOST_THINGS = 256; // in a folder
 export const ROOT = "/";
-export const namesOf = (path) => path.split("/").filter((it) => it !== "");
+export const namesOf = (path) => path.split("/").filter(Boolean);
 export const pathOf = (names) => `/${names.join("/")}`;
 export const inFolder = (folder, ...names) => pathOf([...namesOf(folder), ...names]);
 export const folderOf = (path) => pathOf(namesOf(path).slice(0, -1));
@@ -38,7 +38,7 @@ export const addressOf = ({ view = "open", room, path }) =>
 export function placeOf(address) {
   try {
     const [view, room, ...names] = address.replace(/^#/, "").split("/").map(decodeURIComponent);
-    const isPath = names.length === 0 || pathFault(pathOf(names)) === "";
+    const isPath = !names.length || pathFault(pathOf(names)) === "";
     return room && isPath ? { view, room, path: pathOf(names) } : null;
   } catch {
     return null;

@@ -1,6 +1,6 @@
 /** What users may do with objects, as the room says; and a way for those who cannot get there. */
-import { ALL, FOLDER, LARGE, PASS_THROUGH, ask, askedOf, byWhom, foldersAbove, forEach, givenHere, inFolder, isDeny,
-  listOf, make, ofLarge, ownOf, rightsIn, shown, t, whomText, withWhom } from "./common.js";
+import { FOLDER, LARGE, PASS_THROUGH, ask, askedOf, byWhom, foldersAbove, forEach, givenHere, inFolder, isDeny,
+  listOf, make, ofLarge, once, ownOf, rightsIn, shown, t, whomText, withWhom } from "./common.js";
 import { NAME } from "./manifest.js";
 import { lookInto } from "./trees.js";
 
@@ -13,8 +13,7 @@ export class Questions {
   }
 
   once(key, task) {
-    if (!this.asked.has(key)) this.asked.set(key, task());
-    return this.asked.get(key);
+    return once(this.asked, key, task);
   }
 
   /** Kind, owner, group and list, or null where the caller may not see them. */
@@ -36,7 +35,7 @@ export class Questions {
     return its.kind === LARGE ? LARGE : FOLDER;
   }
 
-  /** What the user may do with an object, or null. Of a large file the list counts, and what it hands down. */
+  /** What the user may do, or null. Of a large file its list counts, and what it hands down. */
   async mayDo({ path, kind }, user, groups) {
     const own = await this.allowed(path, user, groups);
     if (kind !== LARGE || own === null) return own;
@@ -50,12 +49,11 @@ export class Questions {
     if (!it) return null;
     // (those whom a list tells apart by nothing are asked about once)
     const key = [it.names.has(user) ? user : "", ...(groups ?? []).filter((one) => it.names.has(one))].join("\n");
-    if (!it.answers.has(key)) it.answers.set(key, this.app.room.allowed(it, user, groups ?? []));
-    return it.answers.get(key);
+    return once(it.answers, key, () => this.app.room.allowed(it, user, groups ?? []));
   }
 
   async own(path) {
-    return (await this.app.room.asideIfAllowed("ACCESS", path, { mask: ALL }))?.allowed ?? null;
+    return await this.app.room.rights(path) ?? null;
   }
 
   /** The folders above that do not let the user pass; `isKnown` where each of them told. */
@@ -105,10 +103,10 @@ async function letPass(room, folder, all) {
   await room.run("SETLIST", folder, { aclflag: list.aclflag, entries: own });
 }
 
-/** Tells who cannot get there and why, and lets them pass where that is wanted. Gives the end in words. */
+/** Tells who cannot get there and why, and lets them pass if wanted. Gives the end in words. */
 export async function helpThem(app, object, entries, found) {
   const allCan = t.allCan(byWhom(entries).map(([whom]) => whomText(whom)));
-  if (found.length === 0) return entries.length ? allCan : "";
+  if (!found.length) return entries.length ? allCan : "";
   const all = found.flatMap((it) => it.folders.map((folder) => ({ ...it, folder })));
   const folders = Map.groupBy(all, (it) => it.folder);
   const lacking = found.filter((it) => it.lacks);

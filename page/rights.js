@@ -9,8 +9,8 @@ export const [READ, WRITE, APPEND, ADD_FILE, ADD_FOLDER] = [0x1, 0x2, 0x4, 0x2, 
 export const [PASS_THROUGH, DELETE_CHILD, DELETE, READ_LIST] = [0x20, 0x40, 0x10000, 0x20000];
 export const OF_OWNERS = 0x60000; // to see its list and to change it, which an owner always may
 
-/** As they are shown, with the words of the command `room`: of a document and of a folder, where these are two. No
- * command of the room asks for those that are not `isAsked`. */
+/** As they are shown, with the words of the command `room`, of a document and of a folder. No command of the room asks
+ * for those that are not `isAsked`. */
 export const RIGHTS = [
   [0x1, "read", "list"], [0x4, "append", "add-folder"], [0x2, "write", "add-file"], [0x20, "execute", "traverse"],
   [0x10000, "delete"], [0x40, "delete-child"], [0x80, "read-attributes"], [0x20000, "read-acl"],
@@ -26,7 +26,7 @@ export const ALL = RIGHTS.reduce((mask, it) => mask | it.bit, 0);
 export const [VIEW, EDIT, CHANGE] = [0x1200a9, 0x1200af, 0x1301ef];
 
 export const SETS = [["view", VIEW], ["edit", EDIT], ["change", CHANGE], ["all", ALL]]
-  .map(([name, mask]) => ({ name, mask, does: t.sets[name] }));
+  .map(([name, mask]) => ({ name, mask, does: name === "all" ? t.presets.all : t.levels[name][0] }));
 
 /** The set that a mask is. (The right to remove its old pieces makes no other one of a large file's.) */
 export const setOf = (mask, kind) => SETS.find((it) => ((it.mask ^ mask) & ~(kind === LARGE ? DELETE_CHILD : 0)) === 0);

@@ -2,6 +2,12 @@
 import { ACCESS, ALL, FILE, FOLDER, NOTDIR, ROOT, Refusal, folderOf } from "./common.js";
 import { fileOfFront, untilAnswered } from "./wire.js";
 
+/** What the map has there, which the task makes first. */
+export function once(map, key, task) {
+  if (!map.has(key)) map.set(key, task());
+  return map.get(key);
+}
+
 /** Does the task for each, some beside each other. The first fault ends it. */
 export async function forEach(items, task, width = 6) {
   const left = items.values();
@@ -54,6 +60,11 @@ export class Room {
   async asideIfAllowed(cmd, path, more) {
     const reply = await this.session.askAside({ cmd, path, ...more });
     return reply.code === 0 ? reply : null;
+  }
+
+  /** What the caller may do there, where the room tells. */
+  async rights(path) {
+    return (await this.asideIfAllowed("ACCESS", path, { mask: ALL }))?.allowed;
   }
 
   /** What is in a folder, each `[NAME, KIND]`, or null where that may not be seen. */

@@ -10,7 +10,7 @@ const SLOTS = 16;
 const ASIDE = 6; // as many as a browser has connections to one place
 const FALSE_RETRY = 23;
 const NOT_KEPT = 25;
-const OWN_REFUSALS = new Set([20, 21, 22, 23, 24, 25]); // of the session, slot or number, and not of the request
+const isOwn = ({ code }) => code >= 20 && code <= 25; // of the session, slot or number, and not of the request
 const fresh = () => ({ name: randomHex(16), isOpen: false });
 const read = (key) => JSON.parse(localStorage.getItem(key));
 const write = (key, it) => localStorage.setItem(key, JSON.stringify(it));
@@ -39,7 +39,7 @@ class Lane {
     if (!this.kept.pending) localStorage.removeItem(this.bodyKey);
   }
 
-  /** (The body first: what is pending has one. Others may fill the browser's store for a time.) */
+  /** (The body first: what is pending has one. The browser's store may be full for a time.) */
   async #keepPending(pending, body) {
     for (let times = 0; ; times += 1) {
       try {
@@ -96,7 +96,7 @@ class Lane {
       this.#keep({ pending: null, number }); // (what asked that its reply be not kept only reads)
       return this.#new(body, false);
     }
-    if (OWN_REFUSALS.has(reply.code)) {
+    if (isOwn(reply)) {
       await this.session.stillUser();
       return this.#anew(body);
     }
@@ -196,7 +196,7 @@ class Session {
       const { name } = this.kept;
       const reply = await untilAnswered(`${this.base}/v1/sessions/${name}`, `{"slots":${SLOTS}}`, this.patience);
       await this.stillUser();
-      if (OWN_REFUSALS.has(reply.code)) this.renew(name);
+      if (isOwn(reply)) this.renew(name);
       else if (reply.code === 0) this.#keep({ isOpen: true });
       else return reply;
     }
@@ -206,7 +206,7 @@ class Session {
 
 export const userNow = async () => JSON.parse(await fileOfFront("/whoami") ?? "null");
 
-/** Where the browser is logged in as another user by now, whose the requests would be, the page begins anew. */
+/** Where the browser is logged in as another user by now the page begins anew: the requests would be theirs. */
 async function stayAs(user) {
   if (await userNow() === user) return;
   end();

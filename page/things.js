@@ -1,4 +1,4 @@
-/** The table of what is in a folder: its heads sort, keys walk through it, and several rows are chosen. */
+/** The table of what is in a folder: heads sort, keys walk, several rows are chosen. */
 import { DELETE, DELETE_CHILD, button, forEach, inOrder, make, pointOf, t, tellIt } from "./common.js";
 import { downloadAll } from "./downloads.js";
 import { copyTo, move, putAllBack, remove } from "./moving.js";
@@ -39,7 +39,7 @@ class ChosenBar {
   async show(rows) {
     const turn = this.turn += 1;
     this.words.textContent = rows.length ? t.chosen(rows.length) : "";
-    this.element.hidden = rows.length === 0;
+    this.element.hidden = !rows.length;
     document.querySelector("#main .tools.makers")?.toggleAttribute("hidden", rows.length > 0);
     const mayRemove = this.things.rights.own & DELETE_CHILD ||
       (await Promise.all(rows.map((it) => it.rights()))).every((it) => it & DELETE);

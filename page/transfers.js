@@ -77,7 +77,7 @@ export async function transferring(app, title, how, task) {
     unwatch();
     it.element.remove();
   }
-  const plain = [words, ...it.notes].filter((one) => one !== "");
+  const plain = [words, ...it.notes].filter(Boolean);
   if (plain.length) say(plain.join(" "));
   tellFaults(it.title, it.faults);
   await app.ended();

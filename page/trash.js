@@ -66,7 +66,7 @@ function timeOf(stamp) {
 export function toldBy(path) {
   const parts = lastName(path).split("~");
   const when = timeOf(parts.pop());
-  if (!isTrash(folderOf(path)) || !when || parts.length === 0) return null;
+  if (!isTrash(folderOf(path)) || !when || !parts.length) return null;
   if (parts.length > 1 && parts.at(-1) === "…") {
     const name = parts.slice(0, -1).join("~");
     return nameFault(name) ? null : { name, place: null, when };

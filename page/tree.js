@@ -96,7 +96,7 @@ export class FolderTree {
     try {
       const found = await foldersIn(this.app.room, it.path);
       const folders = found.filter((path) => !this.isBarred(path));
-      if (folders.length === 0) it.removeAttribute("aria-expanded");
+      if (!folders.length) it.removeAttribute("aria-expanded");
       else it.append(make("ul", { role: "group" }, folders.map((path) => this.item(path))));
     } catch (fault) {
       it.setAttribute("aria-expanded", "false");

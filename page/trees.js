@@ -22,7 +22,7 @@ export async function standingAt(room, path) {
 }
 
 /** Calls `met` with each thing below a folder, `{path, kind, isShut}`, a large file as a file; one may not look into
- * what `isShut`. `walked` of the transfer is told at how many of the known folders it looked. */
+ * what `isShut`. `walked` is told how many of the known folders it has seen. */
 export async function walk(room, path, met, transfer) {
   let [level, done, before] = [[path], 0, 0];
   while (level.length) {

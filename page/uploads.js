@@ -1,7 +1,7 @@
 /** Files and folders of the user's disk go into the room. */
 import { EXIST, MAX_NAMES, MOST_BYTES, MOST_THINGS, ask, besideIt, button, clean, folderOf, forEach, inFolder,
-  isTooLong, lastName, listOf, make, nameFault, namesOf, numbered, orElse, pathOf, pickFiles, settle, shortened, shown,
-  t, tellFault } from "./common.js";
+  isTooLong, lastName, listOf, make, nameFault, namesOf, numbered, once, orElse, pathOf, pickFiles, settle, shortened,
+  shown, t, tellFault } from "./common.js";
 import { readFile, writeCopy, writeFile } from "./files.js";
 import { DEEPEST, sizeFault } from "./manifest.js";
 import { makeLike, mayOverflow } from "./overflow.js";
@@ -21,7 +21,7 @@ async function within(entry, above = []) {
   const [reader, found] = [entry.createReader(), [{ names, file: null }]];
   for (;;) {
     const some = await new Promise((tell, fail) => reader.readEntries(tell, fail)); // (a hundred at a time)
-    if (some.length === 0) return found;
+    if (!some.length) return found;
     for (const it of some) found.push(...await within(it, names));
   }
 }
@@ -49,8 +49,7 @@ function withShorter(chosen) {
   const shorter = (above, name) => {
     if (!isTooLong(clean(name))) return name;
     const [key, its] = [pathOf([...above, name]), pathOf([...above, shortened(clean(name))])];
-    if (!taken.has(key)) taken.set(key, isFree(its) ? its : numbered(pathOf([...above, clean(name)]), isFree));
-    return lastName(taken.get(key));
+    return lastName(once(taken, key, () => (isFree(its) ? its : numbered(pathOf([...above, clean(name)]), isFree))));
   };
   return chosen.map(({ names, file }) => ({ names: names.map((it, at) => shorter(names.slice(0, at), it)), file }));
 }
@@ -61,8 +60,8 @@ const goalOf = (folder, names) => inFolder(folder, ...names.map(clean));
 async function fitting(app, folder, chosen) {
   const faults = chosen.map((it) => faultOf(it, folder));
   const fit = chosen.filter((_, at) => faults[at] === "");
-  const told = faults.filter((it) => it !== "");
-  if (told.length === 0) return fit;
+  const told = faults.filter(Boolean);
+  if (!told.length) return fit;
   const isLong = chosen.some(({ names }) => names.some((it) => isTooLong(clean(it))));
   if (chosen.length === 1 && !isLong) {
     tellFault(t.nothingSent(told[0]), aboutOf(app.room, goalOf(folder, chosen[0].names)));
@@ -85,12 +84,7 @@ class Folders {
   }
 
   names(folder) {
-    if (!this.asked.has(folder)) this.asked.set(folder, this.#ask(folder));
-    return this.asked.get(folder);
-  }
-
-  async #ask(folder) {
-    return new Set((await this.room.names(folder))?.map(([name]) => name));
+    return once(this.asked, folder, async () => new Set((await this.room.names(folder))?.map(([name]) => name)));
   }
 
   async free(path, taken) {
@@ -170,7 +164,7 @@ async function wantedOf(app, folder, chosen) {
   const isThere = await Promise.all(wanted.map(async ({ path, file }) =>
     file && (await folders.names(folderOf(path))).has(lastName(path))));
   const clashes = wanted.filter((_, at) => isThere[at]);
-  const answer = clashes.length === 0 || await ask({ title: t.thereAlready(clashes.length),
+  const answer = !clashes.length || await ask({ title: t.thereAlready(clashes.length),
     words: listed(clashes.map(({ path }) => shown(path))), does: t.replace,
     others: [{ words: t.keepBoth, value: "both" }, { words: t.leaveOut, value: "skip" }] });
   if (answer === null) return [];
@@ -181,7 +175,7 @@ async function wantedOf(app, folder, chosen) {
     else Object.assign(it, { isNew: false, replaces: true });
   }
   const over = await overfull(wanted, folder, folders);
-  return over.length === 0 || await mayOverflow(over, wanted, folders) ? wanted : [];
+  return !over.length || await mayOverflow(over, wanted, folders) ? wanted : [];
 }
 
 export async function upload(app, folder, chosen) {
