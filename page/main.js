@@ -1,10 +1,10 @@
 /** The page: shows the place that the address names, and does what the user asks for. */
 import { showAccess } from "./access.js";
-import { lookAgain } from "./beside.js";
+import { lookAgain, looksAgain, turnLooking } from "./beside.js";
 import * as busy from "./busy.js";
 import { useClipboard } from "./clipboard.js";
 import { LANGUAGES, ROOT, Refusal, Room, addressOf, ask, button, choose, closeAll, end, faultLine, isMenuOpen,
-  isUnsaved, isWithin, language, learnNames, link, listOf, make, namesOf, onSubmit, openMenu, part, pass, pathOf,
+  isUnsaved, isWithin, language, learnNames, make, namesOf, onSubmit, openMenu, part, pass, pathOf,
   placeOf, say, settle, shown, t, tellFault, untilClosed, watch } from "./common.js";
 import { showContents } from "./contents.js";
 import { searchFor, showFind } from "./find.js";
@@ -42,8 +42,8 @@ class App {
     (isDone ? say : tellFault)(t.sentBefore(cmd, shown(path), how));
   }
 
-  /** Gives what the task does, true where that is nothing, or null where its fault was told. Meanwhile nothing can be
-   * pressed: of two at once until the later one has ended, whose view is about to come. */
+  /** Gives what the task gives, true for nothing, or null where its fault was told. Nothing can be pressed until the
+   * last of them has ended. */
   async attempt(what, task) {
     const about = `${this.room?.name} ${what}`;
     const turn = this.tries += 1;
@@ -87,7 +87,7 @@ class App {
     if (placeOf(location.hash)?.view === "open") await this.show(standing());
   }
 
-  /** The address has changed. Words of before are of another place, save where an action led here. */
+  /** The address has changed: words of before are of another place, but for those that led here. */
   async come() {
     if (!part("main")) return; // (logged out: nothing is shown any more)
     if (isUnsaved() && location.hash !== this.here && !this.isLosing) return this.askToLeave();
@@ -113,10 +113,7 @@ class App {
       this.room = await this.openRoom(place.room);
       return await (VIEWS.get(place.view) ?? showContents)(this, place);
     } catch (fault) {
-      const told = [...head(place), faultLine(fault.message)];
-      if (this.rooms.includes(place.room)) return told;
-      const rooms = this.rooms.map((room) => link(addressOf({ room, path: ROOT }), room));
-      return [...told, make("p", t.rooms), listOf(rooms)];
+      return [...head(place), faultLine(fault.message)];
     }
   }
 
@@ -139,7 +136,8 @@ class App {
       if (turn !== this.turn) return;
       part("main").replaceChildren(...nodes);
       part("main").dataset.place = addressOf(place); // (for tests: what is shown, once it is)
-      part("rooms").value = place.room;
+      part("rooms").textContent = shown(place.room);
+      part("rooms").ariaLabel = t.about(t.room, shown(place.room));
       document.title = `${shown(place.path)} – ${place.room}`;
     });
     if (turn === this.turn) then();
@@ -173,9 +171,10 @@ function userMenu(user) {
     location.reload();
   };
   const others = Object.entries(LANGUAGES).filter(([it]) => it !== language)
-    .map(([it, words]) => ({ words, does: () => speak(it) }));
+    .map(([lang, words]) => ({ words, lang, does: () => speak(lang) }));
   part("user").onclick = () => openMenu(part("user"), [{ words: t.help, does: showHelp }, ...others,
-    { words: t.logOut, does: leaveAll, isApart: true }], t.you(user));
+    { words: t.refreshing(looksAgain()), does: turnLooking }, { words: t.logOut, does: leaveAll, isApart: true }],
+  t.you(user));
 }
 
 async function start() {
@@ -184,13 +183,13 @@ async function start() {
   if (!navigator.locks) return fail(t.insecure);
   const user = await userNow();
   const rooms = JSON.parse(await fileOfFront("/rooms.json") ?? "[]");
-  if (!user || rooms.length === 0) return fail(t.noRooms);
+  if (!user || !rooms.length) return fail(t.noRooms);
   await learnNames();
   const app = new App(user, rooms);
   userMenu(user);
   part("search").onsubmit = onSubmit(() => searchFor(app, part("search").querySelector("input").value));
-  part("rooms").replaceChildren(...rooms.map((value) => make("option", { value }, value)));
-  part("rooms").onchange = () => { location.hash = addressOf({ room: part("rooms").value, path: ROOT }); };
+  part("rooms").onclick = () =>
+    openMenu(part("rooms"), rooms.map((room) => ({ words: room, href: addressOf({ room, path: ROOT }) })), t.room);
   watch(() => part("main").querySelector(".typed")?.isUnsaved());
   addEventListener("hashchange", () => app.come());
   lookAgain(app);

@@ -1,4 +1,4 @@
-/** A menu below what opens it, or where the mouse is; on a narrow screen a sheet from below. */
+/** A menu below what opens it, or where the mouse is; on a phone a sheet from below. */
 import { link, make, pickFiles } from "./dom.js";
 import { tellIt } from "./notices.js";
 
@@ -7,7 +7,7 @@ let open = null;
 export const isMenuOpen = () => open !== null;
 
 function itemElements(it, close) {
-  const how = { role: "menuitem", tabIndex: -1, className: it.isApart ? "apart" : "" };
+  const how = { role: "menuitem", tabIndex: -1, className: it.isApart ? "apart" : "", ...it.lang && { lang: it.lang } };
   if (it.href) return [Object.assign(link(it.href, it.words), { onclick: close }, how)];
   const files = it.chosen && pickFiles(it.words, it.files, (chosen) => {
     close();

@@ -1,9 +1,12 @@
-/** What is told at the top: a fault stays until it is closed, or what it is about goes well; a word until the next. */
+/** What is told at the top: a fault until it is closed, or what it is about goes well; a word until the next. */
 import { button, listOf, make, part } from "./dom.js";
 import { t } from "./words.js";
 
 const MOST_SHOWN = 5; // faults of one thing that are shown unasked
 const section = part("notices");
+const told = section.parentNode;
+new ResizeObserver(() => { document.documentElement.style.scrollPaddingTop = `${told.offsetHeight + 8}px`; })
+  .observe(told);
 
 function put(name, how, ...children) {
   const it = make(name, how, ...children);

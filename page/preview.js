@@ -1,5 +1,5 @@
 /** What is shown of a document; and small pictures in rows. */
-import { link, make, shown, t, toBase64, toText } from "./common.js";
+import { button, link, make, shown, t, toBase64, toText } from "./common.js";
 import { readFile } from "./files.js";
 
 const MOST_TEXT = 2 ** 20; // letters
@@ -19,8 +19,8 @@ export const isPdf = (bytes) => typeOf(bytes).endsWith("/pdf");
 export const canShow = (start) => typeOf(start) !== "" || toText(start, true) !== null;
 const pixelsOf = (it) => it.naturalWidth * it.naturalHeight;
 
-/** Null where it is none, or too large. (Until it is put somewhere a browser reads no more than its size, which may be
- * more than memory takes. Its address is its bytes: the policy of the page allows nothing else.) */
+/** Null where it is none, or too large. (Until it is put somewhere a browser reads no more than its size. Its address
+ * is its bytes: the policy of the page allows nothing else.) */
 async function picture(bytes, alt, most) {
   const type = typeOf(bytes);
   if (!type.startsWith("image/")) return null;
@@ -30,6 +30,28 @@ async function picture(bytes, alt, most) {
     it.src = `data:${type};base64,${toBase64(bytes)}`;
   });
   return isThere && pixelsOf(it) <= most ? it : null;
+}
+
+/** Of what moves by itself: several frames with a delay, or a sign of it. */
+const MOVES = /^GIF[^]*(NETSCAPE|!\xf9\x04[^]{4}\0[^]*!\xf9\x04[^]{4}\0)|^.PNG[^]*acTL|^RIFF[^]*ANIM/;
+const isMoving = (bytes) => MOVES.test(new TextDecoder("latin1").decode(bytes));
+
+/** Its first picture alone. */
+function still(it) {
+  const { naturalWidth: width, naturalHeight: height, alt } = it;
+  const first = make("canvas", { width, height, role: alt && "img", ariaLabel: alt });
+  first.getContext("2d").drawImage(it, 0, 0);
+  return first;
+}
+
+function played(it) {
+  const first = still(it);
+  it.hidden = true;
+  const press = button(t.play, () => {
+    [it.hidden, first.hidden] = [first.hidden, it.hidden];
+    press.textContent = it.hidden ? t.play : t.stop;
+  });
+  return [make("p.tools", press), first, it];
 }
 
 let pdfNow = ""; // the address of the one that is shown
@@ -48,7 +70,8 @@ export const nothing = () => make("p", t.noText);
 export function preview(bytes, name) {
   if (typeOf(bytes).startsWith("image/")) {
     const place = make("div.picture");
-    picture(bytes, shown(name), MOST_PIXELS).then((it) => place.append(it ?? nothing()));
+    picture(bytes, shown(name), MOST_PIXELS).then((it) =>
+      place.append(...it && isMoving(bytes) ? played(it) : [it ?? nothing()]));
     return place;
   }
   if (isPdf(bytes)) return pdf(bytes, name);
@@ -80,9 +103,10 @@ export class SmallPictures {
 
   async #draw(element, path, fail) {
     if (!element.isConnected) return; // (another view is shown by now)
-    const it = await picture(await readFile(this.room, path), "", Math.min(SMALL.pixels, this.pixels));
+    const bytes = await readFile(this.room, path);
+    const it = await picture(bytes, "", Math.min(SMALL.pixels, this.pixels));
     if (!it) return fail();
     this.pixels -= pixelsOf(it);
-    element.replaceChildren(it);
+    element.replaceChildren(isMoving(bytes) ? still(it) : it);
   }
 }

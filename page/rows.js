@@ -1,6 +1,6 @@
 /** A row. Its size is asked for once it is seen, its rights where its menu is opened. Until then a folder of the room
- * stands among folders or documents by what it was found to be before, or by its name: a row moves only where the user
- * sorts, or the view is drawn anew. Else a click would meet another than the one it was for. */
+ * stands among folders or documents by what it was before, or by its name: a row moves only where the user sorts, or
+ * the view is drawn anew. Else a click would meet another. */
 import { offersFor, rightsOn } from "./actions.js";
 import { FILE, FOLDER, LARGE, UNFINISHED, addressOf, button, inFolder, link, make, nameText, openMenu, shown, t,
   tellFault, tellIt } from "./common.js";
@@ -59,7 +59,7 @@ export class Row {
   showKind() {
     this.kindName = kindBy(this.called, this.isFolder ? FOLDER : FILE);
     this.kindCell.textContent = this.its?.kind === UNFINISHED ? t.unfinished : t.kinds[this.kindName];
-    if (!this.picture.querySelector("img")) this.picture.replaceChildren(icon(this.kindName));
+    if (!this.picture.querySelector("img, canvas")) this.picture.replaceChildren(icon(this.kindName));
     const isDocument = (this.its ?? this).kind !== FOLDER;
     this.link.onclick = isDocument && isForDisk(this.called) ? (event) => this.give(event) : null;
   }

@@ -1,6 +1,6 @@
 /** The panel by which an object is shared, by words for what is mostly given. */
-import { FOLDER, MOST_ENTRIES, button, displayName, entriesOf, input, isDeny, make, onSubmit, personText, presetsOf,
-  select, sharesOf, t, whomOf, whomText } from "./common.js";
+import { FOLDER, MOST_ENTRIES, button, displayName, entriesOf, input, isDeny, make, menuButton, onSubmit, personText,
+  presetsOf, select, sharesOf, t, whomOf, whomText } from "./common.js";
 
 /** Whom a text names: a group where it begins so or no user has that name; null where nobody is. */
 function whomBy(text, roster) {
@@ -20,20 +20,18 @@ export class SharePanel {
   constructor({ kind, owner }, own, roster, set) {
     const { shares, others } = sharesOf(own, kind);
     Object.assign(this, { kind, owner, own, roster: roster ?? {}, isWhole: roster !== null, set, shares });
+    this.presets = Object.keys(presetsOf(kind)).map((it) => [it, t.presets[it]]);
     const count = others.flatMap((it) => it.entries).length;
     this.element = make("section.share", make("h2", t.sharedWith),
       shares.length ? make("ul.shares", shares.map((it) => this.row(it))) : make("p", t.whom[""]),
       this.form(), count > 0 && make("p.about", t.exceptions(count)), this.ofOwner());
   }
 
-  what(now, label, changed = () => {}) {
-    const choices = Object.keys(presetsOf(this.kind)).map((it) => [it, t.presets[it]]);
-    return select(choices, now, changed, { "aria-label": label });
-  }
-
   row({ whom, name }) {
     const words = whomText(whom.id === "user" ? { ...whom, name: personText(whom.name) } : whom);
-    return make("li", make("span", words), this.what(name, t.mayWhat(words), (it) => this.give(whom, it)),
+    const items = this.presets.map(([it, its]) => ({ words: its, does: () => this.give(whom, it) }));
+    return make("li", make("span", words),
+      menuButton(t.presets[name], { title: t.mayWhat(words) }, () => items, t.mayWhat(words)),
       button("×", () => this.give(whom, null), { className: "small", "aria-label": t.takeFrom(words) }));
   }
 
@@ -41,7 +39,7 @@ export class SharePanel {
     const groups = new Set(Object.values(this.roster).flat());
     const names = [t.whom["EVERYONE@"], ...Object.keys(this.roster), ...[...groups].map((it) => t.groupMark + it)];
     const whom = input("", { list: "whoms", "aria-label": t.who, placeholder: t.who });
-    const what = this.what("view", t.may);
+    const what = select(this.presets, "view", () => {}, { "aria-label": t.may });
     this.fault = make("p.fault", { role: "alert" });
     const form = make("form.row", whom, make("span", t.may), what, make("button.main", t.share), make("datalist",
       { id: "whoms" }, names.map((value) => make("option", { value, label: displayName(value) }))));
@@ -58,7 +56,7 @@ export class SharePanel {
   give(whom, name) {
     const had = this.own.filter((it) => !isDeny(it) && isSame(whomOf(it), whom));
     const news = name ? entriesOf(name, whom, this.kind) : [];
-    const own = had.length === 0 ? [...this.own, ...news] :
+    const own = !had.length ? [...this.own, ...news] :
       this.own.flatMap((it) => (it === had[0] ? news : had.includes(it) ? [] : [it]));
     if (own.length > MOST_ENTRIES) this.tellFull(whom, name, own.length);
     else this.set(own, news);

@@ -2,7 +2,7 @@
 import { part } from "./dom.js";
 
 const seen = new Map(); // how far each place was scrolled when it was left
-const wordsOf = (it) => it.getAttribute("aria-label") ?? it.textContent;
+const wordsOf = (it) => it.title || it.ariaLabel || it.textContent;
 const within = () => [...part("main").querySelectorAll("a, button, input, select, summary")];
 
 function focused() {

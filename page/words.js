@@ -8,7 +8,7 @@ export const language = asked.find((it) => Object.hasOwn(LANGUAGES, it ?? "")) ?
 const { t: table } = await import(`./words.${language}.js`);
 
 export const joined = (words) =>
-  [words.slice(0, -1).join(", "), ...words.slice(-1)].filter((it) => it !== "").join(` ${t.and} `);
+  [words.slice(0, -1).join(", "), ...words.slice(-1)].filter(Boolean).join(` ${t.and} `);
 
 /** {0} is a text's first blank, in which a list is joined; {0|one|other} has `one` for 1, true or nothing. */
 const filled = (text) => (...parts) => text
@@ -23,5 +23,4 @@ export const choose = (it) => localStorage.setItem(KEPT, it);
 
 document.documentElement.lang = language;
 for (const it of document.querySelectorAll("[data-words]")) it.textContent = t[it.dataset.words];
-for (const it of document.querySelectorAll("[data-hint]")) it.placeholder = t[it.dataset.hint];
-for (const it of document.querySelectorAll("[data-label]")) it.setAttribute("aria-label", t[it.dataset.label]);
+for (const it of document.querySelectorAll("[data-label]")) it.placeholder = it.ariaLabel = t[it.dataset.label];

@@ -3,8 +3,8 @@ from carried import PIECE, names_at, on_disk, put, row
 from club import MENU, by_menu, to_folder
 
 TOP = "/habits"
-CHORDS = {"ctrl": "\ue009", "alt": "\ue00a"}
-NAMES = {"up": "\ue013", "down": "\ue015"}
+CHORDS = {"ctrl": "\ue009", "alt": "\ue00a", "shift": "\ue008"}
+NAMES = {"up": "\ue013", "down": "\ue015", "tab": "\ue004"}
 MENU_AT = ("document.querySelector(arguments[0]).dispatchEvent(new MouseEvent('contextmenu', {bubbles: true, "
            "cancelable: true, button: 2, clientX: 300, clientY: 400}))")
 ROW = "const rowOf = (name) => [...document.querySelectorAll('.things tbody tr')].find((it) => " \
@@ -62,9 +62,15 @@ def by_keys(club, differs):
     """The keys that hold for the whole page, wherever the focus is."""
     browser = club.browser
     club.go(f"#open/club{TOP}")
+    to_search = "return document.activeElement.closest('#search') !== null"
     browser.script(AWAY)
     browser.keys("/")
-    differs("to the search", browser.script("return document.activeElement.closest('#search') !== null"), True)
+    differs("a sign alone, outside the list", browser.script(to_search), False)
+    strike(browser, "ctrl", "/")
+    differs("to the search", browser.script(to_search), True)
+    browser.script("document.querySelector('.things a.name').focus()")
+    browser.keys("/")
+    differs("out of the list", browser.script(to_search), True)
     browser.script(AWAY)
     strike(browser, "ctrl", "a")
     browser.sees("5 chosen", ".chosen")

@@ -2,12 +2,12 @@
 import json
 import os
 
-from club import forget_told, set_list
+from club import MENU, forget_told, set_list
 
 ALL, WORK_HERE, CHANGE, VIEW, PASS = 0x1F07FF, 0x1201EF, 0x1301EF, 0x1200A9, 0x20
 GROUP = 0x40
 SHARES = ("return [...document.querySelectorAll('.shares li')].map((it) => [it.querySelector('span').textContent, "
-          "it.querySelector('select').selectedOptions[0].textContent])")
+          "it.querySelector('button').textContent])")
 
 
 def fill(club, top):
@@ -21,6 +21,12 @@ def fill(club, top):
 def own(club, path):
     return [(it["type"], it["flag"], it["mask"], it["who"]) for it in
             club.holds({"cmd": "GETLIST", "path": path})["entries"] if not it["flag"] & 0x80]
+
+
+def give(browser, what):
+    """Chooses it in the menu of the first who has something."""
+    browser.act("//main//*[@class='shares']/li[1]/button", "click")
+    browser.press(what, MENU)
 
 
 def share(browser, whom, what):
@@ -79,7 +85,7 @@ def changed(club, differs):
     """What somebody has is changed and taken away; what else a list says is counted, and told where it decides."""
     browser, path = club.browser, "/board/plans"
     forget_told(browser)
-    browser.act("//main//*[@class='shares']//select/option[.='view']", "click")
+    give(browser, "view")
     browser.until("view", lambda: own(club, path) == [(0, GROUP | 3, VIEW, "staff")])
     browser.sees("The list is set.", "#notices")
     deny = {"type": 1, "flag": 3, "mask": 0x10006, "who": "bob"}
@@ -96,7 +102,7 @@ def changed(club, differs):
     go(club, "#open/club")
     club.go(f"#access/club{path}")
     differs("the rest", browser.sees("Besides, the list has 1 entry that says something else", ".share"), True)
-    browser.act("//main//*[@class='shares']//select/option[.='do all']", "click")
+    give(browser, "do all")
     browser.sees("bob may still not make folders in it, make documents in it and remove or rename it", "dialog")
     browser.press("Close", "//dialog[@open]")
     browser.sees("Not all can get there, or do it: bob.", "#notices")
