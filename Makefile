@@ -83,10 +83,10 @@ decisions: $(BUILT)
 power: $(BUILT)
 	tests/power/run --states 4000
 
-# Random streams against a plain model, forty clients and kills, and peers that neither send nor read. `make test` plays
-# 2,000 streams; here 50,000.
+# Random streams against a plain model, and peers that neither send nor read. `make test` plays 2,000 streams; here
+# 50,000.
 hostile: $(BUILT)
-	tests/hostile/run --streams 50000 --jobs 2 --kills 60 --pieces 40
+	tests/hostile/run --streams 50000 --jobs 2
 
 # The client of client/ against a served room: commands, refusals, lost answers, and kills of both.
 client: $(BUILT)
