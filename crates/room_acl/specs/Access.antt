@@ -31,7 +31,6 @@ matches caller standing (Members group) = is_member caller group
 abbrev pub applies : SubjectModel → Standing → EntryModel → Bool
 applies caller standing entry = matches caller standing entry.who && not (inherit_only entry.flags)
 
--- the entry counts and names the bit
 abbrev pub decides : SubjectModel → Standing → ℕ → EntryModel → Bool
 decides caller standing bit entry = applies caller standing entry && has_bit entry.mask bit
 
@@ -94,6 +93,5 @@ decision_by (Some bit) = Denied (2 ^ bit)
 abbrev pub decision : List EntryModel → SubjectModel → Standing → ℕ → Decision
 decision entries caller standing wanted = decision_by (refused_bit entries caller standing wanted)
 
--- the bits that the list allows
 abbrev pub allowed_mask : List EntryModel → SubjectModel → Standing → ℕ
 allowed_mask entries caller standing = mask_of (allows_bit entries caller standing)

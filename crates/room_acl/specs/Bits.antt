@@ -68,8 +68,7 @@ all_rights =
     + write_attributes + write_retention + write_retention_hold
     + delete_object + read_acl + write_acl + write_owner + synchronize
 
--- those of a reader who changes nothing, 0x1200A9: a file's bytes,
--- a folder's names, what is below it, attributes and the list
+-- a reader's, 0x1200A9: a file's bytes, a folder's names, what is below it, attributes and the list
 abbrev pub reading_rights : ℕ
 reading_rights = read_data + read_named_attrs + execute + read_attributes + read_acl + synchronize
 
@@ -81,7 +80,6 @@ owner_rights = read_acl + write_acl
 abbrev pub named_bits : List ℕ
 named_bits = 0 ∷ 1 ∷ 2 ∷ 3 ∷ 4 ∷ 5 ∷ 6 ∷ 7 ∷ 8 ∷ 9 ∷ 10 ∷ 16 ∷ 17 ∷ 18 ∷ 19 ∷ 20 ∷ []
 
--- a mask is any set of rights
 abbrev pub IsMask : ℕ → Type 0
 IsMask bits = bit_and bits all_rights ≡ bits
 
@@ -117,7 +115,6 @@ inheritance_flags = file_inherit_flag + directory_inherit_flag + no_propagate_fl
 abbrev pub all_flags : ℕ
 all_flags = inheritance_flags + identifier_group_flag + inherited_flag
 
--- an entry has any set of flags
 abbrev pub IsFlags : ℕ → Type 0
 IsFlags bits = bit_and bits all_flags ≡ bits
 
@@ -138,7 +135,6 @@ defaulted_flag = 4
 abbrev pub all_list_flags : ℕ
 all_list_flags = auto_inherit_flag + protected_flag + defaulted_flag
 
--- a list has any set of them
 abbrev pub IsListFlags : ℕ → Type 0
 IsListFlags bits = bits ≤ all_list_flags
 
@@ -146,11 +142,9 @@ IsListFlags bits = bits ≤ all_list_flags
 abbrev pub has_bit : ℕ → ℕ → Bool
 has_bit bits place = bit_at bits place == 1
 
--- whether a set of flags has this one
 abbrev pub has_flag : ℕ → ℕ → Bool
 has_flag flags flag = bit_and flags flag == flag
 
--- which flags an entry has
 abbrev pub file_inherit : ℕ → Bool
 file_inherit flags = has_flag flags file_inherit_flag
 

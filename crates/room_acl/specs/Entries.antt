@@ -13,7 +13,6 @@ pub record EntryModel : Type 0 where
   pub mask : ℕ
   pub who : Who
 
--- the entry without the mark
 abbrev pub clear_inherited : EntryModel → EntryModel
 clear_inherited entry = record entry { flags = without_inherited entry.flags }
 
@@ -66,7 +65,6 @@ who_from flags text =
     else (if bytes_eq text everyone_text then Some Everyone
     else named_who (identifier_group flags) (principal_from text)))
 
--- a name is a principal's
 abbrev pub IsWho : Who → Type 0
 IsWho Owner = Unit {0}
 IsWho Group = Unit {0}
@@ -74,7 +72,6 @@ IsWho Everyone = Unit {0}
 IsWho (User name) = IsPrincipal name
 IsWho (Members name) = IsPrincipal name
 
--- what every entry of the program is
 pub record IsEntry (entry : EntryModel) : Type 0 where
   pub flags : IsFlags entry.flags
   pub mask : IsMask entry.mask

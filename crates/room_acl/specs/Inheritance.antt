@@ -47,7 +47,6 @@ table_row true false true = gives (Some mark_alone) None
 table_row true true false = gives (Some mark_alone) (Some mark_for_both)
 table_row true true true = gives (Some mark_alone) (Some mark_alone)
 
--- the row of these flags
 abbrev pub row_of : ℕ → TableRow
 row_of flags = table_row (file_inherit flags) (directory_inherit flags) (no_propagate flags)
 

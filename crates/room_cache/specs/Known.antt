@@ -16,7 +16,6 @@ use Rattle.room_cache.specs.Slots.{AreKept}
 use Rattle.room_cache.specs.declared.decisions.Decided.{Decided}
 use Rattle.room_cache.specs.declared.known.Known.{Known}
 
--- what was decided is what the entries decide
 abbrev pub IsDecidedBy : List EntryModel → Decided → Type 0
 IsDecidedBy entries d = d.decision ≡ decision entries d.subject d.standing d.wanted
 

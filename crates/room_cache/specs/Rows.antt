@@ -16,7 +16,6 @@ max_entries = 64
 abbrev pub max_decisions : ℕ
 max_decisions = 16
 
--- the row at a key
 abbrev pub row_at : {K V : Type 0} → (K → K → Ordering) → List (K × V) → K → Option V
 row_at cmp rows key = lookup (is_at (cmp key)) rows
 

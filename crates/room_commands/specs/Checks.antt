@@ -36,7 +36,6 @@ first_refusal (Some x ∷ others) = Some x
 abbrev pub refusal_without_place : RefusalCode → Refusal
 refusal_without_place code = record { code = code; place = None }
 
--- refused with this code where a test holds
 abbrev pub refuse_if : Bool → RefusalCode → Option Refusal
 refuse_if true code = Some (refusal_without_place code)
 refuse_if false code = None
@@ -51,7 +50,6 @@ abbrev pub right_on : Room → SubjectModel → Path → ℕ → Option Object �
 right_on room caller path wanted None = Some (refusal_without_place NoEnt)
 right_on room caller path wanted (Some o) = denied_at path (decision (list_of room path) caller (standing_of o) wanted)
 
--- the caller has a right on a path
 abbrev pub check_right : Room → SubjectModel → Path → ℕ → Option Refusal
 check_right room caller path wanted = right_on room caller path wanted (object_at room path)
 
@@ -64,11 +62,9 @@ is_kind kind None = false
 is_kind File (Some o) = is_file o.kind
 is_kind Folder (Some o) = not (is_file o.kind)
 
--- something is there
 abbrev pub check_exists : Room → Path → Option Refusal
 check_exists room path = refuse_if (not (is_some (object_at room path))) NoEnt
 
--- nothing is there
 abbrev pub check_absent : Room → Path → Option Refusal
 check_absent room path = refuse_if (is_some (object_at room path)) Exist
 
@@ -102,11 +98,9 @@ walk room caller path = first_refusal (map (prefix_refusal room caller) (proper_
 abbrev pub check_folder_full : Room → Path → Option Refusal
 check_folder_full room folder = refuse_if (nat_le max_children (length (children room folder))) FolderFull
 
--- the room has a number left
 abbrev pub check_room_full : Room → Option Refusal
 check_room_full room = refuse_if (nat_le max_objects room.made) RoomFull
 
--- a file of this size is small enough
 abbrev pub check_size : ℕ → Option Refusal
 check_size size = refuse_if (nat_lt max_document size) FBig
 
@@ -114,11 +108,9 @@ abbrev pub bytes_of : Option Object → List ℕ
 bytes_of None = []
 bytes_of (Some o) = o.bytes
 
--- the bytes of the file at a path
 abbrev pub bytes_at : Room → Path → List ℕ
 bytes_at room path = bytes_of (object_at room path)
 
--- whether a path is at another one or below it
 abbrev pub is_at_or_below : Path → Path → Bool
 is_at_or_below path top = starts_with name_eq path top
 
@@ -148,7 +140,6 @@ abbrev pub list_fault_code : ListFault → RefusalCode
 list_fault_code L.Inval = Inval
 list_fault_code L.AttrNotSupp = AttrNotSupp
 
--- the own entries are lawful
 abbrev pub check_lawful : Option ListFault → Option Refusal
 check_lawful None = None
 check_lawful (Some fault) = Some (refusal_without_place (list_fault_code fault))

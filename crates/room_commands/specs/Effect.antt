@@ -42,11 +42,9 @@ new_object room caller path kind data_bytes = record {
   bytes = data_bytes;
 }
 
--- a room with one object more
 abbrev pub with_new : Room → Path → Object → Room
 with_new room path o = record { objects = (path, o) ∷ room.objects; made = room.made + 1 }
 
--- the object at one path replaced
 abbrev pub with_object : Room → Path → (Object → Object) → Room
 with_object room path change = record room {
   objects = map (λ (e : Path × Object). if path_eq path e.0 then (e.0, change e.1) else e) room.objects;
@@ -81,12 +79,10 @@ changed room caller (C.Read path) = room
 changed room caller (C.GetList path) = room
 changed room caller (C.Access mask path) = room
 
--- the size of a file, or how many are in a folder
 abbrev pub size_of : Room → Path → Kind → ℕ
 size_of room path File = length (bytes_at room path)
 size_of room path Folder = length (children room path)
 
--- what STAT answers
 abbrev pub attributes_of : Room → Path → Object → Attributes
 attributes_of room path o =
     record { aclflag = o.aclflag; group = o.group; kind = o.kind; owner = o.owner; size = size_of room path o.kind }

@@ -8,11 +8,9 @@ use Rattle.room_records.specs.Names.{IsPath}
 use Rattle.room_commands.specs.CommandModel.{CommandModel}
 use Rattle.room_commands.specs.CommandModel as C
 
--- what a file may hold
 abbrev pub AreBytes : List ℕ → Type 0
 AreBytes bytes = AllByRecursion (λ b. b < 256) bytes
 
--- a command whose parts are lawful
 abbrev pub IsLawful : CommandModel → Type 0
 IsLawful (C.Stat path) = IsPath path
 IsLawful (C.ListNames path) = IsPath path

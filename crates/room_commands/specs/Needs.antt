@@ -12,12 +12,10 @@ use Rattle.room_commands.specs.CommandModel as C
 use Rattle.room_records.specs.Room.{Object, Room, object_at, list_of, standing_of, parent_of}
 use Rattle.room_commands.specs.Checks.{proper_prefixes, right_to_add}
 
--- a right on a path
 pub record Right : Type 0 where
   pub on : Path
   pub mask : ℕ
 
--- the list of an object allows the caller a right
 abbrev pub allows_on : Room → SubjectModel → Right → Option Object → Bool
 allows_on room caller right None = false
 allows_on room caller right (Some o) = is_none (refused_bit (list_of room right.on) caller (standing_of o) right.mask)
@@ -33,7 +31,6 @@ need path mask = record { on = path; mask = mask } ∷ []
 abbrev pub on_the_way : Path → List (List Right)
 on_the_way path = map (λ front. need front execute) (proper_prefixes path)
 
--- one of two rights
 abbrev pub to_remove : Path → List Right
 to_remove path = record { on = path; mask = delete_object } ∷ record { on = parent_of path; mask = delete_child } ∷ []
 
@@ -54,6 +51,5 @@ needs room (C.SetList aclflag entries path) = need path write_acl ∷ on_the_way
 needs room (C.Chown group owner path) = need path write_owner ∷ on_the_way path
 needs room (C.Access mask path) = on_the_way path
 
--- the lists allow all that the command needs
 abbrev pub NeedsAllowed : Room → SubjectModel → CommandModel → Type 0
 NeedsAllowed room caller command = IsTrue (list_all (list_any (allows room caller)) (needs room command))

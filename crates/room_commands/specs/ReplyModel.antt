@@ -7,7 +7,6 @@ use Rattle.room_commands.specs.declared.reply.RefusalCode.{RefusalCode}
 use Rattle.room_commands.specs.declared.reply.Reply.{Reply}
 use Rattle.room_commands.specs.declared.reply.Reply.TheVariants as R
 
--- why a command was refused
 pub record Refusal : Type 0 where
   pub code : RefusalCode
   -- the path and the bit of an access that was denied

@@ -28,7 +28,6 @@ apply_to_objects (PutSession row) t = t
 apply_to_objects (PutSlot row) t = t
 apply_to_objects (DropSlots gone) t = t
 
--- session rows after one change
 abbrev pub apply_to_sessions : Change → (List ℕ → Option SessionRow) → List ℕ → Option SessionRow
 apply_to_sessions (PutSession row) session sid = if bytes_eq sid row.sid then Some row else session sid
 apply_to_sessions (PutNode node) session sid = session sid
@@ -39,7 +38,6 @@ apply_to_sessions (PutSlot row) session sid = session sid
 apply_to_sessions (DropSlots gone) session sid = session sid
 apply_to_sessions (PutNext n) session sid = session sid
 
--- slot rows after one change
 abbrev pub apply_to_slots : Change → (List ℕ → ℕ → Option KeptModel) → List ℕ → ℕ → Option KeptModel
 apply_to_slots (PutSlot row) kept sid slot =
     if bytes_eq sid row.sid && (slot == row.slot) then Some row.kept else kept sid slot
@@ -51,7 +49,6 @@ apply_to_slots (PutDoc at bytes) kept sid slot = kept sid slot
 apply_to_slots (PutSession row) kept sid slot = kept sid slot
 apply_to_slots (PutNext n) kept sid slot = kept sid slot
 
--- the rows after one change
 abbrev pub apply_change : Change → Records → Records
 apply_change change r = record {
   objects = apply_to_objects change r.objects;
@@ -59,7 +56,6 @@ apply_change change r = record {
   slot = apply_to_slots change r.slot;
 }
 
--- after changes, in order
 abbrev pub apply_all_to_objects : List Change → ObjectRecords → ObjectRecords
 apply_all_to_objects [] t = t
 apply_all_to_objects (change ∷ changes) t = apply_all_to_objects changes (apply_to_objects change t)
@@ -96,7 +92,6 @@ pub record Untouched (changes : List Change) (old new : Records) : Type 0 where
   pub kept : (sid : List ℕ) (slot : ℕ) → slot < max_slots
       → new.slot sid slot ≡ (apply_changes changes old).slot sid slot
 
--- a change of no session and no slot row
 abbrev pub IsOfObjects : Change → Type 0
 IsOfObjects (PutSession row) = ⊥
 IsOfObjects (PutSlot row) = ⊥

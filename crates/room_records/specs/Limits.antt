@@ -5,11 +5,9 @@ use Rattle.std.specs.Prelude.{ℕ, ◌≤◌}
 abbrev pub max_names : ℕ
 max_names = 16
 
--- bytes in a file name
 abbrev pub max_name_bytes : ℕ
 max_name_bytes = 64
 
--- children of a folder
 abbrev pub max_children : ℕ
 max_children = 256
 
@@ -17,7 +15,6 @@ max_children = 256
 abbrev pub max_document : ℕ
 max_document = 65536
 
--- slots of a session
 abbrev pub max_slots : ℕ
 max_slots = 16
 
@@ -32,10 +29,8 @@ sid_bytes = 32
 abbrev pub max_objects : ℕ
 max_objects = 1000000
 
--- users of a roster
 abbrev pub max_users : ℕ
 max_users = 1000
 
--- groups of a user
 abbrev pub max_groups : ℕ
 max_groups = 16

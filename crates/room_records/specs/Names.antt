@@ -41,7 +41,6 @@ pub record IsPath (path : Path) : Type 0 where
   pub short : length path ≤ max_names
   pub names : AllByRecursion IsFileName path
 
--- a path as text
 abbrev pub path_text : Path → List ℕ
 path_text [] = 47 ∷ []
 path_text (name ∷ path) = flat_map (λ n. 47 ∷ n) (name ∷ path)

@@ -5,11 +5,9 @@ use Rattle.room_slots.specs.KeptModel.{KeptModel}
 use Rattle.room_records.specs.declared.node.Node.{Node}
 use Rattle.room_records.specs.declared.session.SessionRow.{SessionRow}
 
--- the number of the root folder
 abbrev pub root_number : ℕ
 root_number = 1
 
--- nodes with their entries and documents
 pub record ObjectRecords : Type 0 where
   pub node : ℕ → Option Node
   pub entries : ℕ → List EntryModel

@@ -14,7 +14,6 @@ NamesUpwards t (name ∷ above) id =
     (node : Node) × (parent : ℕ) × (t.node id ≡ Some node) × (node.name ≡ Some name)
     × (node.parent ≡ Some parent) × NamesUpwards t above parent
 
--- the node has this path
 abbrev pub HasPath : ObjectRecords → Path → ℕ → Type 0
 HasPath t path id = NamesUpwards t (reverse path) id
 
@@ -22,7 +21,6 @@ HasPath t path id = NamesUpwards t (reverse path) id
 abbrev pub stored_entries : Room → Path → List EntryModel
 stored_entries room path = list_of room path
 
--- the rows of a node show an object
 pub record RowsShowObject (t : ObjectRecords) (node : Node) (room : Room) (path : Path) (o : Object) : Type 0 where
   pub kind : node.kind ≡ o.kind
   pub owner : node.owner ≡ o.owner
@@ -31,7 +29,6 @@ pub record RowsShowObject (t : ObjectRecords) (node : Node) (room : Room) (path 
   pub entries : t.entries node.id ≡ stored_entries room path
   pub bytes : unwrap_or (t.document node.id) [] ≡ o.bytes
 
--- a node and an object at one path
 pub record NodeIsObject (t : ObjectRecords) (room : Room) (id : ℕ)
     (node : Node) (path : Path) (o : Object) : Type 0 where
   pub at : HasPath t path id

@@ -36,7 +36,6 @@ pub record Room : Type 0 where
   pub objects : List (Path × Object)
   pub made : ℕ
 
--- the object at a path, if there is one
 abbrev pub object_at : Room → Path → Option Object
 object_at room path = lookup (path_eq path) room.objects
 
@@ -65,11 +64,9 @@ name_in [] (name ∷ other ∷ path) = None
 name_in (a ∷ folder) [] = None
 name_in (a ∷ folder) (b ∷ path) = if name_eq a b then name_in folder path else None
 
--- an object as a child of this folder: its name and its kind
 abbrev pub child_in : Path → Path × Object → Option (Name × Kind)
 child_in folder e = option_map (λ (name : Name). (name, e.1.kind)) (name_in folder e.0)
 
--- pairs in the order of their names
 abbrev pub by_name : List (Name × Kind) → List (Name × Kind)
 by_name [] = []
 by_name (e ∷ es) = insert_entry name_cmp (by_name es) e.0 e.1
@@ -87,7 +84,6 @@ pub record IsRoom (room : Room) : Type 0 where
   pub once : AreObjects room.objects
   pub few : (path : Path) → length (children room path) ≤ max_children
 
--- an object's list under that of its folder
 abbrev pub list_under : Option Object → List EntryModel → List EntryModel
 list_under None above = []
 list_under (Some o) above = with_inherited o.own o.aclflag o.kind above

@@ -22,11 +22,9 @@ pub record IsRoster (users : List SubjectModel) : Type 0 where
   pub few : length users ≤ max_users
   pub few_groups : AllByRecursion (λ (user : SubjectModel). length user.groups ≤ max_groups) users
 
--- the user of this name
 abbrev pub user_named : List SubjectModel → List ℕ → Option SubjectModel
 user_named users name = find (λ (user : SubjectModel). bytes_eq user.name name) users
 
--- the groups of the user of this name
 abbrev pub groups_of : List SubjectModel → List ℕ → Option (List (List ℕ))
 groups_of users name = option_map (λ (user : SubjectModel). user.groups) (user_named users name)
 

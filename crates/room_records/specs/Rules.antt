@@ -24,7 +24,6 @@ pub record IsBelow (nodes : ℕ → Option Node) (node : Node) : Type 0 where
   pub named : node.name ≡ Some name
   pub lawful : IsFileName name
 
--- the rules on nodes alone
 pub record NodeRules (nodes : ℕ → Option Node) : Type 0 where
   pub root : IfSome (nodes root_number) IsRoot
   pub has_root : IsSome (nodes root_number)
@@ -33,7 +32,6 @@ pub record NodeRules (nodes : ℕ → Option Node) : Type 0 where
   pub once : (a b : Node) → nodes a.id ≡ Some a → nodes b.id ≡ Some b
       → a.parent ≡ b.parent → a.name ≡ b.name → a.id ≡ b.id
 
--- the rules on nodes, entries, documents and the next number
 pub record ObjectRules (t : ObjectRecords) : Type 0 where
   pub numbered : (id : ℕ) (node : Node) → t.node id ≡ Some node → (node.id ≡ id) × (1 ≤ id) × (id < t.next)
   pub nodes : NodeRules t.node
