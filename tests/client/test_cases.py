@@ -1,10 +1,13 @@
 """The cases of docs/FILES.md, played by the command."""
 import json
+import os
+import unittest
 from unittest import mock
 
 import cases
 from cases import No
 from room_client.line import Line
+from served import HERE, text_of
 from test_files import Behind
 
 
@@ -66,6 +69,12 @@ class Client:
         self.patched = mock.patch.object(Line, "ask", heard) if hears else None
         if hears:
             self.patched.start()
+
+
+class Rules(unittest.TestCase):
+    def test_each_case_is_of_a_rule(self):
+        text = text_of(os.path.join(HERE, "..", "docs", "FILES.md"))
+        self.assertEqual([it["rule"] for it in cases.TABLE["case"] if it["rule"] not in text], [])
 
 
 class Cases(Behind):
