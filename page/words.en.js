@@ -209,7 +209,7 @@ export const t = {
   notYourUpload: "{0} is an unfinished upload {1}, and others could read what you put there: take another name.",
   uploadBy: "of {0}", ownListed: "with a list of its own",
   isMixed: "A large file is here, and other things that are shown. Without these it is a file again.",
-  wholeLeft: "A whole version of something is called {0} now: look at it.",
+  wholeLeft: "A whole version that was to take a place is called {0} now: look at it.",
   noPart: "{0} is no part of a file, whatever its name: look at it.",
   otherStands: "Somebody else's version of {0} stands.", isLeft: "Something is left of the upload to {0}",
   // search
