@@ -43,11 +43,12 @@ class App {
   }
 
   /** Gives what the task gives, true for nothing, or null where its fault was told. Nothing can be pressed until the
-   * last of them has ended. */
+   * last has ended. */
   async attempt(what, task) {
     const about = `${this.room?.name} ${what}`;
     const turn = this.tries += 1;
     const main = part("main");
+    if (!main.inert) this.from = document.activeElement; // (which it loses)
     main.inert = true;
     main.ariaBusy = "true";
     try {
@@ -61,6 +62,7 @@ class App {
       if (turn === this.tries) {
         main.inert = false;
         main.ariaBusy = null;
+        if (document.activeElement === document.body) this.from.focus({ preventScroll: true });
       }
     }
   }

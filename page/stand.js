@@ -13,7 +13,7 @@ function focused() {
   return { words, count, row: it.closest("tr")?.rowIndex };
 }
 
-/** What is returned leads back to where the page stands now, once it is drawn anew. */
+/** Gives what leads back to where the page is now, once it is drawn anew. */
 export function standing() {
   const [from, top] = [focused(), scrollY];
   return () => {

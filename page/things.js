@@ -217,7 +217,7 @@ export class Things {
 
   click(event) {
     const row = event.target.closest("tr")?.row;
-    if (row && event.detail > 1) return event.preventDefault(); // (one click opens; a second one is none on what came)
+    if (row && event.detail > 1) return event.preventDefault(); // (one click opens)
     const isMany = event.ctrlKey || event.metaKey;
     if (!row || event.target.closest("button, [popover]")) return;
     if (event.target === row.tick && !event.shiftKey) return this.toggle(row);

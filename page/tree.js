@@ -101,7 +101,7 @@ export class FolderTree {
     } catch (fault) {
       it.setAttribute("aria-expanded", "false");
       this.told.textContent = fault.message;
-      if (fault instanceof GaveUp) tellIt(fault); // (its button is out of reach until the dialog is closed)
+      if (fault instanceof GaveUp) tellIt(fault); // (its button is out of reach till then)
     }
     it.removeAttribute("aria-busy");
   }

@@ -20,7 +20,7 @@ async function within(entry, above = []) {
   if (entry.isFile) return [{ names, file: await new Promise((tell, fail) => entry.file(tell, fail)) }];
   const [reader, found] = [entry.createReader(), [{ names, file: null }]];
   for (;;) {
-    const some = await new Promise((tell, fail) => reader.readEntries(tell, fail)); // (a hundred at a time)
+    const some = await new Promise((tell, fail) => reader.readEntries(tell, fail)); // (by hundreds)
     if (!some.length) return found;
     for (const it of some) found.push(...await within(it, names));
   }

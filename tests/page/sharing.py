@@ -88,6 +88,8 @@ def changed(club, differs):
     give(browser, "view")
     browser.until("view", lambda: own(club, path) == [(0, GROUP | 3, VIEW, "staff")])
     browser.sees("The list is set.", "#notices")
+    of = "return document.activeElement.closest('.shares li')?.innerText ?? document.activeElement.tagName"
+    browser.until("the menu led back", lambda: "the group staff" in browser.script(of))
     deny = {"type": 1, "flag": 3, "mask": 0x10006, "who": "bob"}
     odd = {"type": 0, "flag": GROUP | 3, "mask": 0x1200AD, "who": "staff"}
     club.holds({"cmd": "SETLIST", "path": path, "aclflag": 1, "entries": [odd]})
