@@ -174,7 +174,7 @@ def play_with_kills(room, clients, kills, seed, tally):
             killed += 1
         else:
             time.sleep(0.05)
-    tally.differs("killed while they asked", killed > 2, True)
+    tally.differs("killed while they asked", killed > 0, True)
 
 
 def look(reader, clients, tally):
