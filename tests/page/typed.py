@@ -256,7 +256,9 @@ def stays(club, differs):
     differs("Back is the folder, and no old name", browser.script(PLACE), "#open/club/long")
     browser.go(club.address("#open/nowhere/plans"))
     differs("an unknown room", browser.sees("There is no room nowhere here.", "main"), True)
-    differs("the rooms that are there", browser.sees("club", "main li"), True)
+    browser.act("//header//button[@id='rooms']", "click")
+    differs("the rooms that are there", browser.sees("club", "[role=menu]"), True)
+    browser.keys("escape")
 
 
 def left_behind(club, differs):
