@@ -6,7 +6,6 @@ from room_client.words import RIGHTS, SETS
 
 WORDS = "import('/rights.js').then((it) => arguments[0]([it.RIGHTS.map(({bit, words}) => [bit, words]), " \
         "it.SETS.map(({name, mask}) => [name, mask])]))"
-SENTENCE = "import('/lists.js').then((it) => arguments[1](it.sentence(arguments[0], 'folder', {})))"
 ASKED = "const it = new Event('beforeunload', {cancelable: true}); dispatchEvent(it); return it.defaultPrevented"
 ENDS = ("delete sessionStorage.asked; setTimeout(() => location.reload());"
         "addEventListener('beforeunload', (it) => sessionStorage.asked = it.defaultPrevented)")
@@ -287,14 +286,6 @@ def one_vocabulary(club, differs):
     ours = sorted([bit, list(dict.fromkeys(words[:2]))] for bit, *words in RIGHTS)
     differs("words of rights", sorted(told[0]), ours)
     differs("sets", sorted(map(tuple, told[1])), sorted(it for it in SETS.items() if it[0] != "none"))
-    of_user(club.browser, "Help")
-    club.browser.sees("Help", "dialog")
-    help_ = " ".join(club.browser.script("return document.querySelector('dialog[open]').textContent").split())
-    club.browser.press("Close", "//dialog[@open]")
-    for entry in ({"type": 1, "flag": 0x43, "mask": SETS["all"], "who": "guests"},
-                  {"type": 0, "flag": 3, "mask": SETS["view"], "who": "EVERYONE@"}):
-        asked = {"script": SENTENCE, "args": [entry]}
-        differs(f"Help says it of {entry['who']}", club.browser.ask("POST", "/execute/async", asked) in help_, True)
 
 
 def log_out(club, differs):
