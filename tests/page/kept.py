@@ -87,7 +87,7 @@ class Page:
 
     def put(self, path, data):
         name = self.at(path)
-        choose(self.browser, "Upload", on_disk(self.club, name, data))
+        choose(self.browser, "Upload", on_disk(self.club, f"cases/{name}", data))
         return self.told([("there already", "Replace")], "1 file uploaded|0 files uploaded|failed")
 
     def get(self, path):
