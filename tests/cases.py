@@ -36,7 +36,7 @@ class Marks(dict):
         return self["begins"] + hashlib.sha256(NAMES.get(name, name).encode()).hexdigest()[:16]
 
 
-NAMES = {"P": f".room-pieces-{MARK}", "P2": f".room-pieces-{MARK[::-1]}", "W": f".room-writing-{MARK}",
+NAMES = {"P": f".room-pieces-{MARK}", "OTHER": f".room-pieces-{MARK[::-1]}", "W": f".room-writing-{MARK}",
          "G": f".room-gone-{MARK}", "new": Marks(begins=".room-new-"), "gone": Marks(begins=".room-gone-"),
          "deep": ["/".join("d" * it) for it in range(15)], **TABLE["names"]}
 
@@ -339,7 +339,7 @@ class Played:
             *signs, path, word = self.case.get("meanwhile", [None, "", ""])
             if self.is_due and all(it and it.encode() in body for it in signs):
                 self.is_due = False
-                laid.write(laid.at(path), some(word), NAMES["P2"])
+                laid.write(laid.at(path), some(word), NAMES["OTHER"])
 
     def step(self, laid, text):
         verb, words, sign, want = STEP.fullmatch(text).groups()
