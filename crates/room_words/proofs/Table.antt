@@ -32,7 +32,8 @@ use Rattle.room_words.specs.CommandLine.{ReadsWith, TellsKind}
 
 -- a fault that tells the error's kind says what the words are
 pub told : (p : ValueParser) (words : List Text) (e : Error) (f : WordsFault)
-    → HasKind (fault_of (program_command p) words) e → TellsKind (kind_of e) f → ReadsWith p words (Err f)
+    → HasKind (fault_of (program_command p) words) e → TellsKind (kind_of e) f
+    → ReadsWith (program_command p) words (Err f)
 told p words e (Usage text) (inl m) k = absurd (k.1 m)
 told p words e (Usage text) (inr a) k = (kind_of e, a, k.0)
 told p words e (Help text) (inl m) (inl k) = cc (m, k)
@@ -42,7 +43,7 @@ told p words e Memory h k = tt
 
 -- words that are not refused are refused for want of memory alone
 taken_refused : (p : ValueParser) (words : List Text) (job : Job) (f : WordsFault)
-    → fault_of (program_command p) words ≡ [] → ReadsWith p words (Err f) → IsReadAs job (Err f)
+    → fault_of (program_command p) words ≡ [] → ReadsWith (program_command p) words (Err f) → IsReadAs job (Err f)
 taken_refused p words job (Usage text) none r = rw none at r.1
 taken_refused p words job (Help text) none r = rw none at r.1
 taken_refused p words job Memory none r = tt
@@ -98,7 +99,8 @@ selftest_word p = record { passes = refl; row = refl; alone = is_selftest }
 
 module _ {p : ValueParser} {job : Job} {word : Text} (own : IsWordOf p job word) (words : List Text) where
   -- such words are refused for want of memory alone
-  pub word_refused : (f : WordsFault) → ReadsWith p words (Err f) → words ≡ word ∷ [] → IsReadAs job (Err f)
+  pub word_refused : (f : WordsFault) → ReadsWith (program_command p) words (Err f) → words ≡ word ∷ []
+      → IsReadAs job (Err f)
   word_refused f r e = taken_refused p words job f (ap (fault_of (program_command p)) e ∙ own.passes) r
 
   -- and else read as the job

@@ -1,8 +1,8 @@
 //! The command table as `clap` knows it.
-ghost use Rattle.std.specs.Prelude.{◌≡◌, false, IfOk, codes};
+ghost use Rattle.std.specs.Prelude.{◌≡◌, [], ◌∷◌, false, IfOk, codes, pos};
 ghost use Rattle.clap.specs.Words.{app_of, new_app, rule_of};
-ghost use Rattle.room_words.specs.CommandLine.{program_command, value_rule, parsed_rule, init_command, replay_command};
-ghost use Rattle.room_words.specs.CommandLine.{serve_command, report_command, bare_program, IsCommand, IsKindParser};
+ghost use Rattle.room_words.specs.CommandLine.{program_command, command, value_rule, parsed_rule};
+ghost use Rattle.room_words.specs.CommandLine.{bare_program, IsCommand, IsKindParser};
 
 use clap::builder::ValueParser;
 use clap::{Arg, Command};
@@ -89,7 +89,8 @@ fn parsed<'a>(alloc: Global, name: &'a str, help: &'a str, parser: ValueParser<'
 }
 
 fn init<'a>(alloc: Global) -> Result<Command<'a>, AllocError>
-    ensures { IfOk result (IsCommand init_command) }
+    ensures { IfOk result (IsCommand (command (codes "init")
+        (value_rule (codes "DB") ∷ value_rule (codes "OWNER") ∷ value_rule (codes "GROUP") ∷ []))) }
 {
     Command::new(alloc, "init")
         .about("Makes a room in the file DB")
@@ -99,7 +100,8 @@ fn init<'a>(alloc: Global) -> Result<Command<'a>, AllocError>
 }
 
 fn replay<'a>(alloc: Global) -> Result<Command<'a>, AllocError>
-    ensures { IfOk result (IsCommand replay_command) }
+    ensures { IfOk result (IsCommand (command (codes "replay")
+        (value_rule (codes "ROSTER") ∷ value_rule (codes "OWNER") ∷ value_rule (codes "GROUP") ∷ []))) }
 {
     Command::new(alloc, "replay")
         .about("Answers requests to a fresh room in memory, from standard input to standard output")
@@ -109,7 +111,9 @@ fn replay<'a>(alloc: Global) -> Result<Command<'a>, AllocError>
 }
 
 fn serve<'a>(alloc: Global) -> Result<Command<'a>, AllocError>
-    ensures { IfOk result (IsCommand serve_command) }
+    ensures { IfOk result (IsCommand (command (codes "serve") (value_rule (codes "DB") ∷ value_rule (codes "ROSTER")
+        ∷ parsed_rule (codes "PORT") (ValueParser.Signed (pos 1) (pos 65535))
+        ∷ parsed_rule (codes "COUNT") (ValueParser.Signed (pos 1) (pos 4294967295)) ∷ []))) }
 {
     let port = parsed(
         alloc,
@@ -132,7 +136,8 @@ fn serve<'a>(alloc: Global) -> Result<Command<'a>, AllocError>
 }
 
 fn report<'a>(alloc: Global, kind: ValueParser<'a>) -> Result<Command<'a>, AllocError>
-    ensures { IfOk result (IsCommand (report_command kind.entry)) }
+    ensures { IfOk result (IsCommand (command (codes "report")
+        (value_rule (codes "DB") ∷ value_rule (codes "ROSTER") ∷ parsed_rule (codes "KIND") kind.entry ∷ []))) }
 {
     Command::new(alloc, "report")
         .about("Writes a report of the room in the file DB; KIND is access or lists")

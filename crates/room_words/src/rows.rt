@@ -1,6 +1,6 @@
 //! A row of the command table, from what `clap` found.
-ghost use Rattle.std.specs.Prelude.{◌≡◌, IfOk, IfErr, codes, string_bytes};
-ghost use Rattle.clap.specs.Words.{found_of, rows_of};
+ghost use Rattle.std.specs.Prelude.{◌≡◌, Some, IfOk, IfErr, codes};
+ghost use Rattle.clap.specs.Words.{first_of, found_of, rows_of};
 ghost use Rattle.room_words.specs.CommandLine.{IsRowOf, IsValue, IsNumber, IsOneOf, command_names, kind_word};
 ghost use Rattle.room_words.specs.declared.fault.WordsFault.TheVariants.{Memory};
 
@@ -12,7 +12,7 @@ use std::alloc::Global;
 /// The value of this name. `clap` gives each value that must be there; one that was not there
 /// would be told as want of memory.
 fn text(alloc: Global, values: &ArgMatches<'_>, name: &str) -> Result<String, WordsFault>
-    ensures value { IfOk result (λ text. IsValue (rows_of (found_of values.now)) name.now (string_bytes text)) }
+    ensures value { IfOk result (λ text. IsValue (rows_of (found_of values.now)) name.now text) }
     ensures err { IfErr result (λ fault. fault ≡ Memory) }
 {
     let Some(text) = values.get_str(name) else {
@@ -42,7 +42,8 @@ fn count(values: &ArgMatches<'_>) -> Result<u32, WordsFault>
 }
 
 fn kind(values: &ArgMatches<'_>) -> Result<ReportKind, WordsFault>
-    ensures value { IfOk result (λ kind. IsValue (rows_of (found_of values.now)) (codes "KIND") (kind_word kind)) }
+    ensures value { IfOk result (λ kind.
+        first_of (codes "KIND") (rows_of (found_of values.now)) ≡ Some (kind_word kind)) }
     ensures err { IfErr result (λ fault. fault ≡ Memory) }
 {
     match values.get_str("KIND") {
