@@ -26,7 +26,7 @@ use Rattle.room_records.specs.Names.{name_cmp}
 use Rattle.room_records.specs.Roster.{AreBefore, IsRoster, may_join, with_user}
 use Rattle.room_records.proofs.Lists.{all_append}
 use Rattle.room_records.proofs.Rosters.{absent, joins, greater_back}
-use Rattle.room_roster.specs.Rosters.{list_of_names, table_of_users, document_with, user, IsNamed, IsNamedRoster}
+use Rattle.room_roster.specs.Rosters.{list_of_names, table_of_users, user_of, IsNamed, IsNamedRoster}
 use Rattle.room_roster.proofs.NameLists.{Reads, reads_none, all_here}
 
 pub list_of_names-injective : (xs ys : List (List ℕ)) → list_of_names xs ≡ list_of_names ys → xs ≡ ys
@@ -40,22 +40,22 @@ list_of_names-injective (x ∷ xs) (y ∷ ys) e =
 
 more_is : (rest : Members) (done whole more : List SubjectModel) (key : List ℕ) (groups : List (List ℕ)) (d : Data)
     → d ≡ array (list_of_names groups) → whole ≡ done ++ more → member key d rest ≡ table_of_users more
-    → (next : List SubjectModel) × (whole ≡ (done ++ user key groups ∷ []) ++ next) × (rest ≡ table_of_users next)
+    → (next : List SubjectModel) × (whole ≡ (done ++ user_of key groups ∷ []) ++ next) × (rest ≡ table_of_users next)
 more_is rest done whole [] key groups d is whole_is r = cc
 more_is rest done whole (other ∷ more) key groups d is whole_is r =
     let name_is : other.name ≡ key = cc in
     let list_is : list_of_names other.groups ≡ list_of_names groups = cc in
     let groups_are = list_of_names-injective other.groups groups list_is in
-    let same : other ≡ user key groups = λ i. user (name_is i) (groups_are i) in
+    let same : other ≡ user_of key groups = λ i. user_of (name_is i) (groups_are i) in
     let behind : rest ≡ table_of_users more = cc in
-    (more, whole_is ∙ ap (λ u. done ++ u ∷ more) same ∙ sym (append_assoc done (user key groups ∷ []) more), behind)
+    (more, whole_is ∙ ap (λ u. done ++ u ∷ more) same ∙ sym (append_assoc done (user_of key groups ∷ []) more), behind)
 
 pub reads_more : (all rest : Members) (done : List SubjectModel) (key : List ℕ) (groups : List (List ℕ)) (d : Data)
     → d ≡ array (list_of_names groups) → Reads table_of_users all (member key d rest) done
-    → Reads table_of_users all rest (done ++ user key groups ∷ [])
+    → Reads table_of_users all rest (done ++ user_of key groups ∷ [])
 reads_more all rest done key groups d is r = record {
-  on = λ more e. r.on (user key groups ∷ more) (cc)
-      ∙ ap table_of_users (sym (append_assoc done (user key groups ∷ []) more));
+  on = λ more e. r.on (user_of key groups ∷ more) (cc)
+      ∙ ap table_of_users (sym (append_assoc done (user_of key groups ∷ []) more));
   back = λ whole e. let (more, whole_is, rest_is) = r.back whole e in
       more_is rest done whole more key groups d is whole_is rest_is;
 }
@@ -106,10 +106,10 @@ last_of u (other ∷ done) before = rw before.0 (ap (λ us. other ∷ us) (last_
 pub turn : (all : Members) (rest : List Entry) (done new : List SubjectModel)
     (e : Entry) (key : List ℕ) (groups : List (List ℕ)) → key ≡ string_bytes e.0
     → SoFar all (e ∷ rest) done → view e.1 ≡ array (list_of_names groups)
-    → IsNamed (user key groups) → new ≡ with_user done (user key groups) → IsRoster new → SoFar all rest new
+    → IsNamed (user_of key groups) → new ≡ with_user done (user_of key groups) → IsRoster new → SoFar all rest new
 unfolding IsStrictlySortedBy
 turn all rest done new e key groups key_is so is named new_is roster =
-    let u = user (string_bytes e.0) groups in
+    let u = user_of (string_bytes e.0) groups in
     let last : new ≡ done ++ u ∷ [] = rw key_is at new_is ∙ last_of u done so.behind.0 in
     record {
       reads = rw last (reads_more all (members_view rest) done (string_bytes e.0) groups (view e.1) is so.reads);
@@ -125,7 +125,7 @@ turn all rest done new e key groups key_is so is named new_is roster =
 pub refused : (all : Members) (rest : List Entry) (done users : List SubjectModel) (e : Entry) (key : List ℕ)
     → key ≡ string_bytes e.0 → SoFar all (e ∷ rest) done → all ≡ table_of_users users → IsNamedRoster users
     → ((groups : List (List ℕ)) → view e.1 ≡ array (list_of_names groups)
-    → IsNamed (user key groups) → may_join done key groups ≡ false) → ⊥
+    → IsNamed (user_of key groups) → may_join done key groups ≡ false) → ⊥
 refused all rest done users e key key_is so is lawful bad = let (more, users_are, rest_is) = so.reads.back users is in
     at more users_are rest_is
   where
@@ -165,12 +165,13 @@ only (e ∷ []) d one found = by (slice_cmp nat_cmp users_key (string_bytes e.0)
         (sym (is_eq-slice_cmp users_key (string_bytes e.0)) ∙ ap is_eq is) in cc
 
 pub one_member : (entries : List Entry) (users : Members)
-    → members_view entries ≡ document_with users → length entries ≡ 1
+    → members_view entries ≡ member users_key (table users) no_members → length entries ≡ 1
 one_member [] users e = cc
 one_member (x ∷ []) users e = omega arith
 one_member (x ∷ y ∷ entries) users e = cc
 
-pub found_users : (all users : Members) → all ≡ document_with users → get_member users_key all ≡ Some (table users)
+pub found_users : (all users : Members) → all ≡ member users_key (table users) no_members
+    → get_member users_key all ≡ Some (table users)
 found_users all users e = ap (get_member users_key) e
 
 as_table_is : (d : Data) (ms : Members) → Some ms ≡ as_table d → d ≡ table ms
@@ -188,7 +189,7 @@ TableMap = BTreeMap (String Global) Value
 pub some_users : (entries : List Entry) (v : Value) (r : Option (Bor TableMap))
     → length entries ≡ 1 → get_member users_key (members_view entries) ≡ Some (view v)
     → option_map (λ m. table_view m.now) r ≡ as_table (view v)
-    → IfSome r (λ users. members_view entries ≡ document_with (table_view users.now))
+    → IfSome r (λ users. members_view entries ≡ member users_key (table (table_view users.now)) no_members)
 some_users entries v None one found is = tt
 some_users entries v (Some t) one found is =
     only entries (view v) one found
@@ -197,7 +198,7 @@ some_users entries v (Some t) one found is =
 pub no_users : (entries : List Entry) (v : Value) (r : Option (Bor TableMap))
     → get_member users_key (members_view entries) ≡ Some (view v)
     → option_map (λ m. table_view m.now) r ≡ as_table (view v)
-    → IfNone r ((users : Members) → ¬ (members_view entries ≡ document_with users))
+    → IfNone r ((users : Members) → ¬ (members_view entries ≡ member users_key (table users) no_members))
 no_users entries v (Some t) found is = tt
 no_users entries v None found is = λ users e.
     let same : view v ≡ table users = cc (found_users (members_view entries) users e) in

@@ -16,12 +16,8 @@ abbrev pub table_of_users : List SubjectModel → Members
 table_of_users [] = no_members
 table_of_users (user ∷ users) = member user.name (array (list_of_names user.groups)) (table_of_users users)
 
--- the table `users`, and nothing else
-abbrev pub document_with : Members → Members
-document_with users = member (codes "users") (table users) no_members
-
-abbrev pub user : List ℕ → List (List ℕ) → SubjectModel
-user name groups = record { name = name; groups = groups }
+abbrev pub user_of : List ℕ → List (List ℕ) → SubjectModel
+user_of name groups = record { name = name; groups = groups }
 
 abbrev pub IsNamed : SubjectModel → Type 0
 IsNamed user = IsPrincipal user.name × AllByRecursion IsPrincipal user.groups
@@ -30,6 +26,7 @@ pub record IsNamedRoster (users : List SubjectModel) : Type 0 where
   pub roster : IsRoster users
   pub named : AllByRecursion IsNamed users
 
+-- the text is a table `users`, and nothing else
 pub record IsRosterText (text : List ℕ) (users : List SubjectModel) : Type 0 where
-  pub document : parse_document text ≡ Some (document_with (table_of_users users))
+  pub document : parse_document text ≡ Some (member (codes "users") (table (table_of_users users)) no_members)
   pub lawful : IsNamedRoster users

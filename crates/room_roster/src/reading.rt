@@ -3,7 +3,7 @@ ghost use Rattle.std.specs.Prelude.{◌≡◌, List, Err, IfOk, IfSome, IfNone, 
 ghost use Rattle.toml.specs.Data.{Members, member, no_members, table};
 ghost use Rattle.toml.specs.View.{table_view};
 ghost use Rattle.room_acl.specs.SubjectModel.{SubjectModel};
-ghost use Rattle.room_roster.specs.Rosters.{IsRosterText, document_with};
+ghost use Rattle.room_roster.specs.Rosters.{IsRosterText};
 
 use crate::fault::RosterFault;
 use crate::users::users;
@@ -13,8 +13,10 @@ use toml::Table;
 
 /// The table `users` of a document that has nothing else.
 fn only_users(document: &Table) -> Option<&Table>
-    ensures some { IfSome result (λ users. table_view document.now ≡ document_with (table_view users.now)) }
-    ensures none { IfNone result ((users : Members) → ¬ (table_view document.now ≡ document_with users)) }
+    ensures some { IfSome result (λ users.
+        table_view document.now ≡ member (codes "users") (table (table_view users.now)) no_members) }
+    ensures none { IfNone result ((users : Members) →
+        ¬ (table_view document.now ≡ member (codes "users") (table users) no_members)) }
 {
     if document.len() != 1 {
         return None;

@@ -5,7 +5,7 @@ ghost use Rattle.toml.specs.Data.{array};
 ghost use Rattle.toml.specs.View.{view, table_view};
 ghost use Rattle.room_acl.specs.SubjectModel.{SubjectModel};
 ghost use Rattle.room_records.specs.Roster.{IsRoster, may_join, with_user};
-ghost use Rattle.room_roster.specs.Rosters.{list_of_names, table_of_users, IsNamed, IsNamedRoster, user};
+ghost use Rattle.room_roster.specs.Rosters.{list_of_names, table_of_users, IsNamed, IsNamedRoster, user_of};
 
 use crate::fault::RosterFault;
 use crate::groups::{groups, principal};
@@ -32,10 +32,11 @@ fn add_user(
     value: &Value,
 ) -> Result<(), RosterFault>
     ensures ok { OnOk result ((groups : List (List ℕ))
-        × (view value.now ≡ array (list_of_names groups)) × IsNamed (user name.now groups)
-        × (may_join roster.old name.now groups ≡ true) × (roster.new ≡ with_user roster.old (user name.now groups))) }
+        × (view value.now ≡ array (list_of_names groups)) × IsNamed (user_of name.now groups)
+        × (may_join roster.old name.now groups ≡ true)
+        × (roster.new ≡ with_user roster.old (user_of name.now groups))) }
     ensures bad { result ≡ Err RosterFault.Bad → (groups : List (List ℕ))
-        → view value.now ≡ array (list_of_names groups) → IsNamed (user name.now groups)
+        → view value.now ≡ array (list_of_names groups) → IsNamed (user_of name.now groups)
         → may_join roster.old name.now groups ≡ false }
 {
     let name = principal(alloc, name)?;
