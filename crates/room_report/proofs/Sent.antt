@@ -6,7 +6,6 @@ use Rattle.room_records.specs.Representation.{RepresentsRoom}
 use Rattle.room_records.specs.Room.{Room}
 use Rattle.room_records.specs.Shelf.{View}
 use Rattle.room_report.specs.declared.lines.Report.{Report}
-use Rattle.room_report.specs.Lines.{IsBeginningOf}
 use Rattle.room_report.specs.Reported.{Reported}
 use Rattle.room_report.specs.Walk.{AppendsFront, OfIntactRoom, Writes, text_below}
 
@@ -27,9 +26,9 @@ sent_whole a b text other (Err e) same sent = tt
 
 sent_beginning : {X E : Type 0} (a b : Option (List ℕ)) (text other : List ℕ) (r : Result X E)
     → text ≡ other → Writes a b text r
-    → (written : List ℕ) × IsBeginningOf written other × Appends a b written
-sent_beginning a b text other (Ok x) same sent = (text, ([], sym same ∙ sym (append-nil text)), sent)
-sent_beginning a b text other (Err e) same sent = (sent.0, (sent.1, sym same ∙ sent.2), sent.3)
+    → AppendsFront a b other
+sent_beginning a b text other (Ok x) same sent = (text, [], sym same ∙ sym (append-nil text), sent)
+sent_beginning a b text other (Err e) same sent = front_is a b text other same sent
 
 -- what the walk says of a report is what the report promises
 pub reported : {X E : Type 0} (report : Report) (text : Room → List ℕ)

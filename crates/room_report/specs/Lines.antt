@@ -1,6 +1,7 @@
 -- The lines of the reports. Their forms are our own.
-use Rattle.std.specs.Prelude.{◌≡◌, ℕ, zero, suc, ◌+◌, ◌-◌, ◌/◌, ◌%◌, Bool, true, false, List, [], ◌∷◌, ◌++◌, length}
-use Rattle.std.specs.Prelude.{codes, if◌then◌else◌, nat_lt, replicate}
+use Rattle.std.specs.Prelude.{ℕ, zero, suc, ◌+◌, ◌-◌, ◌/◌, ◌%◌, false, List, [], ◌∷◌, ◌++◌, length}
+use Rattle.std.specs.Prelude.{codes, if◌then◌else◌, replicate}
+use Rattle.std.specs.Fmt.{digit_glyph}
 use Rattle.std.specs.List.{flat_map}
 use Rattle.std.specs.BTreeMap.{insert_entry}
 use Rattle.room_acl.specs.declared.subject.Kind.{Kind}
@@ -17,13 +18,10 @@ abbrev pub in_path_order : List (Path × Object) → List (Path × Object)
 in_path_order [] = []
 in_path_order (e ∷ es) = insert_entry path_cmp (in_path_order es) e.0 e.1
 
-abbrev pub hex_digit : ℕ → ℕ
-hex_digit n = if nat_lt n 10 then 48 + n else 87 + n
-
 -- so many lower-case hexadecimal digits, with zeros at the front
 unfoldable pub hex : ℕ → ℕ → List ℕ
 hex zero n = []
-hex (suc places) n = hex places (n / 16) ++ hex_digit (n % 16) ∷ []
+hex (suc places) n = hex places (n / 16) ++ digit_glyph false (n % 16) ∷ []
 
 -- a text left in as many places as the longest name takes
 abbrev pub in_places : List ℕ → List ℕ
@@ -45,12 +43,8 @@ abbrev pub kind_letter : Kind → ℕ
 kind_letter File = 102
 kind_letter Folder = 100
 
-abbrev pub type_letter : Bool → ℕ
-type_letter true = 65
-type_letter false = 68
-
 abbrev pub entry_line : EntryModel → List ℕ
-entry_line e = codes "  " ++ type_letter e.allow ∷ 32 ∷ hex 2 e.flags
+entry_line e = codes "  " ++ (if e.allow then 65 else 68) ∷ 32 ∷ hex 2 e.flags
     ++ 32 ∷ hex 8 e.mask ++ 32 ∷ who_text e.who ++ 10 ∷ []
 
 abbrev pub head_line : Kind → ℕ → List ℕ → List ℕ → List ℕ → List ℕ
@@ -65,6 +59,3 @@ abbrev pub list_text : Room → List ℕ
 list_text room =
     flat_map (λ (e : Path × Object). object_line e ++ flat_map entry_line (list_of room e.0))
     (in_path_order room.objects)
-
-abbrev pub IsBeginningOf : List ℕ → List ℕ → Type 0
-IsBeginningOf front all = (rest : List ℕ) × (all ≡ front ++ rest)

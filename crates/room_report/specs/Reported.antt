@@ -4,7 +4,7 @@ use Rattle.std.specs.Io.KnownBytes.{Appends}
 use Rattle.room_records.specs.Room.{Room}
 use Rattle.room_records.specs.Representation.{RepresentsRoom}
 use Rattle.room_records.specs.Shelf.{View}
-use Rattle.room_report.specs.Lines.{IsBeginningOf}
+use Rattle.room_records.specs.Writers.{AppendsFront}
 
 -- done means that the whole text of the rows was written; else a beginning of it was
 pub record Reported {X E : Type 0} (text : Room → List ℕ) (before after : View)
@@ -12,5 +12,5 @@ pub record Reported {X E : Type 0} (text : Room → List ℕ) (before after : Vi
   pub ok : after.is_intact → before.is_laid_out → (room : Room) → RepresentsRoom before.records.objects room →
       OnOk done (Appends old new (text room))
   pub beginning : after.is_intact → before.is_laid_out → (room : Room) → RepresentsRoom before.records.objects room →
-      (written : List ℕ) × IsBeginningOf written (text room) × Appends old new written
+      AppendsFront old new (text room)
   pub there : after.is_intact → OnOk done after.is_available

@@ -1,8 +1,9 @@
 //! The lines of one object, built in one buffer.
-ghost use Rattle.std.specs.Prelude.{◌≡◌, ◌<◌, ◌≤◌, ◌++◌, ◌∷◌, [], IfOk, OnOk};
+ghost use Rattle.std.specs.Prelude.{◌≡◌, ◌<◌, ◌≤◌, ◌++◌, ◌∷◌, [], false, if◌then◌else◌, IfOk, OnOk};
+ghost use Rattle.std.specs.Fmt.{digit_glyph};
 ghost use Rattle.std.specs.List.{flat_map};
 ghost use Rattle.room_acl.specs.Access.{allowed_mask};
-ghost use Rattle.room_report.specs.Lines.{hex, hex_digit, in_places, kind_letter, type_letter, mask_line};
+ghost use Rattle.room_report.specs.Lines.{hex, in_places, kind_letter, mask_line};
 ghost use Rattle.room_report.specs.Lines.{entry_line, head_line};
 ghost use Rattle.room_report.specs.Walk.{item_lines, shown_path};
 
@@ -130,7 +131,7 @@ fn kind_letter(kind: Kind) -> u8
 }
 
 fn type_letter(allow: bool) -> u8
-    ensures { result ≡ type_letter allow }
+    ensures { result ≡ (if allow then 65 else 68) }
 {
     if allow { b'A' } else { b'D' }
 }
@@ -161,7 +162,7 @@ fn push_hex(buffer: &mut Vec<u8>, places: u32, number: u32) -> Result<(), AllocE
 
 fn hex_digit(digit: u32) -> u8
     requires { digit < 16 }
-    ensures { result ≡ hex_digit digit }
+    ensures { result ≡ digit_glyph false digit }
 {
     if digit < 10 {
         b'0' + digit as u8

@@ -1,5 +1,7 @@
-use Rattle.std.proofs.Common.{◌≡◌, ◌+◌, ◌-◌, ◌/◌, ◌%◌, ap, sym, ◌∙◌, arith, [], ◌∷◌, ◌++◌, append_assoc, append-nil}
-use Rattle.room_report.specs.Lines.{hex, hex_digit}
+use Rattle.std.proofs.Common.{◌≡◌, false, ◌+◌, ◌-◌, ◌/◌, ◌%◌, ap, sym, ◌∙◌, arith, [], ◌∷◌, ◌++◌, append_assoc}
+use Rattle.std.proofs.Common.{append-nil}
+use Rattle.std.specs.Fmt.{digit_glyph}
+use Rattle.room_report.specs.Lines.{hex}
 use Rattle.room_report.proofs.Hex.{hex_none, hex_more}
 use Rattle.room_report.proofs.lines.+push_hex.Goals as goal
 
@@ -12,7 +14,7 @@ pub returns : goal.returns
 returns t c =
     let old = c.args.buffer.now.items in
     let fewer = c.args.places - 1 in
-    let digit = hex_digit (c.args.number % 16) in
+    let digit = digit_glyph false (c.args.number % 16) in
     let is : c.args.places ≡ fewer + 1 = omega (arith, c.if-places-eq0.false) in
     c.in_ok-push.ensures.items
     ∙ ap (λ d. c.push_hex.new.buffer.items ++ d ∷ []) c.hex_digit.ensures
