@@ -1,4 +1,5 @@
 -- What messages ask: routes, the caller, events and questions.
+pub mod Callers
 pub mod Finds
 pub mod Numerals
 pub mod Routes

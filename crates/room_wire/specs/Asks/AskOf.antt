@@ -2,16 +2,17 @@
 -- which are looked for in this order (our own rules).
 use Rattle.std.specs.Prelude.{◌≡◌, ℕ, ◌^◌, Bool, ◌==◌, ◌||◌, ◌&&◌, not, nat_le, nat_lt, List, [], ◌∷◌, length}
 use Rattle.std.specs.Prelude.{slice_index, Option, None, Some, Result, Ok, Err, if◌then◌else◌, option_map}
-use Rattle.std.specs.Prelude.{option_and_then, codes}
+use Rattle.std.specs.Prelude.{option_and_then, ok_or, codes}
 use Rattle.std.specs.List.{list_all}
 use Rattle.std.specs.Char.{is_ascii_digit}
+use Rattle.std.specs.Option.{option_zip}
 use Rattle.std.specs.Str.Parse.{digits_value}
 use Rattle.serde_json.specs.Data.{Data}
 use Rattle.room_acl.specs.SubjectModel.{SubjectModel}
 use Rattle.room_acl.specs.declared.subject.Subject.{Subject}
 use Rattle.room_records.specs.Limits.{max_slots}
 use Rattle.room_records.specs.Names.{is_sid}
-use Rattle.room_records.specs.Roster.{groups_of}
+use Rattle.room_records.specs.Roster.{user_named}
 use Rattle.room_commands.specs.CommandModel.{CommandModel}
 use Rattle.room_wire.specs.declared.asks.ask.Ask.{Ask}
 use Rattle.room_wire.specs.declared.asks.ask.Ask.TheVariants as A
@@ -40,15 +41,10 @@ abbrev pub ask_model : Ask → AskModel
 ask_model (A.Check question) = Check (question_model question)
 ask_model (A.Event event) = Event (event_model event)
 
--- the user of this name, with the groups of the roster
-abbrev pub user_called : List SubjectModel → List ℕ → Option SubjectModel
-user_called users name =
-    option_map (λ (groups : List (List ℕ)). record { name = name; groups = groups }) (groups_of users name)
-
 -- the user whom the values of the fields `room-user` name: there is one such field, and it names a user of the roster
 abbrev pub caller_by : List SubjectModel → List (List ℕ) → Option SubjectModel
 caller_by users [] = None
-caller_by users (value ∷ []) = option_and_then (user_called users) (principal_from value)
+caller_by users (value ∷ []) = option_and_then (user_named users) (principal_from value)
 caller_by users (value ∷ other ∷ others) = None
 
 abbrev pub sid_from : List ℕ → Option (List ℕ)
@@ -74,59 +70,43 @@ slots_asked d = if has_count 1 d then option_and_then slots_from (number_at (cod
 abbrev pub slots_of_body : List ℕ → Option ℕ
 slots_of_body body = option_and_then slots_asked (json_of body)
 
-abbrev pub open_by : SubjectModel → Option (List ℕ) → Option ℕ → Option EventModel
-open_by caller None slots = None
-open_by caller (Some sid) None = None
-open_by caller (Some sid) (Some slots) = Some (Open caller sid slots)
-
-abbrev pub close_by : SubjectModel → Option (List ℕ) → Option EventModel
-close_by caller sid = option_map (Close caller) sid
-
 abbrev pub request_by : SubjectModel → Option (List ℕ) → (slot seq : Option ℕ) → Option (CommandModel × Bool)
     → Option EventModel
-request_by caller None slot seq asked = None
-request_by caller (Some sid) None seq asked = None
-request_by caller (Some sid) (Some slot) None asked = None
-request_by caller (Some sid) (Some slot) (Some seq) None = None
-request_by caller (Some sid) (Some slot) (Some seq) (Some asked) =
-    Some (Slot (record { caller = caller; sid = sid; slot = slot; seq = seq; command = asked.0; keep = asked.1 }))
+request_by caller sid slot seq asked =
+    option_map (λ (sid, (slot, (seq, (command, keep)))). Slot (record {
+      caller = caller;
+      sid = sid;
+      slot = slot;
+      seq = seq;
+      command = command;
+      keep = keep;
+    })) (option_zip sid (option_zip slot (option_zip seq asked)))
 
 -- the event that a user asks; a CLOSE ignores its body
 abbrev pub event_by : SessionAction → SubjectModel → TargetModel → (body : List ℕ) → Option EventModel
-event_by S.Open caller target body = open_by caller (sid_from target.sid) (slots_of_body body)
-event_by S.Close caller target body = close_by caller (sid_from target.sid)
+event_by S.Open caller target body =
+    option_map (λ (sid, slots). Open caller sid slots) (option_zip (sid_from target.sid) (slots_of_body body))
+event_by S.Close caller target body = option_map (Close caller) (sid_from target.sid)
 event_by S.Run caller target body =
     request_by caller (sid_from target.sid) (number_from target.slot) (number_from target.seq) (command_of_body body)
 
--- what is asked, made of what was read, or a bad request where nothing was
-abbrev pub asked : {A B : Type 0} → (A → B) → Option A → Result B WireFault
-asked make None = Err BadRequest
-asked make (Some read) = Ok (make read)
-
-abbrev pub question_asked : Option QuestionModel → Result AskModel WireFault
-question_asked = asked Check
-
 abbrev pub event_asked : Option EventModel → Result AskModel WireFault
-event_asked = asked Event
+event_asked event = ok_or (option_map Event event) BadRequest
 
-abbrev pub session_ask : SessionAction → Option SubjectModel → TargetModel → (body : List ℕ) → Result AskModel WireFault
-session_ask action None target body = Err UnknownUser
-session_ask action (Some caller) target body = event_asked (event_by action caller target body)
+-- what is asked of a target: a question, or an event of the caller's, who is looked for first
+abbrev pub ask_at : Action → (caller : Option SubjectModel) → TargetModel → (body : List ℕ) → Result AskModel WireFault
+ask_at T.Check caller target body = ok_or (option_map Check (question_of_body body)) BadRequest
+ask_at (T.Session action) None target body = Err UnknownUser
+ask_at (T.Session action) (Some caller) target body = event_asked (event_by action caller target body)
 
-abbrev pub ask_by : Action → List SubjectModel → TargetModel
-    → List (List ℕ × List ℕ) → (body : List ℕ) → Result AskModel WireFault
-ask_by T.Check users target fields body = question_asked (question_of_body body)
-ask_by (T.Session action) users target fields body =
-    session_ask action (caller_by users (values_named (codes "room-user") fields)) target body
-
-abbrev pub ask_for : Option TargetModel → List SubjectModel
-    → List (List ℕ × List ℕ) → (body : List ℕ) → Result AskModel WireFault
-ask_for None users fields body = Err BadRoute
-ask_for (Some target) users fields body = ask_by target.action users target fields body
+abbrev pub ask_for : Option TargetModel → (caller : Option SubjectModel) → (body : List ℕ) → Result AskModel WireFault
+ask_for None caller body = Err BadRoute
+ask_for (Some target) caller body = ask_at target.action caller target body
 
 -- what a message asks of a room with these users: the route and its method, then the user, then all else
 abbrev pub ask_of : List SubjectModel → MessageModel → Result AskModel WireFault
-ask_of users m = ask_for (target_at room_rows m.head.method m.head.target) users (fields_of m) m.body
+ask_of users m = ask_for (target_at room_rows m.head.method m.head.target)
+    (caller_by users (values_named (codes "room-user") (fields_of m))) m.body
 
 -- the result is what was asked, unless memory was refused
 abbrev pub DecodesAs : {X A : Type 0} → (X → A) → Result A WireFault → Result X WireFault → Type 0

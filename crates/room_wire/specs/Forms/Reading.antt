@@ -1,10 +1,10 @@
 -- Readers of the members of JSON values: numbers, texts, principals, masks, flags, kinds and entries.
 use Rattle.std.specs.Prelude.{ℕ, ◌+◌, ◌^◌, Bool, true, false, ◌&&◌, ◌==◌, nat_lt, List, [], ◌∷◌, Option, None, Some}
 use Rattle.std.specs.Prelude.{if◌then◌else◌, option_and_then, option_map, codes, bit_and, bytes_eq}
+use Rattle.std.specs.Option.{option_map_or, option_zip}
 use Rattle.std.specs.Str.{is_utf8}
-use Rattle.serde_json.specs.Data.{Data, Items, Members, null, boolean, number, string, array, object}
-use Rattle.serde_json.specs.Data.{no_items, item, no_members, member}
-use Rattle.serde_json.specs.Find.{get, as_number, as_u64, as_str, as_array}
+use Rattle.serde_json.specs.Data.{Data, Items, Members, no_items, item, no_members, member}
+use Rattle.serde_json.specs.Find.{get, as_number, as_u64, as_str, as_array, as_object}
 use Rattle.serde_json.specs.Read.{read}
 use Rattle.room_acl.specs.declared.subject.Kind.{Kind}
 use Rattle.room_acl.specs.declared.subject.Kind.TheVariants.{File, Folder}
@@ -23,12 +23,7 @@ count (member name value members) = count members + 1
 
 -- an object with so many members: with each listed one there, exactly those
 abbrev pub has_count : ℕ → Data → Bool
-has_count n null = false
-has_count n (boolean b) = false
-has_count n (number x) = false
-has_count n (string s) = false
-has_count n (array ds) = false
-has_count n (object members) = count members == n
+has_count n d = option_map_or (λ members. count members == n) (as_object d) false
 
 abbrev pub number_at : List ℕ → Data → Option ℕ
 number_at name d = option_and_then as_u64 (option_and_then as_number (get name d))
@@ -45,9 +40,6 @@ flags_from n = if nat_lt n 256 && (bit_and n all_flags == n) then Some n else No
 abbrev pub mask_at : List ℕ → Data → Option ℕ
 mask_at name d = option_and_then mask_from (number_at name d)
 
-abbrev pub flags_at : List ℕ → Data → Option ℕ
-flags_at name d = option_and_then flags_from (number_at name d)
-
 abbrev pub principal_at : List ℕ → Data → Option (List ℕ)
 principal_at name d = option_and_then principal_from (text_at name d)
 
@@ -55,48 +47,30 @@ abbrev pub kind_from : List ℕ → Option Kind
 kind_from text = if bytes_eq text (codes "file") then Some File
     else (if bytes_eq text (codes "folder") then Some Folder else None)
 
-abbrev pub kind_at : List ℕ → Data → Option Kind
-kind_at name d = option_and_then kind_from (text_at name d)
-
 -- type 0 allows, and type 1 denies
 abbrev pub allow_from : ℕ → Option Bool
 allow_from n = if n == 0 then Some true else (if n == 1 then Some false else None)
 
-abbrev pub allow_at : List ℕ → Data → Option Bool
-allow_at name d = option_and_then allow_from (number_at name d)
-
-abbrev pub entry_by : Option ℕ → Option ℕ → Option Bool → Option (List ℕ) → Option EntryModel
-entry_by None mask allow text = None
-entry_by (Some flags) None allow text = None
-entry_by (Some flags) (Some mask) None text = None
-entry_by (Some flags) (Some mask) (Some allow) None = None
-entry_by (Some flags) (Some mask) (Some allow) (Some text) =
+-- the entry of these flags and this mask, which allows or not, and of the text of whom it is for
+abbrev pub entry_of : ℕ × (ℕ × (Bool × List ℕ)) → Option EntryModel
+entry_of (flags, (mask, (allow, text))) =
     option_map (λ who. record { allow = allow; flags = flags; mask = mask; who = who }) (who_from flags text)
 
 abbrev pub entry_in : Data → Option EntryModel
 entry_in d =
-    if has_count 4 d then entry_by (flags_at (codes "flag") d)
-    (mask_at (codes "mask") d) (allow_at (codes "type") d) (text_at (codes "who") d)
+    if has_count 4 d then option_and_then entry_of (option_zip (option_and_then flags_from (number_at (codes "flag") d))
+    (option_zip (mask_at (codes "mask") d)
+    (option_zip (option_and_then allow_from (number_at (codes "type") d)) (text_at (codes "who") d))))
     else None
-
-abbrev pub cons : {A : Type 0} → Option A → Option (List A) → Option (List A)
-cons None rest = None
-cons (Some x) None = None
-cons (Some x) (Some xs) = Some (x ∷ xs)
-
-abbrev pub entries_among : Items → Option (List EntryModel)
-entries_among no_items = Some []
-entries_among (item d ds) = cons (entry_in d) (entries_among ds)
 
 abbrev pub principal_in : Data → Option (List ℕ)
 principal_in d = option_and_then principal_from (as_str d)
 
-abbrev pub principals_among : Items → Option (List (List ℕ))
-principals_among no_items = Some []
-principals_among (item d ds) = cons (principal_in d) (principals_among ds)
+-- what these values are read as, if each of them is read
+abbrev pub all_among : {A : Type 0} → (Data → Option A) → Items → Option (List A)
+all_among read no_items = Some []
+all_among read (item d ds) = option_map (λ (x, xs). x ∷ xs) (option_zip (read d) (all_among read ds))
 
-abbrev pub entries_at : List ℕ → Data → Option (List EntryModel)
-entries_at name d = option_and_then entries_among (option_and_then as_array (get name d))
-
-abbrev pub principals_at : List ℕ → Data → Option (List (List ℕ))
-principals_at name d = option_and_then principals_among (option_and_then as_array (get name d))
+-- and those of an array among the members
+abbrev pub all_at : {A : Type 0} → (Data → Option A) → List ℕ → Data → Option (List A)
+all_at read name d = option_and_then (all_among read) (option_and_then as_array (get name d))

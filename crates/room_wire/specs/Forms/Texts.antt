@@ -38,10 +38,6 @@ members (m ∷ ms) = member m.0 m.1 (members ms)
 abbrev pub obj : List (List ℕ × Data) → Data
 obj ms = object (members ms)
 
-abbrev pub list : List Data → Items
-list [] = no_items
-list (d ∷ ds) = item d (list ds)
-
 abbrev pub entry_type : Bool → Data
 entry_type true = num 0
 entry_type false = num 1
@@ -87,39 +83,26 @@ command_data (C.Access mask p) = obj (cmd (codes "ACCESS") ∷ (codes "mask", nu
 abbrev pub command_text : CommandModel → List ℕ
 command_text c = compact_text (command_data c)
 
-abbrev pub refusal_number : RefusalCode → ℕ
-refusal_number F.NoEnt = 1
-refusal_number F.NotDir = 2
-refusal_number F.IsDir = 3
-refusal_number F.Exist = 4
-refusal_number F.Access = 5
-refusal_number F.NotEmpty = 6
-refusal_number F.Inval = 7
-refusal_number F.AttrNotSupp = 8
-refusal_number F.FBig = 9
-refusal_number F.TooDeep = 10
-refusal_number F.FolderFull = 11
-refusal_number F.RoomFull = 12
-
-abbrev pub refusal_name : RefusalCode → List ℕ
-refusal_name F.NoEnt = codes "NOENT"
-refusal_name F.NotDir = codes "NOTDIR"
-refusal_name F.IsDir = codes "ISDIR"
-refusal_name F.Exist = codes "EXIST"
-refusal_name F.Access = codes "ACCESS"
-refusal_name F.NotEmpty = codes "NOTEMPTY"
-refusal_name F.Inval = codes "INVAL"
-refusal_name F.AttrNotSupp = codes "ATTRNOTSUPP"
-refusal_name F.FBig = codes "FBIG"
-refusal_name F.TooDeep = codes "TOO_DEEP"
-refusal_name F.FolderFull = codes "FOLDER_FULL"
-refusal_name F.RoomFull = codes "ROOM_FULL"
+-- the number of a refusal, and its name
+abbrev pub refusal_of : RefusalCode → ℕ × List ℕ
+refusal_of F.NoEnt = (1, codes "NOENT")
+refusal_of F.NotDir = (2, codes "NOTDIR")
+refusal_of F.IsDir = (3, codes "ISDIR")
+refusal_of F.Exist = (4, codes "EXIST")
+refusal_of F.Access = (5, codes "ACCESS")
+refusal_of F.NotEmpty = (6, codes "NOTEMPTY")
+refusal_of F.Inval = (7, codes "INVAL")
+refusal_of F.AttrNotSupp = (8, codes "ATTRNOTSUPP")
+refusal_of F.FBig = (9, codes "FBIG")
+refusal_of F.TooDeep = (10, codes "TOO_DEEP")
+refusal_of F.FolderFull = (11, codes "FOLDER_FULL")
+refusal_of F.RoomFull = (12, codes "ROOM_FULL")
 
 abbrev pub refusal_data : RefusalCode → Option (Path × ℕ) → Data
-refusal_data f None = obj ((codes "code", num (refusal_number f)) ∷ (codes "error", string (refusal_name f)) ∷ [])
+refusal_data f None = obj ((codes "code", num (refusal_of f).0) ∷ (codes "error", string (refusal_of f).1) ∷ [])
 refusal_data f (Some place) =
-    obj ((codes "bit", num place.1) ∷ (codes "code", num (refusal_number f))
-    ∷ (codes "error", string (refusal_name f)) ∷ at place.0 ∷ [])
+    obj ((codes "bit", num place.1) ∷ (codes "code", num (refusal_of f).0)
+    ∷ (codes "error", string (refusal_of f).1) ∷ at place.0 ∷ [])
 
 abbrev pub ok : List ℕ × Data
 ok = (codes "code", num 0)

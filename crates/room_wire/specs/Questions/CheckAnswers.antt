@@ -1,5 +1,6 @@
 -- The texts of the answers to questions.
-use Rattle.std.specs.Prelude.{ℕ, List, [], ◌∷◌, Option, None, Some, codes, bit_and}
+use Rattle.std.specs.Prelude.{ℕ, List, [], ◌∷◌, None, codes, bit_and}
+use Rattle.std.specs.Option.{option_map_or}
 use Rattle.serde_json.specs.Data.{Data, array}
 use Rattle.serde_json.specs.Written.{compact_text}
 use Rattle.room_acl.specs.declared.subject.Kind.{Kind}
@@ -7,21 +8,14 @@ use Rattle.room_acl.specs.declared.subject.Kind.TheVariants.{Folder}
 use Rattle.room_acl.specs.declared.subject.Standing.{Standing}
 use Rattle.room_acl.specs.declared.access.Decision.{Decision}
 use Rattle.room_acl.specs.declared.access.Decision.TheVariants.{Allowed, Denied}
-use Rattle.room_acl.specs.declared.inheritance.ListFault.{ListFault}
 use Rattle.room_acl.specs.SubjectModel.{SubjectModel}
 use Rattle.room_acl.specs.Entries.{EntryModel}
 use Rattle.room_acl.specs.Access.{decision, allowed_mask}
 use Rattle.room_acl.specs.Inheritance.{handed_down, own_entries_fault}
 use Rattle.room_commands.specs.Checks.{list_fault_code}
-use Rattle.room_wire.specs.Questions.QuestionModel.{QuestionModel, OfList, OfChild, ListQuestion}
+use Rattle.room_wire.specs.Questions.QuestionModel.{QuestionModel, OfList, OfChild}
 use Rattle.room_wire.specs.Forms.Texts.{num, obj, ok}
 use Rattle.room_wire.specs.Forms.Texts as T
-
-abbrev pub subject_of : ListQuestion → SubjectModel
-subject_of q = record { name = q.user; groups = q.groups }
-
-abbrev pub standing_in : ListQuestion → Standing
-standing_in q = record { owner = q.owner; group = q.group }
 
 -- the lowest wanted bit that is not allowed, or 0
 abbrev pub bit_of : Decision → ℕ
@@ -37,20 +31,15 @@ rights_text entries subject standing mask =
     compact_text (allowed_data (bit_and (allowed_mask entries subject standing) mask)
     (bit_of (decision entries subject standing mask)))
 
-abbrev pub fault_text : ListFault → List ℕ
-fault_text fault = compact_text (T.refusal_data (list_fault_code fault) None)
-
 abbrev pub entries_data : List EntryModel → Data
 entries_data entries = obj (ok ∷ (codes "entries", array (T.entries entries)) ∷ [])
 
-abbrev pub child_text_by : Option ListFault → List EntryModel → List ℕ
-child_text_by (Some fault) handed = fault_text fault
-child_text_by None handed = compact_text (entries_data handed)
-
 -- the fault of the entries as a folder's own, or what they hand down to a child of this kind
 abbrev pub child_text : List EntryModel → Kind → List ℕ
-child_text entries kind = child_text_by (own_entries_fault entries Folder) (handed_down entries kind)
+child_text entries kind =
+    compact_text (option_map_or (λ fault. T.refusal_data (list_fault_code fault) None)
+    (own_entries_fault entries Folder) (entries_data (handed_down entries kind)))
 
 abbrev pub answer_text : QuestionModel → List ℕ
-answer_text (OfList q) = rights_text q.entries (subject_of q) (standing_in q) q.mask
-answer_text (OfChild q) = child_text q.entries q.kind
+answer_text (OfList entries subject standing mask) = rights_text entries subject standing mask
+answer_text (OfChild kind entries) = child_text entries kind

@@ -1,6 +1,7 @@
 //! What a message is answered.
 ghost use Rattle.std.specs.Prelude.{◌≡◌, IfOk};
-ghost use Rattle.room_wire.specs.Answers.AnswerModel.{answer_model, answer_status, answer_body, refusal_status};
+ghost use Rattle.room_wire.specs.Answers.AnswerModel.{answer_model, answer_parts};
+ghost use Rattle.room_wire.specs.Answers.Codes.{refusal_parts};
 
 use crate::answers::code::{Code, refusal_text};
 use http::StatusCode;
@@ -16,7 +17,7 @@ pub enum Answer {
 
 /// The status of a refusal.
 pub fn refusal_status(code: Code) -> StatusCode
-    ensures { result ≡ refusal_status code }
+    ensures { result ≡ (refusal_parts code).0 }
 {
     match code {
         Code::BadSession
@@ -44,7 +45,7 @@ impl Answer {
     }
 
     pub fn status(&self) -> StatusCode
-        ensures { result ≡ answer_status (answer_model self.now) }
+        ensures { result ≡ (answer_parts (answer_model self.now)).0 }
     {
         match self {
             Answer::Reply(_) => StatusCode::OK,
@@ -53,7 +54,7 @@ impl Answer {
     }
 
     pub fn body(&self) -> &[u8]
-        ensures { result.now ≡ answer_body (answer_model self.now) }
+        ensures { result.now ≡ (answer_parts (answer_model self.now)).1 }
     {
         match self {
             Answer::Reply(text) => text.as_slice(),

@@ -1,6 +1,6 @@
 //! Refusals that are not a command's own.
 ghost use Rattle.std.specs.Prelude.{◌≡◌};
-ghost use Rattle.room_wire.specs.Answers.Codes.{code_text};
+ghost use Rattle.room_wire.specs.Answers.Codes.{refusal_parts};
 
 /// Why a request was refused before its command.
 #[derive(Clone, Copy, Debug, PartialEq, Eq)]
@@ -20,7 +20,7 @@ pub enum Code {
 
 /// The body of a refusal.
 pub fn refusal_text(code: Code) -> &'static str
-    ensures { result.now ≡ code_text code }
+    ensures { result.now ≡ (refusal_parts code).1 }
 {
     match code {
         Code::BadSession => "{\"code\":20,\"error\":\"BADSESSION\"}",

@@ -1,7 +1,8 @@
 //! Who sends a message.
 ghost use Rattle.std.specs.Prelude.{◌≡◌, IfOk, map, take, codes};
 ghost use Rattle.httparse.specs.Spans.{header_bytes};
-ghost use Rattle.room_wire.specs.Asks.AskOf.{user_called, caller_by, FindsCaller};
+ghost use Rattle.room_wire.specs.Asks.AskOf.{caller_by, FindsCaller};
+ghost use Rattle.room_records.specs.Roster.{user_named};
 ghost use Rattle.room_wire.specs.Messages.Fields.{values_named};
 ghost use Rattle.room_wire.specs.Forms.Reading.{principal_from};
 ghost use Rattle.std.specs.Prelude.{option_and_then};
@@ -29,7 +30,7 @@ fn user_called(
     roster: &Roster,
     name: Principal,
 ) -> Result<Option<Subject>, AllocError>
-    ensures { IfOk result (λ found. found ≡ user_called roster.now name) }
+    ensures { IfOk result (λ found. found ≡ user_named roster.now name) }
 {
     match roster.groups(&name) {
         Some(groups) => {
@@ -42,7 +43,7 @@ fn user_called(
 
 /// The user whom a field's value names.
 fn user_of(alloc: Global, roster: &Roster, value: &[u8]) -> Result<Option<Subject>, AllocError>
-    ensures { IfOk result (λ found. found ≡ option_and_then (user_called roster.now) (principal_from value.now)) }
+    ensures { IfOk result (λ found. found ≡ option_and_then (user_named roster.now) (principal_from value.now)) }
 {
     match principal_of(alloc, value)? {
         Some(name) => user_called(alloc, roster, name),

@@ -1,7 +1,7 @@
 //! From messages to questions.
-ghost use Rattle.std.specs.Prelude.{◌≡◌};
+ghost use Rattle.std.specs.Prelude.{◌≡◌, ok_or};
 ghost use Rattle.room_wire.specs.Asks.CheckAsk.{check_ask, check_for, Decodes};
-ghost use Rattle.room_wire.specs.Asks.AskOf.{asked};
+ghost use Rattle.room_wire.specs.declared.fault.WireFault.TheVariants.{BadRequest};
 ghost use Rattle.room_wire.specs.Asks.Routing.{target_at, check_rows};
 ghost use Rattle.room_wire.specs.Messages.MessageModel.{MessageModel};
 ghost use Rattle.room_wire.specs.Messages.Taken.{Shows};
@@ -16,7 +16,7 @@ use std::alloc::Global;
 
 /// The question of a body.
 pub(crate) fn read_question(alloc: Global, body: &[u8]) -> Result<Question, WireFault>
-    ensures { Decodes (asked (λ question. question) (question_of_body body.now)) result }
+    ensures { Decodes (ok_or (question_of_body body.now) BadRequest) result }
 {
     match question_of_body(alloc, body)? {
         Some(question) => Ok(question),

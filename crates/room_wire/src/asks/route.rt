@@ -1,13 +1,16 @@
 //! From messages to what they ask, but for the body of a request to a slot.
-ghost use Rattle.std.specs.Prelude.{◌≡◌, map, take};
+ghost use Rattle.std.specs.Prelude.{◌≡◌, map, take, codes, ok_or, option_map};
+ghost use Rattle.std.specs.Option.{option_zip};
 ghost use Rattle.httparse.specs.Spans.{header_bytes};
-ghost use Rattle.room_wire.specs.Asks.AskOf.{ask_of, ask_for, DecodesAsk, ReadsAs, open_by, close_by, request_by};
-ghost use Rattle.room_wire.specs.Asks.AskOf.{event_by, event_asked, sid_from, number_from, slots_of_body};
-ghost use Rattle.room_wire.specs.Asks.AskOf.{question_asked, RoutesAsk, ReadsSent};
+ghost use Rattle.room_wire.specs.Asks.AskOf.{ask_of, ask_for, caller_by, DecodesAsk, ReadsAs, RoutesAsk, ReadsSent};
+ghost use Rattle.room_wire.specs.Asks.AskOf.{Check, request_by, event_by, event_asked, sid_from, number_from};
+ghost use Rattle.room_wire.specs.Asks.AskOf.{slots_of_body};
 ghost use Rattle.room_wire.specs.Forms.Commands.{command_of_body};
-ghost use Rattle.room_wire.specs.Asks.EventModel.{event_model};
+ghost use Rattle.room_wire.specs.Asks.EventModel.{event_model, Open, Close};
+ghost use Rattle.room_wire.specs.declared.fault.WireFault.TheVariants.{BadRequest};
 ghost use Rattle.room_wire.specs.Questions.QuestionModel.{question_of_body};
 ghost use Rattle.room_wire.specs.Asks.Routing.{target_model, target_at, room_rows};
+ghost use Rattle.room_wire.specs.Messages.Fields.{values_named};
 ghost use Rattle.room_wire.specs.Messages.MessageModel.{MessageModel};
 ghost use Rattle.room_wire.specs.Messages.Taken.{Shows};
 
@@ -25,7 +28,8 @@ use room_records::Roster;
 use std::alloc::Global;
 
 fn open_event(alloc: Global, subject: Subject, sid: &str, body: &[u8]) -> Result<Event, WireFault>
-    ensures { ReadsAs event_model (open_by subject (sid_from sid.now) (slots_of_body body.now)) result }
+    ensures { ReadsAs event_model (option_map (λ (sid, slots). Open subject sid slots)
+        (option_zip (sid_from sid.now) (slots_of_body body.now))) result }
 {
     let sid = sid_in(alloc, sid)?;
     let slots = read_slots(alloc, body)?;
@@ -37,7 +41,7 @@ fn open_event(alloc: Global, subject: Subject, sid: &str, body: &[u8]) -> Result
 }
 
 fn close_event(alloc: Global, subject: Subject, sid: &str) -> Result<Event, WireFault>
-    ensures { ReadsAs event_model (close_by subject (sid_from sid.now)) result }
+    ensures { ReadsAs event_model (option_map (Close subject) (sid_from sid.now)) result }
 {
     let sid = sid_in(alloc, sid)?;
     Ok(Event::Close { subject, sid })
@@ -91,7 +95,7 @@ fn route_event<'b>(
 }
 
 fn check_ask(alloc: Global, body: &[u8]) -> Result<Ask, WireFault>
-    ensures { DecodesAsk (question_asked (question_of_body body.now)) result }
+    ensures { DecodesAsk (ok_or (option_map Check (question_of_body body.now)) BadRequest) result }
 {
     match question_of_body(alloc, body)? {
         Some(question) => Ok(Ask::Check(question)),
@@ -106,8 +110,9 @@ fn route_parts<'b>(
     routes: &Routes,
     roster: &Roster,
 ) -> Result<Routed<'b>, WireFault>
-    ensures { RoutesAsk (ask_for (target_at room_rows message.now.method.now message.now.target.now) roster.now
-        (map (header_bytes message.now.window.now) (take message.now.count message.now.spans)) message.now.body.now)
+    ensures { RoutesAsk (ask_for (target_at room_rows message.now.method.now message.now.target.now)
+        (caller_by roster.now (values_named (codes "room-user")
+        (map (header_bytes message.now.window.now) (take message.now.count message.now.spans)))) message.now.body.now)
         result }
 {
     let Some(target) = routes.target_at(message.method, message.target) else {

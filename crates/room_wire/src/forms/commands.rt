@@ -1,15 +1,16 @@
 //! Commands out of bodies.
-ghost use Rattle.std.specs.Prelude.{◌≡◌, ◌<◌, IfOk, option_map};
+ghost use Rattle.std.specs.Prelude.{◌≡◌, ◌<◌, IfOk, option_map, option_and_then, codes};
+ghost use Rattle.std.specs.Option.{option_zip};
 ghost use Rattle.serde_json.specs.View.{view};
 ghost use Rattle.base64.specs.Engines.{standard};
 ghost use Rattle.base64.specs.GeneralPurpose.{decoded_of};
 ghost use Rattle.room_commands.specs.CommandModel.{command_model};
 ghost use Rattle.room_commands.specs.Lawful.{AreBytes, IsLawful};
-ghost use Rattle.room_wire.specs.Forms.Commands.{path_from, path_at, decoded_at, list_flags_from, list_flags_at};
-ghost use Rattle.room_wire.specs.Forms.Commands.{verb_from, verb_at, of_path, of_bytes, bytes_by, rename_by};
-ghost use Rattle.room_wire.specs.Forms.Commands.{set_list_by, chown_by, access_by, verb_command, command_in};
-ghost use Rattle.room_wire.specs.Forms.Commands.{has_parts, keep_at, asked_in, asked_model, command_of_body};
-ghost use Rattle.room_wire.specs.Forms.Commands.{bytes_in, ReadsCommand};
+ghost use Rattle.room_commands.specs.CommandModel as C;
+ghost use Rattle.room_wire.specs.Forms.Reading.{text_at, number_at};
+ghost use Rattle.room_wire.specs.Forms.Commands.{path_from, path_at, list_flags_from, verb_from, of_path, of_bytes};
+ghost use Rattle.room_wire.specs.Forms.Commands.{verb_command, command_in, has_parts, keep_at, asked_in, asked_model};
+ghost use Rattle.room_wire.specs.Forms.Commands.{command_of_body, bytes_in, ReadsCommand};
 ghost use Rattle.room_wire.specs.declared.forms.commands.Verb.TheVariants as V;
 
 use crate::fault::WireFault;
@@ -84,7 +85,7 @@ fn bytes_from(alloc: Global, text: &str) -> Result<Option<Vec<u8>>, AllocError>
 /// Bytes among the members.
 fn bytes_at(alloc: Global, value: &Value, name: &str) -> Result<Option<Vec<u8>>, AllocError>
     ensures { IfOk result (λ found.
-        option_map (λ v. v.items) found ≡ decoded_at name.now (view value.now)) }
+        option_map (λ v. v.items) found ≡ option_and_then (decoded_of standard) (text_at name.now (view value.now))) }
 {
     match text_at(value, name) {
         Some(text) => bytes_from(alloc, text),
@@ -103,7 +104,7 @@ fn list_flags_from(number: u64) -> Option<ListFlags>
 
 /// The flags of a whole list among the members.
 fn list_flags_at(value: &Value, name: &str) -> Option<ListFlags>
-    ensures { result ≡ list_flags_at name.now (view value.now) }
+    ensures { result ≡ option_and_then list_flags_from (number_at name.now (view value.now)) }
 {
     list_flags_from(number_at(value, name)?)
 }
@@ -132,7 +133,7 @@ fn verb_from(text: &str) -> Option<Verb>
 
 /// Which command is named among the members.
 fn verb_at(value: &Value, name: &str) -> Option<Verb>
-    ensures { result ≡ verb_at name.now (view value.now) }
+    ensures { result ≡ option_and_then verb_from (text_at name.now (view value.now)) }
 {
     verb_from(text_at(value, name)?)
 }
@@ -187,7 +188,8 @@ fn of_bytes(verb: BytesVerb, bytes: Vec<u8>, path: Path) -> Command
 }
 
 fn bytes_by(verb: BytesVerb, bytes: Option<Vec<u8>>, path: Option<Path>) -> Option<Command>
-    ensures { option_map command_model result ≡ bytes_by verb (option_map (λ v. v.items) bytes) path }
+    ensures { option_map command_model result ≡ option_map (λ (content, path). of_bytes verb content path)
+        (option_zip (option_map (λ v. v.items) bytes) path) }
 {
     Some(of_bytes(verb, bytes?, path?))
 }
@@ -210,7 +212,7 @@ fn bytes_command(
 }
 
 fn rename_by(path: Option<Path>, to: Option<Path>) -> Option<Command>
-    ensures { option_map command_model result ≡ rename_by path to }
+    ensures { option_map command_model result ≡ option_map (λ (path, to). C.Rename path to) (option_zip path to) }
 {
     Some(Command::Rename {
         path: path?,
@@ -236,7 +238,8 @@ fn set_list_by(
     entries: Option<Vec<Entry>>,
     path: Option<Path>,
 ) -> Option<Command>
-    ensures { option_map command_model result ≡ set_list_by aclflag (option_map (λ v. v.items) entries) path }
+    ensures { option_map command_model result ≡ option_map (λ (flags, (entries, path)). C.SetList flags entries path)
+        (option_zip aclflag (option_zip (option_map (λ v. v.items) entries) path)) }
 {
     Some(Command::SetList {
         aclflag: aclflag?,
@@ -264,7 +267,8 @@ fn chown_by(
     owner: Option<Principal>,
     path: Option<Path>,
 ) -> Option<Command>
-    ensures { option_map command_model result ≡ chown_by group owner path }
+    ensures { option_map command_model result ≡ option_map (λ (group, (owner, path)). C.Chown group owner path)
+        (option_zip group (option_zip owner path)) }
 {
     Some(Command::Chown {
         group: group?,
@@ -288,7 +292,7 @@ fn chown_command(alloc: Global, value: &Value) -> Result<Option<Command>, AllocE
 }
 
 fn access_by(mask: Option<Mask>, path: Option<Path>) -> Option<Command>
-    ensures { option_map command_model result ≡ access_by mask path }
+    ensures { option_map command_model result ≡ option_map (λ (mask, path). C.Access mask path) (option_zip mask path) }
 {
     Some(Command::Access {
         mask: mask?,

@@ -2,10 +2,9 @@
 ghost use Rattle.std.specs.Prelude.{◌≡◌, IfOk, option_map, option_and_then, codes};
 ghost use Rattle.serde_json.specs.View.{view, items_view};
 ghost use Rattle.serde_json.specs.Find.{get, as_array, as_str};
-ghost use Rattle.room_wire.specs.Forms.Reading.{json_of, has_count, number_at, text_at, mask_at, flags_at, allow_at};
-ghost use Rattle.room_wire.specs.Forms.Reading.{kind_from, kind_at, mask_from, flags_from, allow_from, principal_from};
-ghost use Rattle.room_wire.specs.Forms.Reading.{principal_in, principal_at, entry_in, entries_among, principals_among};
-ghost use Rattle.room_wire.specs.Forms.Reading.{entries_at, principals_at};
+ghost use Rattle.room_wire.specs.Forms.Reading.{json_of, has_count, number_at, text_at, mask_at, kind_from, mask_from};
+ghost use Rattle.room_wire.specs.Forms.Reading.{flags_from, allow_from, principal_from, principal_in, principal_at};
+ghost use Rattle.room_wire.specs.Forms.Reading.{entry_in, all_among, all_at};
 
 use room_acl::{Entry, Flags, Kind, Mask, Principal, Who};
 use serde_json::Value;
@@ -81,7 +80,7 @@ fn kind_from(text: &str) -> Option<Kind>
 
 /// The kind of an object among the members.
 pub(crate) fn kind_at(value: &Value, name: &str) -> Option<Kind>
-    ensures { result ≡ kind_at name.now (view value.now) }
+    ensures { result ≡ option_and_then kind_from (text_at name.now (view value.now)) }
 {
     kind_from(text_at(value, name)?)
 }
@@ -106,13 +105,13 @@ pub(crate) fn mask_at(value: &Value, name: &str) -> Option<Mask>
 
 /// The flags of an entry among the members.
 pub(crate) fn flags_at(value: &Value, name: &str) -> Option<Flags>
-    ensures { result ≡ flags_at name.now (view value.now) }
+    ensures { result ≡ option_and_then flags_from (number_at name.now (view value.now)) }
 {
     flags_from(number_at(value, name)?)
 }
 
 fn allow_at(value: &Value, name: &str) -> Option<bool>
-    ensures { result ≡ allow_at name.now (view value.now) }
+    ensures { result ≡ option_and_then allow_from (number_at name.now (view value.now)) }
 {
     allow_from(number_at(value, name)?)
 }
@@ -168,7 +167,7 @@ fn entry_in(alloc: Global, value: &Value) -> Result<Option<Entry>, AllocError>
 }
 
 fn entries_in(alloc: Global, values: &[Value]) -> Result<Option<Vec<Entry>>, AllocError>
-    ensures { IfOk result (λ found. option_map (λ v. v.items) found ≡ entries_among (items_view values.now)) }
+    ensures { IfOk result (λ found. option_map (λ v. v.items) found ≡ all_among entry_in (items_view values.now)) }
 {
     let mut entries = Vec::new(alloc);
     for value in values {
@@ -181,7 +180,7 @@ fn entries_in(alloc: Global, values: &[Value]) -> Result<Option<Vec<Entry>>, All
 }
 
 fn principals_in(alloc: Global, values: &[Value]) -> Result<Option<Vec<Principal>>, AllocError>
-    ensures { IfOk result (λ found. option_map (λ v. v.items) found ≡ principals_among (items_view values.now)) }
+    ensures { IfOk result (λ found. option_map (λ v. v.items) found ≡ all_among principal_in (items_view values.now)) }
 {
     let mut names = Vec::new(alloc);
     for value in values {
@@ -214,7 +213,7 @@ pub(crate) fn entries_at(
     name: &str,
 ) -> Result<Option<Vec<Entry>>, AllocError>
     ensures { IfOk result (λ found.
-        option_map (λ v. v.items) found ≡ entries_at name.now (view value.now)) }
+        option_map (λ v. v.items) found ≡ all_at entry_in name.now (view value.now)) }
 {
     match items_at(value, name) {
         Some(items) => entries_in(alloc, items),
@@ -229,7 +228,7 @@ pub(crate) fn principals_at(
     name: &str,
 ) -> Result<Option<Vec<Principal>>, AllocError>
     ensures { IfOk result (λ found.
-        option_map (λ v. v.items) found ≡ principals_at name.now (view value.now)) }
+        option_map (λ v. v.items) found ≡ all_at principal_in name.now (view value.now)) }
 {
     match items_at(value, name) {
         Some(items) => principals_in(alloc, items),

@@ -5,8 +5,7 @@ ghost use Rattle.json.specs.Tree.{json_tokens, items_tokens};
 ghost use Rattle.serde_json.specs.Data.{array, string};
 ghost use Rattle.serde_json.specs.Written.{outline, items_outline, compact_text};
 ghost use Rattle.room_commands.specs.ReplyModel.{reply_model};
-ghost use Rattle.room_wire.specs.Forms.Texts.{num, obj, ok, at, refusal_number, refusal_name};
-ghost use Rattle.room_wire.specs.Forms.Texts.{refusal_data, reply_text};
+ghost use Rattle.room_wire.specs.Forms.Texts.{num, obj, ok, at, refusal_of, refusal_data, reply_text};
 ghost use Rattle.room_wire.specs.Forms.Texts as T;
 ghost use Rattle.room_wire.specs.Forms.Writing.{Adds};
 
@@ -32,7 +31,7 @@ fn kind_text(kind: Kind) -> &'static str
 
 /// The number of a refusal in a slot.
 fn refusal_number(code: RefusalCode) -> u64
-    ensures { result ≡ refusal_number code }
+    ensures { result ≡ (refusal_of code).0 }
 {
     match code {
         RefusalCode::NoEnt => 1,
@@ -52,7 +51,7 @@ fn refusal_number(code: RefusalCode) -> u64
 
 /// The name of a refusal in a slot.
 fn refusal_name(code: RefusalCode) -> &'static str
-    ensures { result.now ≡ refusal_name code }
+    ensures { result.now ≡ (refusal_of code).1 }
 {
     match code {
         RefusalCode::NoEnt => "NOENT",
@@ -171,8 +170,8 @@ fn refused_at_text(
     bit: u32,
 ) -> Result<Vec<u8>, AllocError>
     ensures { IfOk result (λ text. text.items
-        ≡ compact_text (obj ((codes "bit", num bit) ∷ (codes "code", num (refusal_number code))
-        ∷ (codes "error", string (refusal_name code)) ∷ at path.now ∷ []))) }
+        ≡ compact_text (obj ((codes "bit", num bit) ∷ (codes "code", num (refusal_of code).0)
+        ∷ (codes "error", string (refusal_of code).1) ∷ at path.now ∷ []))) }
 {
     let place = path.text(alloc)?;
     let mut out = begun(alloc, place.len().saturating_add(SHORT_MEMBERS))?;

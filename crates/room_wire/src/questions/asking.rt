@@ -1,9 +1,9 @@
 //! Questions out of bodies.
 ghost use Rattle.std.specs.Prelude.{◌≡◌, IfOk, option_map};
 ghost use Rattle.serde_json.specs.View.{view};
-ghost use Rattle.room_wire.specs.Questions.QuestionModel.{QuestionModel, question_model, OfList, OfChild, list_by};
-ghost use Rattle.room_wire.specs.Questions.QuestionModel.{list_question_in, child_by, child_question_in, question_in};
-ghost use Rattle.room_wire.specs.Questions.QuestionModel.{question_of_body};
+ghost use Rattle.std.specs.Option.{option_zip};
+ghost use Rattle.room_wire.specs.Questions.QuestionModel.{question_model, OfChild, of_list};
+ghost use Rattle.room_wire.specs.Questions.QuestionModel.{list_question_in, question_in, question_of_body};
 
 use crate::forms::reading::{
     entries_at, has_count, json_in, kind_at, mask_at, principal_at, principals_at,
@@ -22,8 +22,9 @@ fn list_by(
     owner: Option<Principal>,
     user: Option<Principal>,
 ) -> Option<Question>
-    ensures { option_map question_model result ≡ option_map OfList (list_by (option_map (λ v. v.items) entries) group
-        (option_map (λ v. v.items) groups) mask owner user) }
+    ensures { option_map question_model result ≡ option_map of_list
+        (option_zip (option_map (λ v. v.items) entries) (option_zip group
+        (option_zip (option_map (λ v. v.items) groups) (option_zip mask (option_zip owner user))))) }
 {
     Some(Question::List {
         entries: entries?,
@@ -38,7 +39,7 @@ fn list_by(
 /// What a list allows: six members, exactly.
 fn list_question_in(alloc: Global, value: &Value) -> Result<Option<Question>, AllocError>
     ensures { IfOk result (λ found.
-        option_map question_model found ≡ option_map OfList (list_question_in (view value.now))) }
+        option_map question_model found ≡ list_question_in (view value.now)) }
 {
     if !has_count(value, 6) {
         return Ok(None);
@@ -55,7 +56,7 @@ fn list_question_in(alloc: Global, value: &Value) -> Result<Option<Question>, Al
 /// The second question, where both its parts are there.
 fn child_by(kind: Option<Kind>, entries: Option<Vec<Entry>>) -> Option<Question>
     ensures { option_map question_model result
-        ≡ option_map OfChild (child_by kind (option_map (λ v. v.items) entries)) }
+        ≡ option_map (λ (kind, entries). OfChild kind entries) (option_zip kind (option_map (λ v. v.items) entries)) }
 {
     Some(Question::Child {
         kind: kind?,
@@ -63,27 +64,16 @@ fn child_by(kind: Option<Kind>, entries: Option<Vec<Entry>>) -> Option<Question>
     })
 }
 
-/// What a list hands down: two members, exactly.
-fn child_question_in(alloc: Global, value: &Value) -> Result<Option<Question>, AllocError>
-    ensures { IfOk result (λ found.
-        option_map question_model found ≡ option_map OfChild (child_question_in (view value.now))) }
+/// What is asked: what a list hands down has two members, exactly.
+fn question_in(alloc: Global, value: &Value) -> Result<Option<Question>, AllocError>
+    ensures { IfOk result (λ found. option_map question_model found ≡ question_in (view value.now)) }
 {
     if !has_count(value, 2) {
-        return Ok(None);
+        return list_question_in(alloc, value);
     }
     let kind = kind_at(value, "child");
     let entries = entries_at(alloc, value, "entries")?;
     Ok(child_by(kind, entries))
-}
-
-fn question_in(alloc: Global, value: &Value) -> Result<Option<Question>, AllocError>
-    ensures { IfOk result (λ found. option_map question_model found ≡ question_in (view value.now)) }
-{
-    if has_count(value, 2) {
-        child_question_in(alloc, value)
-    } else {
-        list_question_in(alloc, value)
-    }
 }
 
 /// The question of a body, if it asks one.

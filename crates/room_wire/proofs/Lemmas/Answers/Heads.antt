@@ -1,6 +1,7 @@
 -- The head of an answer, part by part.
 use Rattle.std.proofs.Common.{◌≡◌, ◌≤◌, ℕ, List, [], ◌++◌, length, ap, ◌∙◌, append_assoc, arith}
-use Rattle.room_wire.specs.Answers.AnswerModel.{AnswerModel, Reply, Refused, phrase, refusal_status, answer_status}
+use Rattle.room_wire.specs.Answers.AnswerModel.{AnswerModel, Reply, Refused, phrase, answer_parts}
+use Rattle.room_wire.specs.Answers.Codes.{refusal_parts}
 use Rattle.room_wire.specs.declared.answers.code.Code.{Code}
 use Rattle.room_wire.specs.declared.answers.code.Code.TheVariants.{BadSession}
 
@@ -19,10 +20,10 @@ seven_parts a b c d e f g {h0 = h0} {h1 = h1} {h2 = h2} {h3 = h3} {h4 = h4} {h5 
     ∙ append_assoc h1 _ (c ++ (d ++ (e ++ (f ++ g))))
     ∙ (λ i. (p1 ∙ ap (λ t. t ++ a) p0) i ++ (b_is i ++ (c ++ (d ++ (e ++ (f ++ g))))))
 
-code_phrase_fits : (code : Code) → length (phrase (refusal_status code)) ≤ 32
+code_phrase_fits : (code : Code) → length (phrase (refusal_parts code).0) ≤ 32
 code_phrase_fits BadSession = omega arith
 code_phrase_fits code = omega arith
 
-pub phrase_fits : (answer : AnswerModel) → length (phrase (answer_status answer)) ≤ 32
+pub phrase_fits : (answer : AnswerModel) → length (phrase (answer_parts answer).0) ≤ 32
 phrase_fits (Reply text) = omega arith
 phrase_fits (Refused code) = code_phrase_fits code

@@ -8,8 +8,8 @@ use Rattle.std.specs.Cmp.Lexicographic.{pointwise, bytes_decides}
 use Rattle.std.proofs.lemmas.Bool.{and_from, and_parts, ltb-true}
 use Rattle.std.proofs.lemmas.Bool.Decides.{nat_tests}
 use Rattle.std.proofs.lemmas.List.{take-append-drop}
-use Rattle.matchit.specs.Level.{AreSuffixes, IsSuffix, IsText}
-use Rattle.matchit.specs.Rows.{Rows, Seen, rows, rows_of, ends, prepend, empty_node, param_token, catch_all_token}
+use Rattle.matchit.specs.Level.{AreSuffixes, IsText}
+use Rattle.matchit.specs.Rows.{Rows, Seen, rows_of, ends, prepend, empty_node, param_token, catch_all_token}
 use Rattle.matchit.specs.Seek.{first, has_slash, segment, longest_suffix, after_param, cuts, seek, step, param_step}
 use Rattle.matchit.proofs.ParamLemmas.{after_param-end, after_param-stop, after_param-kid}
 use Rattle.matchit.proofs.SeekLemmas.{seek-empty, param_step-empty, or_else-none, first-prefix, step-hit, step-miss}

@@ -6,7 +6,7 @@ use Rattle.std.specs.List.{AllByRecursion, list_all, list_any}
 use Rattle.std.proofs.lemmas.Bool.{and_parts, ltb-true}
 use Rattle.matchit.specs.Level.{IsText}
 use Rattle.matchit.specs.Params.{walk}
-use Rattle.matchit.specs.Router.{RouteOf, rename, map_key}
+use Rattle.matchit.specs.Router.{RouteOf, map_key}
 use Rattle.matchit.specs.Seek.{first, has_slash}
 use Rattle.matchit.proofs.RenameLemmas.{first-rename}
 use Rattle.room_wire.specs.declared.asks.routing.Route.{Route}

@@ -1,6 +1,6 @@
 -- What the parameters of a route take of a target.
-use Rattle.std.proofs.Common.{◌≡◌, ◌<◌, ◌≤◌, ℕ, zero, suc, ◌+◌, ◌-◌, ◌==◌, ◌&&◌, Bool, true, false}
-use Rattle.std.proofs.Common.{List, [], ◌∷◌, ◌++◌, cond, length, drop, take, ltb, leb, refl, sym, ap, ap₂, ◌∙◌, arith}
+use Rattle.std.proofs.Common.{◌≡◌, ◌<◌, ◌≤◌, ℕ, suc, ◌+◌, ◌-◌, true, false}
+use Rattle.std.proofs.Common.{List, [], ◌∷◌, ◌++◌, length, drop, ltb, leb, refl, sym, ap, ap₂, ◌∙◌, arith}
 use Rattle.std.proofs.Common.{codes, append-nil, append_assoc, subst}
 use Rattle.std.proofs.lemmas.Bool.Decides.{nat_tests}
 use Rattle.std.proofs.lemmas.List.{length-append}
@@ -10,7 +10,7 @@ use Rattle.matchit.specs.Rows.{param_token}
 use Rattle.matchit.specs.Seek.{has_slash, segment}
 use Rattle.matchit.specs.Level.{IsText}
 use Rattle.room_wire.specs.Asks.Routing.{first_part, later_parts, session_tokens, slot_tokens}
-use Rattle.room_wire.proofs.Lemmas.Asks.Finds.{slashed, joined, one_more, longer, IsSome, literal_text}
+use Rattle.room_wire.proofs.Lemmas.Asks.Finds.{slashed, joined, one_more, longer, literal_text}
 
 next_in : (len at : ℕ) → at < len → next_at len at ≡ at + 1
 next_in len at h =

@@ -1,8 +1,9 @@
 -- The text of a lawful command is that of a body that asks it.
 use Rattle.std.proofs.Common.{◌≡◌, ◌≤◌, ◌<◌, ◌^◌, ℕ, Bool, true, false, List, [], ◌∷◌, refl, sym, ap}
-use Rattle.std.proofs.Common.{◌∙◌, arith, Some, codes}
+use Rattle.std.proofs.Common.{◌∙◌, arith, Option, Some, codes}
 use Rattle.std.specs.Prelude.{IsUtf8, nat_lt, option_map, option_and_then}
 use Rattle.std.specs.List.{list_all, flat_map, AllByRecursion}
+use Rattle.std.specs.Option.{option_zip}
 use Rattle.std.proofs.lemmas.Bool.{and_parts, and_from}
 use Rattle.std.proofs.lemmas.Bool.Decides.{nat_tests}
 use Rattle.std.proofs.lemmas.Option.{same_Some}
@@ -26,10 +27,8 @@ use Rattle.room_commands.specs.CommandModel as C
 use Rattle.room_commands.specs.Lawful.{IsWho, IsEntry, IsLawful}
 use Rattle.room_wire.specs.Forms.Texts.{who_text, entry_type, entry, entries, at, cmd, num, obj, path, bytes}
 use Rattle.room_wire.specs.Forms.Texts.{members, command_data, command_text}
-use Rattle.room_wire.specs.Forms.Commands.{of_path, bytes_by, rename_by, set_list_by, chown_by, access_by}
-use Rattle.room_wire.specs.Forms.Commands.{command_in, keep_at, asked_by, asked_in, command_of_body}
+use Rattle.room_wire.specs.Forms.Commands.{of_path, command_in, keep_at, asked_in, command_of_body}
 use Rattle.room_wire.specs.declared.forms.commands.PathVerb.TheVariants as P
-use Rattle.room_wire.specs.declared.forms.commands.BytesVerb.TheVariants as B
 use Rattle.room_wire.proofs.Lemmas.Forms.Bodies.{json_some}
 use Rattle.room_wire.proofs.Lemmas.Forms.CommandBytes.{bytes_back}
 use Rattle.room_wire.proofs.Lemmas.Forms.CommandParts.{path_back, list_flags_back, flags_small, mask_small, mask_back}
@@ -41,22 +40,30 @@ use Rattle.room_wire.proofs.Lemmas.Forms.CommandUtf8.{digits_are_utf8}
 
 -- ---- the value is read as the command
 
+-- a command of two parts, and one of three
+abbrev of_two : {A B : Type 0} → (A → B → CommandModel) → Option A → Option B → Option CommandModel
+of_two {A} {B} make a b = option_map (λ (it : A × B). make it.0 it.1) (option_zip a b)
+
+abbrev of_three : {A B C : Type 0} → (A → B → C → CommandModel) → Option A → Option B → Option C → Option CommandModel
+of_three {A} {B} {C} make a b c =
+    option_map (λ (it : A × (B × C)). make it.0 it.1.0 it.1.1) (option_zip a (option_zip b c))
+
 command_back : (c : CommandModel) → IsLawful c → command_in (command_data c) ≡ Some c
 command_back (C.Stat p) h = ap (option_map (of_path P.Stat)) (path_back p h)
 command_back (C.ListNames p) h = ap (option_map (of_path P.List)) (path_back p h)
 command_back (C.Mkdir p) h = ap (option_map (of_path P.Mkdir)) (path_back p h)
-command_back (C.Create b p) h = (λ i. bytes_by B.Create (bytes_back b h.0 i) (path_back p h.1 i))
+command_back (C.Create b p) h = (λ i. of_two C.Create (bytes_back b h.0 i) (path_back p h.1 i))
 command_back (C.Read p) h = ap (option_map (of_path P.Read)) (path_back p h)
-command_back (C.Write b p) h = (λ i. bytes_by B.Write (bytes_back b h.0 i) (path_back p h.1 i))
-command_back (C.Append b p) h = (λ i. bytes_by B.Append (bytes_back b h.0 i) (path_back p h.1 i))
+command_back (C.Write b p) h = (λ i. of_two C.Write (bytes_back b h.0 i) (path_back p h.1 i))
+command_back (C.Append b p) h = (λ i. of_two C.Append (bytes_back b h.0 i) (path_back p h.1 i))
 command_back (C.Remove p) h = ap (option_map (of_path P.Remove)) (path_back p h)
-command_back (C.Rename p to) h = (λ i. rename_by (path_back p h.0 i) (path_back to h.1 i))
+command_back (C.Rename p to) h = (λ i. of_two C.Rename (path_back p h.0 i) (path_back to h.1 i))
 command_back (C.GetList p) h = ap (option_map (of_path P.GetList)) (path_back p h)
 command_back (C.SetList flags es p) h =
-    (λ i. set_list_by (list_flags_back flags h.0 i) (entries_back es h.1 i) (path_back p h.2 i))
+    (λ i. of_three C.SetList (list_flags_back flags h.0 i) (entries_back es h.1 i) (path_back p h.2 i))
 command_back (C.Chown group owner p) h =
-    (λ i. chown_by (principal_back group h.0 i) (principal_back owner h.1 i) (path_back p h.2 i))
-command_back (C.Access mask p) h = (λ i. access_by (mask_back mask h.0 i) (path_back p h.1 i))
+    (λ i. of_three C.Chown (principal_back group h.0 i) (principal_back owner h.1 i) (path_back p h.2 i))
+command_back (C.Access mask p) h = (λ i. of_two C.Access (mask_back mask h.0 i) (path_back p h.1 i))
 
 -- the text of a command says nothing of its reply, so it is kept
 keep_back : (c : CommandModel) → keep_at (command_data c) ≡ Some true
@@ -64,7 +71,7 @@ keep_back (C.Stat p) = refl
 keep_back c = refl
 
 asked_back : (c : CommandModel) → IsLawful c → asked_in (command_data c) ≡ Some (c, true)
-asked_back c h = (λ i. asked_by (keep_back c i) (command_back c h i))
+asked_back c h = (λ i. option_zip (command_back c h i) (keep_back c i))
 
 -- ---- the text is read as the value
 

@@ -3,10 +3,13 @@ use Rattle.std.proofs.Common.{◌≡◌, ◌^◌, ℕ, suc, Bool, true, false, �
 use Rattle.std.proofs.Common.{sym, ap, subst, arith, Option, None, Some, codes, Fits, w8}
 use Rattle.std.specs.Prelude.{IsTrue, not, nat_le, nat_lt, ◌==◌, bytes_eq, bit_and, option_map, option_and_then}
 use Rattle.std.specs.List.{list_all, AllByRecursion}
+use Rattle.std.specs.Option.{option_zip}
 use Rattle.std.proofs.lemmas.Bool.{and_parts, leb-true, eqb-true}
 use Rattle.std.proofs.lemmas.Option.{cond_some, same_Some, option_and_then_some}
 use Rattle.serde_json.specs.Data.{Data, Items, no_items, item}
 use Rattle.serde_json.specs.Find.{as_array, get}
+use Rattle.base64.specs.Engines.{standard}
+use Rattle.base64.specs.GeneralPurpose.{decoded_of}
 use Rattle.room_acl.specs.declared.who.Who.{Who}
 use Rattle.room_acl.specs.declared.who.Who.TheVariants.{Owner, Group, Everyone, User, Members}
 use Rattle.room_acl.specs.Bits.{IsFlags, IsListFlags, IsMask, all_list_flags, identifier_group}
@@ -14,14 +17,13 @@ use Rattle.room_acl.specs.Entries.{EntryModel, names_its_kind}
 use Rattle.room_acl.specs.Principals.{IsPrincipal, is_principal_byte}
 use Rattle.room_records.specs.Names.{Path, IsPath}
 use Rattle.room_commands.specs.CommandModel.{CommandModel}
+use Rattle.room_commands.specs.CommandModel as C
 use Rattle.room_commands.specs.Lawful.{AreBytes, IsWho, IsEntry, IsLawful}
 use Rattle.room_wire.specs.Forms.Reading.{has_count, json_of, number_at, text_at, mask_from, mask_at, flags_from}
-use Rattle.room_wire.specs.Forms.Reading.{flags_at, is_principal, principal_from, principal_at, allow_at, named_who}
-use Rattle.room_wire.specs.Forms.Reading.{who_from, entry_by, entry_in, cons, entries_among, entries_at}
-use Rattle.room_wire.specs.Forms.Commands.{path_from, path_at, list_flags_from, list_flags_at, verb_at, of_path}
-use Rattle.room_wire.specs.Forms.Commands.{of_bytes, bytes_by, rename_by, set_list_by, chown_by, access_by}
-use Rattle.room_wire.specs.Forms.Commands.{has_parts, verb_command, command_by, command_in, keep_at, asked_by, asked_in}
-use Rattle.room_wire.specs.Forms.Commands.{command_of_body, bytes_in}
+use Rattle.room_wire.specs.Forms.Reading.{allow_from, is_principal, principal_from, principal_at, named_who, who_from}
+use Rattle.room_wire.specs.Forms.Reading.{entry_of, entry_in, all_among, all_at}
+use Rattle.room_wire.specs.Forms.Commands.{path_from, path_at, list_flags_from, verb_from, of_path, of_bytes, has_parts}
+use Rattle.room_wire.specs.Forms.Commands.{verb_command, command_in, keep_at, asked_in, command_of_body, bytes_in}
 use Rattle.room_wire.specs.declared.forms.commands.PathVerb.{PathVerb}
 use Rattle.room_wire.specs.declared.forms.commands.PathVerb.TheVariants as P
 use Rattle.room_wire.specs.declared.forms.commands.BytesVerb.{BytesVerb}
@@ -42,6 +44,13 @@ map_some : {A B Q : Type 0} (f : A → B) (o : Option A) (y : B)
     → option_map f o ≡ Some y → ((x : A) → o ≡ Some x → f x ≡ y → Q) → Q
 map_some f None y e found = absurd cc
 map_some f (Some x) y e found = found x refl (same_Some (f x) y e)
+
+zip_parts : {A B : Type 0} (a : Option A) (b : Option B) (both : A × B)
+    → option_zip a b ≡ Some both → (a ≡ Some both.0) × (b ≡ Some both.1)
+zip_parts None b both e = absurd cc
+zip_parts (Some x) None both e = absurd cc
+zip_parts {A} {B} (Some x) (Some y) both e =
+    (ap (option_map (λ (it : A × B). it.0)) e, ap (option_map (λ (it : A × B). it.1)) e)
 
 -- ---- parts
 
@@ -75,13 +84,15 @@ principal_at_fact : (name : List ℕ) (d : Data) (text : List ℕ) → principal
 principal_at_fact name d text e =
     option_and_then_some principal_from (text_at name d) text e (λ t is made. principal_fact t text made)
 
-flags_at_fact : (name : List ℕ) (d : Data) (n : ℕ) → flags_at name d ≡ Some n → IsFlags n
+flags_at_fact : (name : List ℕ) (d : Data) (n : ℕ)
+    → option_and_then flags_from (number_at name d) ≡ Some n → IsFlags n
 flags_at_fact name d n e = option_and_then_some flags_from (number_at name d) n e (λ k is made. flags_fact k n made)
 
 mask_at_fact : (name : List ℕ) (d : Data) (n : ℕ) → mask_at name d ≡ Some n → IsMask n
 mask_at_fact name d n e = option_and_then_some mask_from (number_at name d) n e (λ k is made. mask_fact k n made)
 
-list_flags_at_fact : (name : List ℕ) (d : Data) (n : ℕ) → list_flags_at name d ≡ Some n → IsListFlags n
+list_flags_at_fact : (name : List ℕ) (d : Data) (n : ℕ)
+    → option_and_then list_flags_from (number_at name d) ≡ Some n → IsListFlags n
 list_flags_at_fact name d n e =
     option_and_then_some list_flags_from (number_at name d) n e (λ k is made. list_flags_fact k n made)
 
@@ -109,40 +120,37 @@ who_fact flags text who e =
     (bytes_eq text (codes "EVERYONE@")) (identifier_group flags) (principal_from text) refl
     (λ name made. principal_fact text name made) e
 
-entry_by_fact : (e : EntryModel) (flags mask : Option ℕ) (allow : Option Bool) (text : Option (List ℕ))
-    → ((n : ℕ) → flags ≡ Some n → IsFlags n) → ((n : ℕ) → mask ≡ Some n → IsMask n)
-    → entry_by flags mask allow text ≡ Some e → IsEntry e
-entry_by_fact e (Some flags) (Some mask) (Some allow) (Some text) f m made =
-    map_some (λ who. record { allow = allow; flags = flags; mask = mask; who = who })
-    (who_from flags text) e made (λ who is same.
-    let named = who_fact flags text who is in
-    let lawful : IsEntry (record { allow = allow; flags = flags; mask = mask; who = who }) =
-    record { flags = f flags refl; mask = m mask refl; who = named.0; kind = named.1 } in
-    subst IsEntry same lawful)
-entry_by_fact e flags mask allow text f m made = absurd cc
-
 entry_fact : (d : Data) (e : EntryModel) → entry_in d ≡ Some e → IsEntry e
 entry_fact d e made =
-    entry_by_fact e (flags_at (codes "flag") d) (mask_at (codes "mask") d) (allow_at (codes "type") d)
-    (text_at (codes "who") d) (flags_at_fact (codes "flag") d) (mask_at_fact (codes "mask") d)
-    (then_some (has_count 4 d) _ e made)
+    let flags = option_and_then flags_from (number_at (codes "flag") d) in
+    let rest = option_zip (option_and_then allow_from (number_at (codes "type") d)) (text_at (codes "who") d) in
+    let later = option_zip (mask_at (codes "mask") d) rest in
+    option_and_then_some entry_of (option_zip flags later) e (then_some (has_count 4 d) _ e made) (λ it is of.
+    let parts = zip_parts flags later it is in
+    let more = zip_parts (mask_at (codes "mask") d) rest it.1 parts.1 in
+    map_some (λ who. record { flags = it.0; mask = it.1.0; allow = it.1.1.0; who = who })
+    (who_from it.0 it.1.1.1) e of (λ who named same.
+    let fact = who_fact it.0 it.1.1.1 who named in
+    let lawful : IsEntry (record { flags = it.0; mask = it.1.0; allow = it.1.1.0; who = who }) = record {
+      flags = flags_at_fact (codes "flag") d it.0 parts.0;
+      mask = mask_at_fact (codes "mask") d it.1.0 more.0;
+      who = fact.0;
+      kind = fact.1;
+    } in
+    subst IsEntry same lawful))
 
-entries_by : (first : Option EntryModel) (rest : Option (List EntryModel)) (es : List EntryModel)
-    → ((e : EntryModel) → first ≡ Some e → IsEntry e)
-    → ((more : List EntryModel) → rest ≡ Some more → AllByRecursion IsEntry more)
-    → cons first rest ≡ Some es → AllByRecursion IsEntry es
-entries_by (Some e) (Some more) es one all made =
-    subst (AllByRecursion IsEntry) (same_Some (e ∷ more) es made) (one e refl, all more refl)
-entries_by first rest es one all made = absurd cc
-
-entries_fact : (ds : Items) (es : List EntryModel) → entries_among ds ≡ Some es → AllByRecursion IsEntry es
+entries_fact : (ds : Items) (es : List EntryModel) → all_among entry_in ds ≡ Some es → AllByRecursion IsEntry es
 entries_fact no_items es made = subst (AllByRecursion IsEntry) (same_Some [] es made) tt
-entries_fact (item d ds) es made = entries_by (entry_in d) (entries_among ds) es (entry_fact d) (entries_fact ds) made
+entries_fact (item d ds) es made =
+    map_some (λ (it : EntryModel × List EntryModel). it.0 ∷ it.1) (option_zip (entry_in d) (all_among entry_in ds))
+    es made (λ it is same.
+    let parts = zip_parts (entry_in d) (all_among entry_in ds) it is in
+    subst (AllByRecursion IsEntry) same (entry_fact d it.0 parts.0, entries_fact ds it.1 parts.1))
 
 entries_at_fact : (name : List ℕ) (d : Data) (es : List EntryModel)
-    → entries_at name d ≡ Some es → AllByRecursion IsEntry es
+    → all_at entry_in name d ≡ Some es → AllByRecursion IsEntry es
 entries_at_fact name d es e =
-    option_and_then_some entries_among (option_and_then as_array (get name d)) es e
+    option_and_then_some (all_among entry_in) (option_and_then as_array (get name d)) es e
     (λ ds is made. entries_fact ds es made)
 
 -- ---- commands
@@ -156,79 +164,68 @@ of_bytes_lawful : (verb : BytesVerb) (bytes : List ℕ) (path : Path)
 of_bytes_lawful B.Create bytes path fit h = (fit, h)
 of_bytes_lawful verb bytes path fit h = (fit, h)
 
-abbrev PathsAt : Option Path → Type 0
-PathsAt found = (path : Path) → found ≡ Some path → IsPath path
-
-bytes_by_fact : (verb : BytesVerb) (bytes : Option (List ℕ)) (path : Option Path) (c : CommandModel)
-    → PathsAt path → AreBytes (bytes_in c) → bytes_by verb bytes path ≡ Some c → IsLawful c
-bytes_by_fact verb (Some bytes) (Some path) c paths fit made =
-    let same = same_Some (of_bytes verb bytes path) c made in
-    subst IsLawful same
-    (of_bytes_lawful verb bytes path (subst (λ k. AreBytes (bytes_in k)) (sym same) fit) (paths path refl))
-bytes_by_fact verb bytes path c paths fit made = absurd cc
-
-rename_by_fact : (path to : Option Path) (c : CommandModel)
-    → PathsAt path → PathsAt to → rename_by path to ≡ Some c → IsLawful c
-rename_by_fact (Some path) (Some to) c paths tos made =
-    subst IsLawful (same_Some _ c made) (paths path refl, tos to refl)
-rename_by_fact path to c paths tos made = absurd cc
-
-set_list_by_fact : (flags : Option ℕ) (entries : Option (List EntryModel)) (path : Option Path) (c : CommandModel)
-    → ((n : ℕ) → flags ≡ Some n → IsListFlags n)
-    → ((es : List EntryModel) → entries ≡ Some es → AllByRecursion IsEntry es)
-    → PathsAt path → set_list_by flags entries path ≡ Some c → IsLawful c
-set_list_by_fact (Some flags) (Some entries) (Some path) c low all paths made =
-    subst IsLawful (same_Some _ c made) (low flags refl, all entries refl, paths path refl)
-set_list_by_fact flags entries path c low all paths made = absurd cc
-
-abbrev NamesAt : Option (List ℕ) → Type 0
-NamesAt found = (name : List ℕ) → found ≡ Some name → IsPrincipal name
-
-chown_by_fact : (group owner : Option (List ℕ)) (path : Option Path) (c : CommandModel)
-    → NamesAt group → NamesAt owner → PathsAt path → chown_by group owner path ≡ Some c → IsLawful c
-chown_by_fact (Some group) (Some owner) (Some path) c groups owners paths made =
-    subst IsLawful (same_Some _ c made) (groups group refl, owners owner refl, paths path refl)
-chown_by_fact group owner path c groups owners paths made = absurd cc
-
-access_by_fact : (mask : Option ℕ) (path : Option Path) (c : CommandModel)
-    → ((n : ℕ) → mask ≡ Some n → IsMask n) → PathsAt path → access_by mask path ≡ Some c → IsLawful c
-access_by_fact (Some mask) (Some path) c masks paths made =
-    subst IsLawful (same_Some _ c made) (masks mask refl, paths path refl)
-access_by_fact mask path c masks paths made = absurd cc
-
 verb_fact : (verb : Verb) (d : Data) (c : CommandModel)
     → AreBytes (bytes_in c) → verb_command verb d ≡ Some c → IsLawful c
 verb_fact (V.OfPath verb) d c fit made =
     map_some (of_path verb) (path_at (codes "path") d) c (then_some (has_parts 2 d) _ c made)
     (λ path is same. subst IsLawful same (of_path_lawful verb path (path_at_fact (codes "path") d path is)))
 verb_fact (V.OfBytes verb) d c fit made =
-    bytes_by_fact verb _ _ c (path_at_fact (codes "path") d) fit (then_some (has_parts 3 d) _ c made)
-verb_fact V.Rename d c fit made = rename_by_fact _ _ c (path_at_fact (codes "path") d)
-    (path_at_fact (codes "to") d) (then_some (has_parts 3 d) _ c made)
+    let bytes = option_and_then (decoded_of standard) (text_at (codes "data") d) in
+    let path = path_at (codes "path") d in
+    map_some (λ (it : List ℕ × Path). of_bytes verb it.0 it.1) (option_zip bytes path) c
+    (then_some (has_parts 3 d) _ c made) (λ it is same.
+    let parts = zip_parts bytes path it is in
+    subst IsLawful same
+    (of_bytes_lawful verb it.0 it.1 (subst (λ k. AreBytes (bytes_in k)) (sym same) fit)
+    (path_at_fact (codes "path") d it.1 parts.1)))
+verb_fact V.Rename d c fit made =
+    let path = path_at (codes "path") d in
+    let to = path_at (codes "to") d in
+    map_some (λ (it : Path × Path). C.Rename it.0 it.1) (option_zip path to) c
+    (then_some (has_parts 3 d) _ c made) (λ it is same.
+    let parts = zip_parts path to it is in
+    subst IsLawful same
+    (path_at_fact (codes "path") d it.0 parts.0, path_at_fact (codes "to") d it.1 parts.1))
 verb_fact V.SetList d c fit made =
-    set_list_by_fact _ _ _ c (list_flags_at_fact (codes "aclflag") d) (entries_at_fact (codes "entries") d)
-    (path_at_fact (codes "path") d) (then_some (has_parts 4 d) _ c made)
+    let flags = option_and_then list_flags_from (number_at (codes "aclflag") d) in
+    let entries = all_at entry_in (codes "entries") d in
+    let path = path_at (codes "path") d in
+    map_some (λ (it : ℕ × (List EntryModel × Path)). C.SetList it.0 it.1.0 it.1.1)
+    (option_zip flags (option_zip entries path)) c (then_some (has_parts 4 d) _ c made) (λ it is same.
+    let parts = zip_parts flags (option_zip entries path) it is in
+    let more = zip_parts entries path it.1 parts.1 in
+    subst IsLawful same (
+      list_flags_at_fact (codes "aclflag") d it.0 parts.0,
+      entries_at_fact (codes "entries") d it.1.0 more.0,
+      path_at_fact (codes "path") d it.1.1 more.1,
+    ))
 verb_fact V.Chown d c fit made =
-    chown_by_fact _ _ _ c (principal_at_fact (codes "group") d) (principal_at_fact (codes "owner") d)
-    (path_at_fact (codes "path") d) (then_some (has_parts 4 d) _ c made)
-verb_fact V.Access d c fit made = access_by_fact _ _ c (mask_at_fact (codes "mask") d)
-    (path_at_fact (codes "path") d) (then_some (has_parts 3 d) _ c made)
+    let group = principal_at (codes "group") d in
+    let owner = principal_at (codes "owner") d in
+    let path = path_at (codes "path") d in
+    map_some (λ (it : List ℕ × (List ℕ × Path)). C.Chown it.0 it.1.0 it.1.1)
+    (option_zip group (option_zip owner path)) c (then_some (has_parts 4 d) _ c made) (λ it is same.
+    let parts = zip_parts group (option_zip owner path) it is in
+    let more = zip_parts owner path it.1 parts.1 in
+    subst IsLawful same (
+      principal_at_fact (codes "group") d it.0 parts.0,
+      principal_at_fact (codes "owner") d it.1.0 more.0,
+      path_at_fact (codes "path") d it.1.1 more.1,
+    ))
+verb_fact V.Access d c fit made =
+    let mask = mask_at (codes "mask") d in
+    let path = path_at (codes "path") d in
+    map_some (λ (it : ℕ × Path). C.Access it.0 it.1) (option_zip mask path) c
+    (then_some (has_parts 3 d) _ c made) (λ it is same.
+    let parts = zip_parts mask path it is in
+    subst IsLawful same
+    (mask_at_fact (codes "mask") d it.0 parts.0, path_at_fact (codes "path") d it.1 parts.1))
 
-command_by_fact : (verb : Option Verb) (d : Data) (c : CommandModel)
-    → AreBytes (bytes_in c) → command_by verb d ≡ Some c → IsLawful c
-command_by_fact None d c fit made = absurd cc
-command_by_fact (Some verb) d c fit made = verb_fact verb d c fit made
-
-asked_by_fact : (keep : Option Bool) (command : Option CommandModel) (asked : CommandModel × Bool)
-    → ((c : CommandModel) → AreBytes (bytes_in c) → command ≡ Some c → IsLawful c)
-    → AreBytes (bytes_in asked.0) → asked_by keep command ≡ Some asked → IsLawful asked.0
-asked_by_fact (Some keep) (Some c) asked lawful fit made =
-    let same = ap (λ (a : CommandModel × Bool). a.0) (same_Some (c, keep) asked made) in
-    subst IsLawful same (lawful c (subst (λ k. AreBytes (bytes_in k)) (sym same) fit) refl)
-asked_by_fact keep command asked lawful fit made = absurd cc
+command_fact : (d : Data) (c : CommandModel) → AreBytes (bytes_in c) → command_in d ≡ Some c → IsLawful c
+command_fact d c fit made = option_and_then_some (λ verb. verb_command verb d)
+    (option_and_then verb_from (text_at (codes "cmd") d)) c made (λ verb is said. verb_fact verb d c fit said)
 
 pub asked_is_lawful : (body : List ℕ) (asked : CommandModel × Bool)
     → AreBytes (bytes_in asked.0) → command_of_body body ≡ Some asked → IsLawful asked.0
-asked_is_lawful body asked fit made = option_and_then_some asked_in (json_of body)
-    asked made (λ d is said. asked_by_fact (keep_at d) (command_in d) asked
-    (λ c. command_by_fact (verb_at (codes "cmd") d) d c) fit said)
+asked_is_lawful body asked fit made = option_and_then_some asked_in (json_of body) asked made
+    (λ d is said. command_fact d asked.0 fit (zip_parts (command_in d) (keep_at d) asked said).0)

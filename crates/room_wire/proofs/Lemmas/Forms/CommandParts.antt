@@ -3,6 +3,7 @@ use Rattle.std.proofs.Common.{◌≡◌, ◌<◌, ◌^◌, ℕ, Bool, true, fals
 use Rattle.std.proofs.Common.{◌∙◌, arith, None, Some, codes}
 use Rattle.std.specs.Prelude.{IsTrue, not, bytes_eq, bit_and, option_map, option_and_then}
 use Rattle.std.specs.List.{list_all, AllByRecursion}
+use Rattle.std.specs.Option.{option_zip}
 use Rattle.std.proofs.lemmas.Bool.{and_from, le-leb, lt-ltb, eq-eqb, false_from_ne_true, true≢false}
 use Rattle.std.proofs.lemmas.Nat.{and_le_r}
 use Rattle.std.proofs.lemmas.Slice.Eq.{bytes_eq-Decides}
@@ -16,7 +17,7 @@ use Rattle.room_records.specs.Names.{Path, IsPath, path_text}
 use Rattle.room_commands.specs.Lawful.{IsWho, IsEntry}
 use Rattle.room_wire.specs.Forms.Texts.{who_text, entry_type, entry, entries}
 use Rattle.room_wire.specs.Forms.Reading.{flags_from, mask_from, allow_from, principal_from, named_who, who_from}
-use Rattle.room_wire.specs.Forms.Reading.{entry_by, entry_in, cons, entries_among}
+use Rattle.room_wire.specs.Forms.Reading.{entry_of, entry_in, all_among}
 use Rattle.room_wire.specs.Forms.Commands.{path_from, list_flags_from}
 use Rattle.room_wire.proofs.Lemmas.Forms.CommandPaths.{path_of_text}
 
@@ -78,11 +79,13 @@ allow_back false = refl
 
 entry_back : (e : EntryModel) → IsEntry e → entry_in (entry e) ≡ Some e
 entry_back e h =
-    (λ i. entry_by (flags_back e.flags h.flags i) (mask_back e.mask h.mask i)
-    (allow_back e.allow i) (Some (who_text e.who)))
+    (λ i. option_and_then entry_of (option_zip (flags_back e.flags h.flags i)
+    (option_zip (mask_back e.mask h.mask i) (option_zip (allow_back e.allow i) (Some (who_text e.who))))))
     ∙ ap (option_map (λ who. record { allow = e.allow; flags = e.flags; mask = e.mask; who = who }))
     (who_back e.flags e.who h.who h.kind)
 
-pub entries_back : (es : List EntryModel) → AllByRecursion IsEntry es → entries_among (entries es) ≡ Some es
+pub entries_back : (es : List EntryModel) → AllByRecursion IsEntry es → all_among entry_in (entries es) ≡ Some es
 entries_back [] h = refl
-entries_back (e ∷ es) h = (λ i. cons (entry_back e h.0 i) (entries_back es h.1 i))
+entries_back (e ∷ es) h =
+    (λ i. option_map (λ (it : EntryModel × List EntryModel). it.0 ∷ it.1)
+    (option_zip (entry_back e h.0 i) (entries_back es h.1 i)))
