@@ -15,7 +15,7 @@ use Rattle.room_records.specs.declared.change.Change.TheVariants.{PutNode, PutEn
 use Rattle.room_records.specs.declared.change.Change.TheVariants.{DropSlots}
 use Rattle.room_tables.proofs.Texts.{change_node_text, add_node_text, change_doc_text, add_doc_text, put_session_text}
 use Rattle.room_tables.proofs.Texts.{change_slot_text, add_slot_text, drop_slots_text, change_next_text, add_next_text}
-use Rattle.room_tables.specs.Rows.{has, name_of_text, in_order}
+use Rattle.room_tables.specs.Rows.{has, name_of_text, entries_shown}
 use Rattle.room_tables.specs.Layout.{IsRoomDatabase}
 use Rattle.room_tables.specs.Steps.{Lists, flag_of}
 use Rattle.room_tables.proofs.Each.{above}
@@ -36,7 +36,7 @@ use Rattle.room_sql.proofs.NodeRows.{one_more}
 
 -- the rows of an object's entries, in order, of those of the table
 abbrev listed : ℕ → List Row → List Row
-listed q rows = in_order (filter (has 1 q) rows)
+listed q rows = entries_shown (filter (has 1 q) rows)
 
 pub new_node_made : (node : Node) (name : List ℕ) (a b : State) (count : ℕ) → name_of_text name ≡ node.name
     → IsRoomDatabase a.now → ExecutesInside 0 add_node_text (params_of_node node name) a b (Ok count)

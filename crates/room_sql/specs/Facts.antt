@@ -1,11 +1,11 @@
 -- What a shelf remembers is true of its rows.
 use Rattle.sqlite_trees.specs.Tree.{Trees}
 use Rattle.room_sql.specs.declared.facts.Facts.{Facts}
-use Rattle.room_sql.specs.NodeFacts.{IsTrueOf}
+use Rattle.room_sql.specs.NodeFacts.{KnowsRows}
 use Rattle.room_sql.specs.ReadLists.{AreStored}
 
 pub record AreTrueOf (facts : Facts) (trees : Trees) : Type 0 where
-  pub nodes : IsTrueOf facts.nodes (trees 1)
+  pub nodes : KnowsRows facts.nodes (trees 1)
   pub lists : AreStored facts.lists trees
 
 -- they are true of any rows

@@ -17,11 +17,11 @@ AreListed folder rows names =
     (shown : List Row) × AreNameRows (λ tree. rows) folder shown × (names ≡ filter_map listed_of shown)
 
 -- counts and names are those of the rows in their folder, exactly
-pub record IsTrueOf (known : NodeFacts) (rows : List Row) : Type 0 where
+pub record KnowsRows (known : NodeFacts) (rows : List Row) : Type 0 where
   pub counts : (folder count : ℕ) → row_at nat_cmp known.counts folder ≡ Some count → count ≡ in_folder folder rows
   pub names : (folder : ℕ) (names : List (Name × Kind)) → row_at nat_cmp known.names folder ≡ Some names
       → AreListed folder rows names
 
 -- it is true of any rows
-abbrev pub KnowsNothing : NodeFacts → Type 0
-KnowsNothing known = (rows : List Row) → IsTrueOf known rows
+abbrev pub KnowsNoRows : NodeFacts → Type 0
+KnowsNoRows known = (rows : List Row) → KnowsRows known rows

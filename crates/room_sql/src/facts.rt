@@ -2,7 +2,7 @@
 
 ghost use Rattle.std.specs.Prelude.{◌≡◌, false};
 ghost use Rattle.sqlite_trees.specs.Tree.{Trees};
-ghost use Rattle.room_sql.specs.NodeFacts.{IsTrueOf};
+ghost use Rattle.room_sql.specs.NodeFacts.{KnowsRows};
 ghost use Rattle.room_sql.specs.NodeRows.{AfterAll};
 ghost use Rattle.room_sql.specs.Facts.{AreTrueOf, KnowsNothing};
 ghost use Rattle.room_sql.specs.declared.new_object.NewObject.TheVariants.{Unknown};
@@ -42,7 +42,7 @@ impl Facts {
 
     /// What is still true after a commit of these changes. No list is kept.
     pub(crate) fn follow(&mut self, changes: &[Change])
-        ensures { (old new : Trees) → IsTrueOf self.old.nodes (old 1) → AfterAll Unknown changes.now (old 1) (new 1)
+        ensures { (old new : Trees) → KnowsRows self.old.nodes (old 1) → AfterAll Unknown changes.now (old 1) (new 1)
             → AreTrueOf self.new new }
     {
         self.nodes.follow(changes);

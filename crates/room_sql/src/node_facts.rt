@@ -9,7 +9,7 @@ ghost use Rattle.room_records.specs.Names.{Name};
 ghost use Rattle.room_cache.specs.Rows.{row_at};
 ghost use Rattle.room_sql.specs.NodeRows.{in_folder, HasNone, is_parent, IsNewIfKnown, After, AfterAll};
 ghost use Rattle.room_sql.specs.declared.new_object.NewObject.TheVariants.{Unknown};
-ghost use Rattle.room_sql.specs.NodeFacts.{AreListed, IsTrueOf, KnowsNothing};
+ghost use Rattle.room_sql.specs.NodeFacts.{AreListed, KnowsRows, KnowsNoRows};
 
 use crate::names::NameList;
 use crate::new_object::NewObject;
@@ -33,7 +33,7 @@ pub(crate) struct NodeFacts {
 impl NodeFacts {
     /// True of any rows.
     pub(crate) fn nothing(alloc: Global) -> NodeFacts
-        ensures true_of { KnowsNothing result }
+        ensures true_of { KnowsNoRows result }
         ensures unanswered { result.has_answered ≡ false }
     {
         NodeFacts {
@@ -45,7 +45,7 @@ impl NodeFacts {
 
     /// What is left is true of any rows.
     pub(crate) fn forget(&mut self)
-        ensures true_of { KnowsNothing self.new }
+        ensures true_of { KnowsNoRows self.new }
         ensures unanswered { self.new.has_answered ≡ false }
     {
         self.has_answered = false;
@@ -55,7 +55,7 @@ impl NodeFacts {
 
     /// The count of this folder, if it is remembered.
     pub(crate) fn count_in(&self, folder: u32) -> Option<u64>
-        ensures true_of { (rows : List Row) → IsTrueOf self.now rows → IfSome result (λ n. n ≡ in_folder folder rows) }
+        ensures true_of { (rows : List Row) → KnowsRows self.now rows → IfSome result (λ n. n ≡ in_folder folder rows) }
         ensures answered { IsSome result → self.now.has_answered ≡ true }
     {
         if !self.has_answered {
@@ -69,7 +69,8 @@ impl NodeFacts {
 
     /// Remembers the count of this folder.
     pub(crate) fn keep_count(&mut self, folder: u32, count: u64)
-        ensures { (rows : List Row) → IsTrueOf self.old rows → count ≡ in_folder folder rows → IsTrueOf self.new rows }
+        ensures { (rows : List Row) → KnowsRows self.old rows → count ≡ in_folder folder rows
+            → KnowsRows self.new rows }
     {
         self.counts.keep(folder, count);
         self.has_answered = true;
@@ -77,7 +78,7 @@ impl NodeFacts {
 
     /// The names and kinds of what is in this folder, by name, if they are remembered.
     pub(crate) fn names_in(&self, folder: u32) -> Option<&NameList>
-        ensures true_of { (rows : List Row) → IsTrueOf self.now rows
+        ensures true_of { (rows : List Row) → KnowsRows self.now rows
             → IfSome result (λ names. AreListed folder rows names.now) }
         ensures answered { IsSome result → self.now.has_answered ≡ true }
     {
@@ -90,8 +91,8 @@ impl NodeFacts {
     /// Remembers the names and kinds of what is in this folder. More than 256 are not remembered: no folder of a room
     /// has them.
     pub(crate) fn keep_names(&mut self, folder: u32, names: &Vec<(FileName, Kind)>)
-        ensures { (rows : List Row) → IsTrueOf self.old rows → AreListed folder rows names.now.items
-            → IsTrueOf self.new rows }
+        ensures { (rows : List Row) → KnowsRows self.old rows → AreListed folder rows names.now.items
+            → KnowsRows self.new rows }
     {
         let Ok(copy) = copy_names(*names.allocator(), names.as_slice()) else {
             return;
@@ -133,8 +134,8 @@ impl NodeFacts {
 
     /// After a node is put: where it is new it is one row more in its folder.
     fn follow_put(&mut self, is_new: bool, node: &Node)
-        ensures { (old new : List Row) → IsTrueOf self.old old → (is_new ≡ true → HasNone node.now.id old)
-            → After (PutNode node.now) old new → IsTrueOf self.new new }
+        ensures { (old new : List Row) → KnowsRows self.old old → (is_new ≡ true → HasNone node.now.id old)
+            → After (PutNode node.now) old new → KnowsRows self.new new }
     {
         if !is_new {
             self.forget();
@@ -145,8 +146,8 @@ impl NodeFacts {
     }
 
     fn follow_one(&mut self, object: NewObject, change: &Change)
-        ensures { (old new : List Row) → IsTrueOf self.old old → IsNewIfKnown object change.now old
-            → After change.now old new → IsTrueOf self.new new }
+        ensures { (old new : List Row) → KnowsRows self.old old → IsNewIfKnown object change.now old
+            → After change.now old new → KnowsRows self.new new }
     {
         match change {
             Change::PutNode(node) => self.follow_put(object.is_new(node.id), node),
@@ -157,8 +158,8 @@ impl NodeFacts {
 
     /// What is still true after a commit of these changes.
     pub(crate) fn follow(&mut self, changes: &[Change])
-        ensures { (old new : List Row) → IsTrueOf self.old old → AfterAll Unknown changes.now old new
-            → IsTrueOf self.new new }
+        ensures { (old new : List Row) → KnowsRows self.old old → AfterAll Unknown changes.now old new
+            → KnowsRows self.new new }
     {
         let mut object = NewObject::Unknown;
         for change in changes {

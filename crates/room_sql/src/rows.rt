@@ -6,9 +6,9 @@ ghost use Rattle.std.specs.List.{AllByRecursion, filter_map};
 ghost use Rattle.sqlite_value.specs.Order.{column};
 ghost use Rattle.sqlite_value.specs.declared.value.Value.TheVariants.{Int, Text};
 ghost use Rattle.room_acl.specs.Entries.{who_from, who_text};
-ghost use Rattle.room_tables.specs.Rows.{number_in, text_in, name_of_text, name_in, parent_in, bytes_in, reply_in};
-ghost use Rattle.room_tables.specs.Rows.{kind_of, who_of, only, node_of, entry_of, doc_of, session_of, kept_of};
-ghost use Rattle.room_tables.specs.Rows.{listed_of, seq_of, size_in, five_columns, HasEntryColumns};
+ghost use Rattle.room_tables.specs.Rows.{number_in, text_in, name_of_text, name_stored, parent_in, blob_in, reply_in};
+ghost use Rattle.room_tables.specs.Rows.{kind_stored, who_of, only, node_of, entry_of, doc_of, session_stored, kept_of};
+ghost use Rattle.room_tables.specs.Rows.{listed_of, seq_stored, size_in, five_columns, HasEntryColumns};
 ghost use Rattle.room_tables.specs.Names.{counted_row};
 ghost use Rattle.room_tables.specs.Steps.{flag_of, type_of, shown_as, placed, IsReadBack};
 
@@ -62,7 +62,7 @@ fn name_from(alloc: Global, text: &str) -> Result<Option<FileName>, Error>
 }
 
 fn name_at(alloc: Global, row: &Row, at: usize) -> Result<Option<FileName>, Error>
-    ensures value { IfOk result (λ name. name ≡ name_in (column row.now at)) }
+    ensures value { IfOk result (λ name. name ≡ name_stored (column row.now at)) }
 {
     let text = text_at(row, at)?;
     name_from(alloc, text.as_str())
@@ -81,7 +81,7 @@ fn flag_at(row: &Row, at: usize) -> Result<bool, Error>
 }
 
 fn kind_at(row: &Row, at: usize) -> Result<Kind, Error>
-    ensures value { IfOk result (λ kind. kind ≡ kind_of (number_in (column row.now at))) }
+    ensures value { IfOk result (λ kind. kind ≡ kind_stored (number_in (column row.now at))) }
 {
     Ok(if flag_at(row, at)? {
         Kind::Folder
@@ -313,7 +313,7 @@ fn sid_copy(alloc: Global, sid: &Sid) -> Result<Sid, Error>
 
 /// The session of a row that shows owner, slots and whether it is open.
 fn session_of(alloc: Global, sid: &Sid, row: &Row) -> Result<SessionRow, Error>
-    ensures value { IfOk result (λ session. session ≡ session_of sid.now row.now) }
+    ensures value { IfOk result (λ session. session ≡ session_stored sid.now row.now) }
 {
     let owner = principal_at(alloc, row, 0)?;
     let slots = slot_count_at(row, 1)?;
@@ -343,7 +343,7 @@ pub(crate) fn one_session(
     sid: &Sid,
     rows: &[Row],
 ) -> Result<Option<SessionRow>, Error>
-    ensures value { IfOk result (λ session. session ≡ option_map (session_of sid.now) (only rows.now)) }
+    ensures value { IfOk result (λ session. session ≡ option_map (session_stored sid.now) (only rows.now)) }
 {
     match rows {
         [row] => Ok(Some(session_of(alloc, sid, row)?)),
@@ -352,7 +352,7 @@ pub(crate) fn one_session(
 }
 
 fn bytes_at(row: &Row, at: usize) -> Result<Vec<u8>, Error>
-    ensures value { IfOk result (λ bytes. bytes.items ≡ bytes_in (column row.now at)) }
+    ensures value { IfOk result (λ bytes. bytes.items ≡ blob_in (column row.now at)) }
 {
     row.get(at)
 }
@@ -390,7 +390,7 @@ pub(crate) fn one_kept(rows: &[Row]) -> Result<Option<Kept>, Error>
 
 /// The number of the one row, none where there is no row.
 pub(crate) fn one_seq(rows: &[Row]) -> Result<Option<u32>, Error>
-    ensures value { IfOk result (λ seq. seq ≡ option_map seq_of (only rows.now)) }
+    ensures value { IfOk result (λ seq. seq ≡ option_map seq_stored (only rows.now)) }
 {
     match rows {
         [row] => Ok(Some(number_at(row, 0)?)),

@@ -32,8 +32,8 @@ use Rattle.room_records.specs.Records.{ObjectRecords, IsChild}
 use Rattle.room_records.specs.Rules.{NodeRules}
 use Rattle.room_records.specs.Shelf.{AreChildren, IsChildCount, IsChildNamed, InNameOrder, name_of}
 use Rattle.room_records.proofs.Children.{named_by_rules}
-use Rattle.room_tables.specs.Rows.{has, is_child_named, only, number_in, parent_in, name_of_text, name_in, shown_node}
-use Rattle.room_tables.specs.Rows.{node_of, nodes_in, named_rows, child_rows, records_of}
+use Rattle.room_tables.specs.Rows.{has, is_child_named, only, number_in, parent_in, name_of_text, name_stored}
+use Rattle.room_tables.specs.Rows.{shown_node, node_of, nodes_in, named_rows, child_rows, records_of}
 use Rattle.room_tables.specs.Layout.{HasNumbers, IsRoomDatabase, parent_value}
 use Rattle.room_tables.specs.Names.{ByName, name_key, name_keys}
 use Rattle.room_tables.proofs.Values.{has_one, has_text_value, has_not_null, has_tied, int_has, text_has}
@@ -60,7 +60,7 @@ parent_is : (v : Value) (p : ℕ) → parent_in v ≡ Some p → v ≡ Int (pos 
 parent_is (Int (pos n)) p h = ap (λ m. Int (pos m)) (same_Some _ _ h)
 parent_is v p h = absurd (let bad = h in cc)
 
-name_is : (v : Value) (name : List ℕ) → name_in v ≡ Some name → v ≡ Text name
+name_is : (v : Value) (name : List ℕ) → name_stored v ≡ Some name → v ≡ Text name
 name_is (Text []) name h = absurd (let bad = h in cc)
 name_is (Text (b ∷ bytes)) name h = ap Text (same_Some _ _ h)
 name_is v name h = absurd (let bad = h in cc)
@@ -114,7 +114,7 @@ one_child db p name row rest room some same =
     let text = has_text_value 3 name r (second_of_both (has 2 p r) _ shown.2) in
     let child = row_is_child db p r room shown.1 (first_of_both (has 2 p r) _ shown.2) in (
       subst (λ x. IsChild (records_of db.trees).objects p (node_of x)) (sym shown.3) child,
-      ap (λ x. (node_of x).name) shown.3 ∙ ap name_in text ∙ named_back name some,
+      ap (λ x. (node_of x).name) shown.3 ∙ ap name_stored text ∙ named_back name some,
     )
 
 -- ---- all the children of a folder
@@ -196,7 +196,7 @@ text_back [] = refl
 text_back (b ∷ bytes) = refl
 
 shown_name : (s : Row) (t : List ℕ) → column s 2 ≡ Text t → name_of (node_of s) ≡ t
-shown_name s t e = ap (λ v. unwrap_or (name_in v) []) e ∙ text_back t
+shown_name s t e = ap (λ v. unwrap_or (name_stored v) []) e ∙ text_back t
 
 not_greater : (o : Ordering) → is_gt (ordering_then o Equal) ≡ false → o ≢ Equal → o ≡ Less
 not_greater o h apart = grind (arith, common_steps)
@@ -227,7 +227,7 @@ in_order t p (a ∷ b ∷ rows) rules all up once =
     twice x y same =
         let m = all.0.child in
         let n = all.1.0.child in
-        let name : (node_of a).name ≡ (node_of b).name = ap name_in (x.1 ∙ ap Text same ∙ sym y.1) in
+        let name : (node_of a).name ≡ (node_of b).name = ap name_stored (x.1 ∙ ap Text same ∙ sym y.1) in
         eqb-false (node_of a).id (node_of b).id once.0.0
         (rules.once (node_of a) (node_of b) m.stands n.stands (m.inside ∙ sym n.inside) name)
 

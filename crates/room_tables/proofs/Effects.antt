@@ -23,10 +23,10 @@ use Rattle.sqlite.specs.Effect.{Database, IsDatabase}
 use Rattle.sqlite.specs.Table.{Table}
 use Rattle.room_tables.specs.Tables.{Layout, Upgraded, room_schema, node_table, doc_table}
 use Rattle.room_tables.proofs.Texts as T
-use Rattle.room_tables.specs.Rows.{only, parent_in, name_of_text, kind_of, shown_node, node_of, nodes_in}
+use Rattle.room_tables.specs.Rows.{only, parent_in, name_of_text, kind_stored, shown_node, node_of, nodes_in}
 use Rattle.room_tables.specs.Rows.{entries_in, shown_doc, doc_of, documents_in, number_in, shown_next, next_in}
 use Rattle.room_tables.specs.Rows.{shown_version, version_rows, versions_in, IsVersion, sessions_in, slots_in}
-use Rattle.room_tables.specs.Rows.{slots_of, records_of}
+use Rattle.room_tables.specs.Rows.{kept_rows, records_of}
 use Rattle.room_tables.specs.Layout.{IsKeyed, HasNumbers, IsRoomDatabase, OfEachTable, parent_value, reply_value}
 use Rattle.room_tables.specs.Steps.{Steps, kind_number}
 use Rattle.room_tables.proofs.Each.{from_both}
@@ -66,7 +66,7 @@ read db slots = record {
 
 -- it is the same where the tables are
 pub read_same : {l : Layout} (db next : Trees) (slots : List Row)
-    → OfEachTable l (λ (t : Table). next t.tree ≡ db t.tree) → slots_of next ≡ slots → records_of next ≡ read db slots
+    → OfEachTable l (λ (t : Table). next t.tree ≡ db t.tree) → kept_rows next ≡ slots → records_of next ≡ read db slots
 read_same db next slots same is = λ i. record {
   objects = record {
     node = nodes_in (same.node i);
@@ -112,7 +112,7 @@ pub steps_at : (tree : ℕ) (old new : State) (room : IsRoomDatabase old.now) (c
     → Others room.layout tree old.now.trees new.now.trees → IsKeyed (new.now.trees tree)
     → AllByRecursion HasNumbers (after tree old.now new.now 1)
     → (IsVersion 2 (version_rows old.now.trees) → IsVersion 2 (versions_in (after tree old.now new.now 0)))
-    → read (after tree old.now new.now) (slots_of old.now.trees) ≡ change (records_of old.now.trees)
+    → read (after tree old.now new.now) (kept_rows old.now.trees) ≡ change (records_of old.now.trees)
     → Steps old new change
 steps_at tree old new room change low schema sound others keyed numbered version is =
     let each = each_after tree old.now new.now others in
@@ -159,7 +159,7 @@ parent_back : (p : Option ℕ) → parent_in (parent_value p) ≡ p
 parent_back None = refl
 parent_back (Some n) = refl
 
-kind_back : (k : Kind) → kind_of (kind_number k) ≡ k
+kind_back : (k : Kind) → kind_stored (kind_number k) ≡ k
 kind_back File = refl
 kind_back Folder = refl
 

@@ -22,7 +22,7 @@ use Rattle.sqlite.proofs.Callers.{one_permutation}
 use Rattle.sqlite.specs.Table.{Table}
 use Rattle.sqlite.specs.Effect.{Database, IsDatabase}
 use Rattle.room_tables.specs.Tables.{Layout, room_schema}
-use Rattle.room_tables.specs.Rows.{has, versions_in, slots_of, IsVersion}
+use Rattle.room_tables.specs.Rows.{has, versions_in, kept_rows, IsVersion}
 use Rattle.room_tables.specs.Layout.{IsKeyed, HasNumbers, IsRoomDatabase}
 use Rattle.room_tables.proofs.Each.{from_both, above}
 use Rattle.room_tables.proofs.TreeNames.{slots_listed}
@@ -201,6 +201,7 @@ still_numbered tree old new room apart others =
 
 -- and so are the rows of what slots keep
 pub still_slots : (tree : ℕ) (old new : Database) (room : IsRoomDatabase old) → new.schema ≡ room_schema room.layout
-    → IsDatabase new → tree ≤ 7 → Others room.layout tree old.trees new.trees → slots_of new.trees ≡ slots_of old.trees
+    → IsDatabase new → tree ≤ 7 → Others room.layout tree old.trees new.trees
+    → kept_rows new.trees ≡ kept_rows old.trees
 still_slots tree old new room schema sound low others = let high = above room.layout in
     slots_listed new room.layout sound schema ∙ others.slots (omega (arith, low, high)) ∙ sym room.listed

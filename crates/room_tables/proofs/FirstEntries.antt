@@ -14,7 +14,7 @@ use Rattle.room_records.specs.declared.node.Node.{Node}
 use Rattle.room_records.specs.declared.change.Change.TheVariants.{PutEntries}
 use Rattle.room_records.specs.Changes.{apply_change}
 use Rattle.room_tables.proofs.Texts.{add_node_text}
-use Rattle.room_tables.specs.Rows.{has, entry_of, in_order, entries_in, records_of, IsVersion}
+use Rattle.room_tables.specs.Rows.{has, entry_of, entries_shown, entries_in, records_of, IsVersion}
 use Rattle.room_tables.specs.Layout.{IsRoomDatabase}
 use Rattle.room_tables.specs.Steps.{Steps, SeesSound, Lists}
 use Rattle.room_tables.proofs.Filters.{same_test}
@@ -44,7 +44,7 @@ added_bare old new node name params count room params_are ran sound =
     let h = subst (λ p. ExecutesInside 0 add_node_text p old new (Ok count)) params_are ran in
     let it = (node_added old new node name count (λ _. ⊥) room h).put in
     ap (λ rows. entries_in rows node.id) (it.others.entry (omega arith))
-    ∙ ap (λ rows. map entry_of (in_order rows)) (no_entries room.layout old.now node.id room.schema
+    ∙ ap (λ rows. map entry_of (entries_shown rows)) (no_entries room.layout old.now node.id room.schema
     (sound h.1.was_open) (none_before old new node name params count room params_are ran))
 
 none_mapped : {X Y : Type 0} (f : X → Y) (xs : List X) → map f xs ≡ [] → xs ≡ []
@@ -55,7 +55,7 @@ none_mapped f (x ∷ xs) none = absurd (let e = none in cc)
 pub lists_bare : (db : Database) (id : ℕ) → IsRoomDatabase db → (records_of db.trees).objects.entries id ≡ []
     → Lists db id [] db
 lists_bare db id room none =
-    lists_stored db id [] room (none_mapped entry_of (in_order (filter (has 1 id) (db.trees 3))) none) tt
+    lists_stored db id [] room (none_mapped entry_of (entries_shown (filter (has 1 id) (db.trees 3))) none) tt
 
 -- after the last the records are changed so
 pub lists_steps : (old new : State) (id : ℕ) (entries : Vec EntryModel Global) (es : List EntryModel)

@@ -41,7 +41,7 @@ use Rattle.room_acl.specs.Entries.{EntryModel, who_text}
 use Rattle.room_tables.specs.Tables.{Layout, entry_table}
 use Rattle.room_tables.proofs.Texts.{change_entry_text, change_entry_query, drop_behind_text, drop_behind_query}
 use Rattle.room_tables.proofs.Texts.{list_entries_text}
-use Rattle.room_tables.specs.Rows.{has, shown_entry, entry_keys, in_order, entry_rows, five_columns, IsEntryRow}
+use Rattle.room_tables.specs.Rows.{has, shown_entry, entry_keys, entries_shown, entry_rows, five_columns, IsEntryRow}
 use Rattle.room_tables.specs.Rows.{HasEntryColumns}
 use Rattle.room_tables.specs.Layout.{IsKeyed, IsRoomDatabase}
 use Rattle.room_tables.specs.Steps.{type_of, IsReadBack, shown_as, placed, Lists}
@@ -80,7 +80,7 @@ all_placed P at end (e ∷ es) low each = (
 
 -- rows that are shown as these entries, in whichever order they stand
 pub arranged : (rows : List Row) (es : List EntryModel) → IsPermutation (map shown_entry rows) (placed 0 es)
-    → in_order rows ≡ placed 0 es
+    → entries_shown rows ≡ placed 0 es
 arranged rows es same =
     let cmp = key_cmp 0 entry_keys in
     let total = key_cmp_total entry_keys 0 in
@@ -89,7 +89,7 @@ arranged rows es same =
     (placed_up 0 es) (ascending-sort_by cmp total shown)
     (IsPermutation-sym _ _ (IsPermutation-trans _ _ _ (IsPermutation-sort_by cmp total shown) same))
 
-pub scattered : (rows : List Row) (es : List EntryModel) → in_order rows ≡ placed 0 es
+pub scattered : (rows : List Row) (es : List EntryModel) → entries_shown rows ≡ placed 0 es
     → IsPermutation (map shown_entry rows) (placed 0 es)
 scattered rows es is = let cmp = key_cmp 0 entry_keys in subst (IsPermutation (map shown_entry rows)) is
     (IsPermutation-sym _ _ (IsPermutation-sort_by cmp (key_cmp_total entry_keys 0) (map shown_entry rows)))
@@ -191,7 +191,7 @@ lists_front old new id n count front back before place was h =
     relisted before old.now new.now id (front ++ back) front was it.schema it.sound it.others
     (parted IsReadBack front back was.back).0 (record {
       keyed = subst IsKeyed (sym it.rows_are) (keyed_filter (λ r. not (p r)) rows was.room.keyed.entry);
-      mine = ap (λ l. in_order (filter (has 1 id) l)) it.rows_are ∙ arranged _ front left;
+      mine = ap (λ l. entries_shown (filter (has 1 id) l)) it.rows_are ∙ arranged _ front left;
       others = λ q apart. ap (filter (has 1 q)) it.rows_are ∙ others_stay id (reaches n) rows q apart;
     })
 
@@ -352,7 +352,7 @@ lists_changed old new id at count front back stored e before place reads was h =
     (all-append IsReadBack front (e ∷ back) parts.0 (reads, parts.1.1)) (record {
       keyed = subst IsKeyed (sym it.are)
           (keyed_put it.row gone it.int (keyed_filter (λ r. not (passes id (stands at) r)) rows keyed));
-      mine = ap (λ l. in_order (filter (has 1 id) l)) it.are
+      mine = ap (λ l. entries_shown (filter (has 1 id) l)) it.are
           ∙ arranged (filter (has 1 id) (put_row it.row gone)) (front ++ e ∷ back) all;
       others = λ q apart. ap (filter (has 1 q)) it.are
           ∙ put_passed_over (has 1 q) it.row gone (not_both 1 q id it.row (λ x. apart (sym x)) it.mine) it.free

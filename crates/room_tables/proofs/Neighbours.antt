@@ -43,7 +43,7 @@ use Rattle.sqlite.specs.Effect.{Database}
 use Rattle.sqlite.specs.State.{State, ExecutesInside}
 use Rattle.room_acl.specs.Entries.{EntryModel, who_text}
 use Rattle.room_tables.specs.Tables.{Layout, entry_table, room_schema, equals}
-use Rattle.room_tables.specs.Rows.{has, shown_entry, in_order}
+use Rattle.room_tables.specs.Rows.{has, shown_entry, entries_shown}
 use Rattle.room_tables.specs.Layout.{IsKeyed}
 use Rattle.room_tables.specs.Steps.{type_of, IsReadBack, shown_as, placed, Lists}
 use Rattle.room_tables.proofs.Texts.{over_table}
@@ -388,7 +388,7 @@ lists_renewed old new id at last count front gone back a b c d before place end 
     (all-append IsReadBack front (es ++ back) backs.0
     (all-append IsReadBack es back taken.0 (parted IsReadBack gone back backs.1).1)) (record {
       keyed = subst IsKeyed (sym it.are) (keyed_all it.news left it.ints (keyed_filter (λ r. not (q r)) rows keyed));
-      mine = ap (λ l. in_order (filter (has 1 id) l)) it.are
+      mine = ap (λ l. entries_shown (filter (has 1 id) l)) it.are
           ∙ arranged (filter (has 1 id) (put_all left it.news)) (front ++ (es ++ back)) all;
       others = λ n apart. ap (filter (has 1 n)) it.are
           ∙ put_all_over (has 1 n) it.news left (all_from _ it.news (λ r there.

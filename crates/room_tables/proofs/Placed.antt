@@ -25,8 +25,8 @@ use Rattle.sqlite.specs.State.{State, ExecutesInside}
 use Rattle.room_acl.specs.Entries.{EntryModel, who_text}
 use Rattle.room_tables.specs.Tables.{Layout, room_schema}
 use Rattle.room_tables.proofs.Texts.{drop_entries_text}
-use Rattle.room_tables.specs.Rows.{has, shown_entry, entry_of, entry_keys, in_order, nodes_in, documents_in, next_in}
-use Rattle.room_tables.specs.Rows.{sessions_in, slots_in, records_of, versions_in, entry_rows, IsEntryRow}
+use Rattle.room_tables.specs.Rows.{has, shown_entry, entry_of, entry_keys, entries_shown, nodes_in, documents_in}
+use Rattle.room_tables.specs.Rows.{next_in, sessions_in, slots_in, records_of, versions_in, entry_rows, IsEntryRow}
 use Rattle.room_tables.specs.Layout.{IsKeyed, IsRoomDatabase}
 use Rattle.room_tables.specs.Steps.{type_of, IsReadBack, shown_as, placed, Lists}
 use Rattle.room_tables.proofs.Sorted.{AtMost, ascending-sort_by, same_ascending}
@@ -157,7 +157,7 @@ lists_none old new id count room h =
     let it = drops_entries room.layout old new id count room.schema room.keyed.entry
     h.0 in
     let o = it.others in
-    let rows = λ (q : ℕ). rows_gone in_order 1 id q (old.now.trees 3) (new.now.trees 3) it.rows_are in
+    let rows = λ (q : ℕ). rows_gone entries_shown 1 id q (old.now.trees 3) (new.now.trees 3) it.rows_are in
     record {
       room = still_room 3 old.now new.now room it.schema it.sound o
           (subst IsKeyed (sym it.rows_are) (keyed_filter (λ r. not (has 1 id r)) (old.now.trees 3) room.keyed.entry))
@@ -179,13 +179,13 @@ lists_none old new id count room h =
 -- the rows of the object are these entries in order, and those of the others as before
 pub record Grown (id : ℕ) (es : List EntryModel) (rows new : List Row) : Type 0 where
   pub keyed : IsKeyed new
-  pub mine : in_order (filter (has 1 id) new) ≡ placed 0 es
+  pub mine : entries_shown (filter (has 1 id) new) ≡ placed 0 es
   pub others : (q : ℕ) → q ≢ id → filter (has 1 q) new ≡ filter (has 1 q) rows
 
 -- one row more of the object, at the next place
 grown : (id : ℕ) (es : List EntryModel) (e : EntryModel) (rowid : ℤ) (rows : List Row)
     → is_taken rows (Int rowid ∷ Int (pos id) ∷ shown_as (length es) e) ≡ false
-    → IsKeyed rows → in_order (filter (has 1 id) rows) ≡ placed 0 es
+    → IsKeyed rows → entries_shown (filter (has 1 id) rows) ≡ placed 0 es
     → Grown id (es ++ e ∷ []) rows (put_row (Int rowid ∷ Int (pos id) ∷ shown_as (length es) e) rows)
 grown id es e rowid rows free keyed was = record {
   keyed = keyed_put row rows refl keyed;
@@ -207,11 +207,11 @@ grown id es e rowid rows free keyed was = record {
 
 -- the same of some rows, at the places that follow
 pub all_grown : (id at : ℕ) (es batch : List EntryModel) (rows new : List Row)
-    → at ≡ length es → IsKeyed rows → in_order (filter (has 1 id) rows) ≡ placed 0 es
+    → at ≡ length es → IsKeyed rows → entries_shown (filter (has 1 id) rows) ≡ placed 0 es
     → HasAll rows new (stored id at batch) → Grown id (es ++ batch) rows new
 all_grown id at es [] rows new place keyed was all = record {
   keyed = subst IsKeyed (sym all) keyed;
-  mine = ap (λ l. in_order (filter (has 1 id) l)) all ∙ was ∙ ap (placed 0) (sym (append-nil es));
+  mine = ap (λ l. entries_shown (filter (has 1 id) l)) all ∙ was ∙ ap (placed 0) (sym (append-nil es));
   others = λ q apart. ap (filter (has 1 q)) all;
 }
 all_grown id at es (e ∷ batch) rows new place keyed was all =
@@ -236,7 +236,7 @@ relisted before old new id es fs was schema sound o back it = record {
   schema = schema ∙ sym was.room.schema ∙ was.schema;
   mine = it.mine;
   back = back;
-  others = λ q apart. ap in_order (it.others q apart) ∙ was.others q apart;
+  others = λ q apart. ap entries_shown (it.others q apart) ∙ was.others q apart;
   nodes = o.node (omega arith) ∙ was.nodes;
   documents = λ q. ap (λ l. documents_in l q) (o.doc (omega arith)) ∙ was.documents q;
   next = ap next_in (o.room (omega arith)) ∙ was.next;

@@ -18,7 +18,7 @@ use Rattle.room_records.specs.declared.change.Change.TheVariants.{PutSession}
 use Rattle.room_records.specs.Changes.{apply_change}
 use Rattle.room_tables.specs.Tables.{Layout, room_schema, session_table, session_index}
 use Rattle.room_tables.proofs.Texts.{put_session_text}
-use Rattle.room_tables.specs.Rows.{has_text, only, shown_session, session_of, sessions_in}
+use Rattle.room_tables.specs.Rows.{has_text, only, shown_session, session_stored, sessions_in}
 use Rattle.room_tables.specs.Layout.{IsKeyed, IsRoomDatabase}
 use Rattle.room_tables.specs.Steps.{Steps, flag_of}
 use Rattle.room_tables.proofs.Each.{rows_pass, once_by}
@@ -66,7 +66,8 @@ filter_session f l sid q old new Fits it mine schema sound keyed = elim (cases_B
         true≢false (sym ((bytes_eq-Decides q sid).1 (has_text_one 1 q sid r also h)) ∙ differs))
 
 session_back : (row : SessionRow) (rowid : ℤ)
-    → session_of row.sid (shown_session (stored_session rowid row.sid row.owner row.slots (flag_of row.is_open))) ≡ row
+    → session_stored row.sid (shown_session
+    (stored_session rowid row.sid row.owner row.slots (flag_of row.is_open))) ≡ row
 session_back row rowid = λ i. record row { is_open = flag_back row.is_open i }
   where
     flag_back : (b : Bool) → (flag_of b == 1) ≡ b
@@ -84,15 +85,15 @@ steps_session old new row count room h =
     let mine : has_text 1 row.sid it.row ≡ true = text_has 1 row.sid it.row (ap (λ (r : Row). column r 1) it.fits.1) in
     steps_at 6 old new room _ (omega arith) done.schema done.sound it.others (keyed_after it room.keyed.session)
     room.numbered (λ v. v) (same_records _ _ (λ _. refl) (λ _. refl) (λ _. refl) refl
-    (λ sid. filter_session (λ rows. option_map (session_of sid) (only (map shown_session rows))) room.layout row.sid sid
-    old.now new.now _ it mine done.schema done.sound room.keyed.session ∙ found sid it.row it.fits)
+    (λ sid. filter_session (λ rows. option_map (session_stored sid) (only (map shown_session rows))) room.layout
+    row.sid sid old.now new.now _ it mine done.schema done.sound room.keyed.session ∙ found sid it.row it.fits)
     (λ _ _. refl))
   where
     found : (sid : List ℕ) (r : Row) → IsSession row.sid row.owner row.slots (flag_of row.is_open) r
-        → cond (bytes_eq sid row.sid) (Some (session_of sid (shown_session r))) (sessions_in (old.now.trees 6) sid)
+        → cond (bytes_eq sid row.sid) (Some (session_stored sid (shown_session r))) (sessions_in (old.now.trees 6) sid)
         ≡ cond (bytes_eq sid row.sid) (Some row) (sessions_in (old.now.trees 6) sid)
     found sid r fits = elim (cases_Bool (bytes_eq sid row.sid)) [
-      | inl same ↦ rw same (ap Some (ap (λ q. session_of q (shown_session r)) ((bytes_eq-Decides sid row.sid).0 same)
-          ∙ ap (λ x. session_of row.sid (shown_session x)) fits.1 ∙ session_back row fits.0))
+      | inl same ↦ rw same (ap Some (ap (λ q. session_stored q (shown_session r))
+          ((bytes_eq-Decides sid row.sid).0 same) ∙ ap (λ x. session_stored row.sid (shown_session x)) fits.1 ∙ session_back row fits.0))
       | inr differs ↦ rw differs refl
     ]

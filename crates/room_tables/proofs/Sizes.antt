@@ -13,12 +13,12 @@ use Rattle.sqlite_keyed.proofs.ListLemmas.{all-filter}
 use Rattle.sqlite_keyed.proofs.RuleLemmas.{first_of_both, second_of_both}
 use Rattle.sqlite.specs.Effect.{Database, IsDatabase}
 use Rattle.room_tables.specs.Tables.{Layout, room_schema, doc_table}
-use Rattle.room_tables.specs.Rows.{number_in, bytes_in, has, only, shown_doc, doc_of, shown_size, size_rows, size_in}
+use Rattle.room_tables.specs.Rows.{number_in, blob_in, has, only, shown_doc, doc_of, shown_size, size_rows, size_in}
 use Rattle.room_tables.specs.Rows.{records_of}
 use Rattle.room_tables.specs.Layout.{IsRoomDatabase}
 use Rattle.room_tables.proofs.Each.{rows_pass}
 
-sized : (v : Value) → is_of kind.Blob v ≡ true → number_in (length_of v) ≡ length (bytes_in v)
+sized : (v : Value) → is_of kind.Blob v ≡ true → number_in (length_of v) ≡ length (blob_in v)
 sized Null h = refl
 sized (Int n) h = absurd (true≢false (sym h))
 sized (Real x) h = absurd (true≢false (sym h))
@@ -29,7 +29,7 @@ module _ (l : Layout) (db : Database) where
   abbrev IsTyped : Row → Type 0
   IsTyped r = passes Datatype (room_schema l) db.trees doc_table r ≡ true
 
-  sized_row : (r : Row) → IsTyped r → number_in (length_of (column r 2)) ≡ length (bytes_in (column r 2))
+  sized_row : (r : Row) → IsTyped r → number_in (length_of (column r 2)) ≡ length (blob_in (column r 2))
   sized_row [] h = refl
   sized_row (x ∷ []) h = refl
   sized_row (x ∷ y ∷ []) h = refl

@@ -19,7 +19,7 @@ use Rattle.room_records.specs.Records.{Records}
 use Rattle.room_tables.specs.Tables.{Layout, room_schema, slots_tree}
 use Rattle.room_tables.proofs.Texts.{drop_slots_text, change_slot_text, add_slot_text}
 use Rattle.room_tables.specs.Rows.{has_text, is_slot, only, shown_slot, kept_of, slots_in, nodes_in, entries_in}
-use Rattle.room_tables.specs.Rows.{documents_in, next_in, sessions_in, slots_of, reply_in, records_of}
+use Rattle.room_tables.specs.Rows.{documents_in, next_in, sessions_in, kept_rows, reply_in, records_of}
 use Rattle.room_tables.specs.Layout.{IsKeyed, HasNumbers, IsRoomDatabase, reply_value}
 use Rattle.room_tables.specs.Steps.{Steps}
 use Rattle.room_tables.proofs.Each.{above}
@@ -74,7 +74,7 @@ steps_slots : (old new : State) (room : IsRoomDatabase old.now) (change : Record
     → new.now.schema ≡ room_schema room.layout → IsDatabase new.now
     → Others room.layout (slots_tree room.layout) old.now.trees new.now.trees
     → IsKeyed (new.now.trees (slots_tree room.layout))
-    → read old.now.trees (slots_of new.now.trees) ≡ change (records_of old.now.trees) → Steps old new change
+    → read old.now.trees (kept_rows new.now.trees) ≡ change (records_of old.now.trees) → Steps old new change
 steps_slots old new room change schema sound o keyed is =
     let l = room.layout in
     let node : new.now.trees 1 ≡ old.now.trees 1 = o.node (apart l 1 (omega arith)) in
@@ -100,11 +100,11 @@ steps_drop_slots old new sid count room h =
     let it = drops_slots l old new sid count room.schema room.keyed.slots h.0 in
     let keyed = subst IsKeyed (sym it.rows_are)
     (keyed_filter (λ r. not (has_text 1 sid r)) (old.now.trees (slots_tree l)) room.keyed.slots) in
-    let rows : slots_of new.now.trees ≡ without (has_text 1 sid) (slots_of old.now.trees) =
+    let rows : kept_rows new.now.trees ≡ without (has_text 1 sid) (kept_rows old.now.trees) =
     slots_listed new.now l it.sound it.schema ∙ it.rows_are ∙ ap (without (has_text 1 sid)) (sym room.listed) in
     steps_slots old new room _ it.schema it.sound it.others keyed
     (same_records _ _ (λ _. refl) (λ _. refl) (λ _. refl) refl (λ _. refl)
-    (λ q n. all_gone (slots_of old.now.trees) (slots_of new.now.trees) sid q n rows))
+    (λ q n. all_gone (kept_rows old.now.trees) (kept_rows new.now.trees) sid q n rows))
 
 -- ---- a row is put: its session's name and its number stand once together, by the rule UNIQUE
 

@@ -23,7 +23,7 @@ use Rattle.room_records.specs.declared.node.Node.{Node}
 use Rattle.room_records.specs.Records.{Records}
 use Rattle.room_tables.specs.Tables.{has_a_table, room_table, node_table, entry_table, Fresh}
 use Rattle.room_tables.specs.Rows.{number_in, shown_next, shown_version, entry_of, records_of}
-use Rattle.room_tables.specs.Rows.{has, only, shown_node, node_of, in_order, name_of_text}
+use Rattle.room_tables.specs.Rows.{has, only, shown_node, node_of, entries_shown, name_of_text}
 use Rattle.room_tables.specs.Layout.{IsKeyed}
 use Rattle.room_tables.specs.Steps.{IsReadBack, kind_number}
 use Rattle.room_tables.specs.Beside.{IsBeside, Fills, six, with_rows}
@@ -280,7 +280,7 @@ filled_rows : (root : Node) (entries : Vec EntryModel Global) (nodes list next :
 filled_rows root entries nodes list next one of_nodes of_list of_next =
     same_records _ _ of_nodes.alone (λ q. elim (cases_eq q 1) [
       | inl same ↦ rw (eq-eqb q 1 same, same) (ap (map entry_of) of_list.mine ∙ read_back 0 entries.items of_list.back)
-      | inr apart ↦ rw (ne_eqb q 1 apart) (ap (λ l. map entry_of (in_order l)) (of_list.others q apart))
+      | inr apart ↦ rw (ne_eqb q 1 apart) (ap (λ l. map entry_of (entries_shown l)) (of_list.others q apart))
     ]) (λ q. refl) of_next.next (λ sid. refl) (λ sid slot. refl)
 
 -- a root, its entries and the next number were put into tables that were just made

@@ -12,7 +12,7 @@ use Rattle.sqlite.specs.Schema.{Schema}
 use Rattle.sqlite.specs.Effect.{Database, IsDatabase}
 use lib.Ieee.{is_nan, lt}
 use Rattle.room_tables.specs.Tables.{Layout, Fresh, Upgraded, room_schema, first_schema, slots_tree}
-use Rattle.room_tables.specs.Rows.{number_in, is_named, tree_of, tree_named, slots_of}
+use Rattle.room_tables.specs.Rows.{number_in, is_named, tree_of, tree_named, kept_rows}
 
 -- the tree of the table of this name
 abbrev tree_in : List Table → List ℕ → Option ℕ
@@ -42,7 +42,7 @@ pub named_as : (db : Database) (name : List ℕ) → IsDatabase db
 named_as db name sound = listed_as _ db.schema.tables name sound.lists.listed.tables
 
 slots_as : (db : Database) (schema : Schema) → IsDatabase db → db.schema ≡ schema
-    → slots_of db.trees ≡ unwrap_or (option_map db.trees
+    → kept_rows db.trees ≡ unwrap_or (option_map db.trees
     (option_or (tree_in schema.tables (codes "kept")) (tree_in schema.tables (codes "slot")))) []
 slots_as db schema sound is = ap₂ (λ a b. unwrap_or (option_map db.trees (option_or a b)) [])
     (named_as db _ sound ∙ ap (λ (s : Schema). tree_in s.tables (codes "kept")) is)
@@ -50,12 +50,12 @@ slots_as db schema sound is = ap₂ (λ a b. unwrap_or (option_map db.trees (opt
 
 -- what slots keep is in the table of the layout
 pub slots_listed : (db : Database) (l : Layout) → IsDatabase db → db.schema ≡ room_schema l
-    → slots_of db.trees ≡ db.trees (slots_tree l)
+    → kept_rows db.trees ≡ db.trees (slots_tree l)
 unfolding value_cmp is_nan lt
 slots_listed db Fresh sound is = slots_as db _ sound is
 slots_listed db Upgraded sound is = slots_as db _ sound is
 
 -- and in version 1 in its own
-pub slot_listed : (db : Database) → IsDatabase db → db.schema ≡ first_schema → slots_of db.trees ≡ db.trees 8
+pub slot_listed : (db : Database) → IsDatabase db → db.schema ≡ first_schema → kept_rows db.trees ≡ db.trees 8
 unfolding value_cmp is_nan lt
 slot_listed db sound is = slots_as db _ sound is

@@ -16,7 +16,8 @@ use Rattle.room_records.specs.declared.change.Change.TheVariants.{PutNode, PutEn
 use Rattle.room_records.specs.Room.{fresh_room}
 use Rattle.room_records.specs.Representation.{RepresentsRoom}
 use Rattle.room_tables.specs.Tables.{Fresh, schema_0, room_schema, has_a_table}
-use Rattle.room_tables.specs.Rows.{has, in_order, nodes_in, next_in, versions_in, records_of, version_rows, IsVersion}
+use Rattle.room_tables.specs.Rows.{has, entries_shown, nodes_in, next_in, versions_in, records_of, version_rows}
+use Rattle.room_tables.specs.Rows.{IsVersion}
 use Rattle.room_tables.specs.Layout.{IsKeyed, HasNumbers, IsRoomDatabase, IsRoomOfVersion2, under}
 use Rattle.room_tables.specs.Steps.{IsReadBack, placed}
 use Rattle.room_tables.specs.Beside.{IsBeside, HasItsSequence, six}
@@ -66,7 +67,7 @@ pub record StandForNext (n : ℕ) (rows : List Row) : Type 0 where
 -- rows of entries that stand for those of this object alone
 pub record StandForEntries (id : ℕ) (entries : List EntryModel) (rows : List Row) : Type 0 where
   pub keyed : IsKeyed rows
-  pub mine : in_order (filter (has 1 id) rows) ≡ placed 0 entries
+  pub mine : entries_shown (filter (has 1 id) rows) ≡ placed 0 entries
   pub back : AllByRecursion IsReadBack entries
   pub others : (q : ℕ) → q ≢ id → filter (has 1 q) rows ≡ []
 

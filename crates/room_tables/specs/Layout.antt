@@ -12,7 +12,7 @@ use Rattle.sqlite.specs.Effect.{Database, IsDatabase}
 use Rattle.sqlite.specs.Schema.{Schema}
 use Rattle.room_tables.specs.Tables.{Layout, room_schema, first_schema, room_table, node_table, entry_table, doc_table}
 use Rattle.room_tables.specs.Tables.{session_table, slots_table, slots_tree}
-use Rattle.room_tables.specs.Rows.{version_rows, IsVersion, slots_of}
+use Rattle.room_tables.specs.Rows.{version_rows, IsVersion, kept_rows}
 
 -- the rowids are integers and rise, so none comes twice
 pub record IsKeyed (rows : List Row) : Type 0 where
@@ -47,7 +47,7 @@ pub record IsRoomDatabase (db : Database) : Type 0 where
   pub layout : Layout
   pub schema : db.schema ≡ room_schema layout
   -- the list of objects names the table of what slots keep
-  pub listed : slots_of db.trees ≡ db.trees (slots_tree layout)
+  pub listed : kept_rows db.trees ≡ db.trees (slots_tree layout)
   pub keyed : OfEachTable layout (λ (t : Table). IsKeyed (db.trees t.tree))
   pub numbered : AllByRecursion HasNumbers (db.trees 1)
 

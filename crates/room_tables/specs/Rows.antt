@@ -38,9 +38,9 @@ abbrev pub text_in : Value → List ℕ
 text_in (Text t) = t
 text_in _ = []
 
-abbrev pub bytes_in : Value → List ℕ
-bytes_in (Blob b) = b
-bytes_in _ = []
+abbrev pub blob_in : Value → List ℕ
+blob_in (Blob b) = b
+blob_in _ = []
 
 -- NULL is a reply that is not kept
 abbrev pub reply_in : Value → Option (List ℕ)
@@ -57,11 +57,11 @@ abbrev pub name_of_text : List ℕ → Option (List ℕ)
 name_of_text [] = None
 name_of_text (b ∷ bytes) = Some (b ∷ bytes)
 
-abbrev pub name_in : Value → Option (List ℕ)
-name_in v = name_of_text (text_in v)
+abbrev pub name_stored : Value → Option (List ℕ)
+name_stored v = name_of_text (text_in v)
 
-abbrev pub kind_of : ℕ → Kind
-kind_of n = if n == 1 then Folder else File
+abbrev pub kind_stored : ℕ → Kind
+kind_stored n = if n == 1 then Folder else File
 
 -- the one element of a list that has one
 abbrev pub only : {X : Type 0} → List X → Option X
@@ -89,8 +89,8 @@ abbrev pub node_of : Row → Node
 node_of row = record {
   id = number_in (column row 0);
   parent = parent_in (column row 1);
-  name = name_in (column row 2);
-  kind = kind_of (number_in (column row 3));
+  name = name_stored (column row 2);
+  kind = kind_stored (number_in (column row 3));
   owner = text_in (column row 4);
   group = text_in (column row 5);
   aclflag = number_in (column row 6);
@@ -114,7 +114,8 @@ name_and_kind shown = column shown 2 ∷ column shown 3 ∷ []
 
 -- what such a row lists: none where it has no name
 abbrev pub listed_of : Row → Option (List ℕ × Kind)
-listed_of row = option_map (λ (name : List ℕ). (name, kind_of (number_in (column row 1)))) (name_in (column row 0))
+listed_of row =
+    option_map (λ (name : List ℕ). (name, kind_stored (number_in (column row 1)))) (name_stored (column row 0))
 
 abbrev pub nodes_in : List Row → ℕ → Option Node
 nodes_in rows id = option_map node_of (only (map shown_node (filter (has 0 id) rows)))
@@ -136,14 +137,14 @@ entry_of row = record {
 abbrev pub entry_keys : List Key
 entry_keys = ascending Binary ∷ ascending Binary ∷ ascending Binary ∷ ascending Binary ∷ ascending Binary ∷ []
 
-abbrev pub in_order : List Row → List Row
-in_order rows = sort_by (key_cmp 0 entry_keys) (map shown_entry rows)
+abbrev pub entries_shown : List Row → List Row
+entries_shown rows = sort_by (key_cmp 0 entry_keys) (map shown_entry rows)
 
 abbrev pub entry_rows : Trees → ℕ → List Row
-entry_rows db id = in_order (filter (has 1 id) (db 3))
+entry_rows db id = entries_shown (filter (has 1 id) (db 3))
 
 abbrev pub entries_in : List Row → ℕ → List EntryModel
-entries_in rows id = map entry_of (in_order (filter (has 1 id) rows))
+entries_in rows id = map entry_of (entries_shown (filter (has 1 id) rows))
 
 -- ---- doc: tree 5, whose rowid is the node's number
 
@@ -154,7 +155,7 @@ abbrev pub doc_rows : Trees → ℕ → List Row
 doc_rows db id = map shown_doc (filter (has 0 id) (db 5))
 
 abbrev pub doc_of : Row → List ℕ
-doc_of row = bytes_in (column row 0)
+doc_of row = blob_in (column row 0)
 
 abbrev pub documents_in : List Row → ℕ → Option (List ℕ)
 documents_in rows id = option_map doc_of (only (map shown_doc (filter (has 0 id) rows)))
@@ -175,8 +176,8 @@ size_in rows = unwrap_or (option_map (λ row. number_in (column row 0)) (only ro
 abbrev pub shown_session : Row → Row
 shown_session row = column row 2 ∷ column row 3 ∷ column row 4 ∷ []
 
-abbrev pub session_of : List ℕ → Row → SessionRow
-session_of sid row = record {
+abbrev pub session_stored : List ℕ → Row → SessionRow
+session_stored sid row = record {
   sid = sid;
   owner = text_in (column row 0);
   slots = number_in (column row 1);
@@ -187,7 +188,7 @@ abbrev pub session_rows : Trees → List ℕ → List Row
 session_rows db sid = map shown_session (filter (has_text 1 sid) (db 6))
 
 abbrev pub sessions_in : List Row → List ℕ → Option SessionRow
-sessions_in rows sid = option_map (session_of sid) (only (map shown_session (filter (has_text 1 sid) rows)))
+sessions_in rows sid = option_map (session_stored sid) (only (map shown_session (filter (has_text 1 sid) rows)))
 
 -- ---- slot: its tree is found by its name in the list of objects, which is one of the trees
 
@@ -202,31 +203,31 @@ abbrev pub tree_named : Trees → List ℕ → Option ℕ
 tree_named db name = option_map tree_of (find (is_named name) (filter is_table_row (db catalog_tree)))
 
 -- the rows of what slots keep: in `kept`, and where there is none in `slot`
-abbrev pub slots_of : Trees → List Row
-slots_of db = unwrap_or (option_map db (option_or (tree_named db (codes "kept")) (tree_named db (codes "slot")))) []
+abbrev pub kept_rows : Trees → List Row
+kept_rows db = unwrap_or (option_map db (option_or (tree_named db (codes "kept")) (tree_named db (codes "slot")))) []
 
 abbrev pub shown_slot : Row → Row
 shown_slot row = column row 3 ∷ column row 4 ∷ column row 5 ∷ []
 
 abbrev pub kept_of : Row → KeptModel
 kept_of row =
-    record { seq = number_in (column row 0); request = bytes_in (column row 1); reply = reply_in (column row 2) }
+    record { seq = number_in (column row 0); request = blob_in (column row 1); reply = reply_in (column row 2) }
 
 abbrev pub is_slot : List ℕ → ℕ → Row → Bool
 is_slot sid slot row = has_text 1 sid row && has 2 slot row
 
 abbrev pub slot_rows : Trees → List ℕ → ℕ → List Row
-slot_rows db sid slot = map shown_slot (filter (is_slot sid slot) (slots_of db))
+slot_rows db sid slot = map shown_slot (filter (is_slot sid slot) (kept_rows db))
 
 -- the number alone
 abbrev pub shown_seq : Row → Row
 shown_seq row = column row 3 ∷ []
 
-abbrev pub seq_of : Row → ℕ
-seq_of row = number_in (column row 0)
+abbrev pub seq_stored : Row → ℕ
+seq_stored row = number_in (column row 0)
 
 abbrev pub seq_rows : Trees → List ℕ → ℕ → List Row
-seq_rows db sid slot = map shown_seq (filter (is_slot sid slot) (slots_of db))
+seq_rows db sid slot = map shown_seq (filter (is_slot sid slot) (kept_rows db))
 
 abbrev pub slots_in : List Row → List ℕ → ℕ → Option KeptModel
 slots_in rows sid slot = option_map kept_of (only (map shown_slot (filter (is_slot sid slot) rows)))
@@ -267,7 +268,7 @@ records_of db = record {
     next = next_in (db 0);
   };
   session = sessions_in (db 6);
-  slot = slots_in (slots_of db);
+  slot = slots_in (kept_rows db);
 }
 
 -- the five columns of a row of entries as it is shown

@@ -2,10 +2,10 @@ use Rattle.std.proofs.Common.{List, drop}
 use Rattle.sqlite_value.specs.Order.{Row}
 use Rattle.room_sql.specs.declared.new_object.NewObject.TheVariants.{Unknown}
 use Rattle.room_sql.specs.NodeRows.{AfterAll}
-use Rattle.room_sql.specs.NodeFacts.{IsTrueOf}
+use Rattle.room_sql.specs.NodeFacts.{KnowsRows}
 use Rattle.room_sql.proofs.node_facts.NodeFacts.follow.Given as goal
 
 -- it is true of rows that the rest of the changes makes into the last
 abbrev pub invariant-loop-change : goal.invariant-loop-change
-invariant-loop-change l = (old new : List Row) → IsTrueOf l.initial.self old → AfterAll Unknown l.changes old new
-    → (mid : List Row) × IsTrueOf l.self mid × AfterAll l.object (drop l.change-index l.changes) mid new
+invariant-loop-change l = (old new : List Row) → KnowsRows l.initial.self old → AfterAll Unknown l.changes old new
+    → (mid : List Row) × KnowsRows l.self mid × AfterAll l.object (drop l.change-index l.changes) mid new
