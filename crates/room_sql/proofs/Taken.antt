@@ -6,13 +6,12 @@ use Rattle.sqlite_trees.specs.Tree.{Trees}
 use Rattle.sqlite_schema.specs.Names.{same_name}
 use Rattle.sqlite.specs.Table.{Table}
 use Rattle.sqlite.specs.Effect.{Database}
-use Rattle.sqlite_schema.specs.declared.schema.Index.{Index}
 use Rattle.sqlite.specs.State.{State, Shown}
 use Rattle.room_tables.specs.Tables.{Layout, Fresh, Upgraded, with_last, room_schema, first_schema, last_tables}
-use Rattle.room_tables.specs.Tables.{last_indexes, slot_table, slot_index, has_room, has_first_room}
+use Rattle.room_tables.specs.Tables.{slot_table, has_room, has_first_room}
 use Rattle.room_tables.specs.Rows.{only, number_in, next_rows, IsVersion, records_of}
 use Rattle.room_tables.specs.Layout.{IsRoomOfVersion1}
-use Rattle.room_tables.specs.Versions.{find_version_text, TellsVersion, SaysVersion}
+use Rattle.room_tables.specs.Versions.{find_version_text, TellsVersion}
 use Rattle.room_tables.specs.Upgrade.{IsUpgraded, MayBeUpgraded, MayBeMovedWith}
 use Rattle.room_tables.proofs.Selects.{find_version_selects}
 use Rattle.room_tables.proofs.Asks.{told_version, told_another}
@@ -21,12 +20,12 @@ use Rattle.room_sql.specs.Taken.{SaysFirst, HasItsVersion, HasAnotherVersion}
 
 -- the number that was read is the one that is next
 pub next_is : {a b : Database} {next : ℕ} (rows : List Row) → b ≡ a
-    → ((more : List Table) (others : List Index) → a.schema ≡ with_last more others
+    → ((more : List Table) → a.schema ≡ with_last more
     → IsPermutation (next_rows a.trees) rows)
     → next ≡ unwrap_or (option_map (λ row. number_in (column row 0)) (only rows)) 0 → IsRoomOfVersion1 a
     → (records_of b.trees).objects.next ≡ next
 next_is rows now read is room =
-    rw (now, is, only_permuted _ _ (read (slot_table ∷ []) (slot_index ∷ []) room.schema)) refl
+    rw (now, is, only_permuted _ _ (read (slot_table ∷ []) room.schema)) refl
 
 -- what a commit may leave, as seen before the rows were read
 pub may_be : {a b : Database} {next : ℕ} (db : Trees) → b ≡ a
@@ -41,7 +40,7 @@ upgraded_from now is done room = rw now at (done (rw now room) (is room))
 
 -- what was told is what the database says of itself
 pub says : (old new : State) (rows : List Row) (P : List Row → Type 0)
-    → Shown find_version_text [] old new rows → P rows → SaysVersion old P
+    → Shown find_version_text [] old new rows → P rows → TellsVersion old old P
 says old new rows P shown p = (rows, shown_still find_version_text [] old new rows find_version_selects shown, p)
 
 -- ---- the version and the tables
@@ -68,20 +67,20 @@ not_first s has is = true≢false (sym has ∙ ap has_room is ∙ no_kept)
 pub second_version : (old new : State) → IsTrue (has_room old.now.schema) → TellsVersion old new (IsVersion 2)
     → HasItsVersion old
 second_version old new has told = record {
-  second = λ l is. told_version (last_tables l) (last_indexes l) old new 2 is told;
+  second = λ l is. told_version (last_tables l) old new 2 is told;
   first = λ is. absurd (not_first old has is);
 }
 
 pub first_version : (s : State) → SaysFirst s → HasItsVersion s
 first_version s says = record {
   second = λ l is. absurd (not_both s l says.no_second is);
-  first = λ is. told_version (slot_table ∷ []) (slot_index ∷ []) s s 1 is says.version;
+  first = λ is. told_version (slot_table ∷ []) s s 1 is says.version;
 }
 
 pub no_second_version : (old new : State) → IsTrue (has_room old.now.schema)
     → TellsVersion old new (λ rows. ¬ IsVersion 2 rows) → HasAnotherVersion old
 no_second_version old new has told = record {
-  second = λ l is. told_another (last_tables l) (last_indexes l) old new 2 is told;
+  second = λ l is. told_another (last_tables l) old new 2 is told;
   first = λ is. absurd (not_first old has is);
 }
 
@@ -89,7 +88,7 @@ pub no_first_version : (old new : State) → has_room old.now.schema ≡ false
     → TellsVersion old new (λ rows. ¬ IsVersion 1 rows) → HasAnotherVersion old
 no_first_version old new none told = record {
   second = λ l is. absurd (not_both old l none is);
-  first = λ is. told_another (slot_table ∷ []) (slot_index ∷ []) old new 1 is told;
+  first = λ is. told_another (slot_table ∷ []) old new 1 is told;
 }
 
 pub no_version : (s : State) → has_room s.now.schema ≡ false → has_first_room s.now.schema ≡ false → HasAnotherVersion s

@@ -13,12 +13,9 @@ use Rattle.room_tables.specs.Steps.{Steps}
 use Rattle.room_sql.specs.declared.new_object.NewObject.{NewObject}
 use Rattle.room_sql.specs.NewObject.{is_new, after_change}
 
-abbrev pub rows_in : ℕ → List Row → List Row
-rows_in folder rows = filter (has 2 folder) rows
-
--- how many there are
+-- how many rows of nodes there are in a folder
 abbrev pub in_folder : ℕ → List Row → ℕ
-in_folder folder rows = length (rows_in folder rows)
+in_folder folder rows = length (filter (has 2 folder) rows)
 
 -- no row has the number
 abbrev pub HasNone : ℕ → List Row → Type 0
@@ -32,7 +29,7 @@ is_parent (Some parent) folder = parent == folder
 pub record HasOneMore (parent : Option ℕ) (old new : List Row) : Type 0 where
   pub counts : (folder : ℕ)
       → in_folder folder new ≡ in_folder folder old + (if is_parent parent folder then 1 else 0)
-  pub others : (folder : ℕ) → is_parent parent folder ≡ false → rows_in folder new ≡ rows_in folder old
+  pub others : (folder : ℕ) → is_parent parent folder ≡ false → filter (has 2 folder) new ≡ filter (has 2 folder) old
 
 -- A node of a number that no row has is one row more. Of a node that is put in another's place, and of one that is
 -- dropped, nothing is said. All other changes leave the rows of nodes as they are

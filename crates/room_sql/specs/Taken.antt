@@ -4,7 +4,7 @@ use Rattle.sqlite_trees.specs.Tree.{Trees}
 use Rattle.sqlite.specs.State.{State, HasCleanDisk, Survives}
 use Rattle.room_tables.specs.Tables.{Layout, room_schema, first_schema, has_room, has_first_room}
 use Rattle.room_tables.specs.Rows.{version_rows, IsVersion}
-use Rattle.room_tables.specs.Versions.{TellsVersion, SaysVersion}
+use Rattle.room_tables.specs.Versions.{TellsVersion}
 use Rattle.room_tables.specs.Layout.{IsRoomOfVersion1}
 use Rattle.room_tables.specs.Upgrade.{IsUpgraded, MayBeUpgraded}
 
@@ -14,11 +14,11 @@ pub record IsSecond (old new : State) : Type 0 where
   pub version : TellsVersion old new (IsVersion 2)
   pub same : new.now ≡ old.now
 
--- the tables are those of version 1, and the database says that version
+-- the tables are those of version 1, and whatever becomes of the connection, the database says that version of itself
 pub record SaysFirst (s : State) : Type 0 where
   pub no_second : has_room s.now.schema ≡ false
   pub tables : IsTrue (has_first_room s.now.schema)
-  pub version : SaysVersion s (IsVersion 1)
+  pub version : TellsVersion s s (IsVersion 1)
 
 -- such a one is upgraded
 abbrev pub IsTaken : State → State → Type 0

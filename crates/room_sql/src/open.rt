@@ -1,13 +1,14 @@
 //! Making a room in a database, and taking one that is there.
 
 ghost use Rattle.std.specs.Prelude.{◌≡◌, ◌≢◌, ◌⊎◌, ◌↔◌, [], map, true, false, IfOk, IfErr, IsErrAnd};
-ghost use Rattle.std.specs.Prelude.{IsTrue, IsPermutation, List, codes};
+ghost use Rattle.std.specs.Prelude.{IsTrue, IsPermutation, List, ◌∷◌, codes, is_some};
 ghost use Rattle.sqlite.specs.Table.{Table};
-ghost use Rattle.sqlite_schema.specs.declared.schema.Index.{Index};
 ghost use Rattle.sqlite.specs.State.{HasCleanDisk, Survives, Shown};
 ghost use Rattle.sqlite.specs.Held.{state};
-ghost use Rattle.room_tables.specs.Tables.{schema_0, with_last, has_table, has_a_table, has_column};
-ghost use Rattle.room_tables.specs.Tables.{has_columns, has_five, has_slots, has_room, has_first_room};
+ghost use Rattle.std.specs.List.{list_all};
+ghost use Rattle.sqlite_schema.specs.Names.{table_named};
+ghost use Rattle.room_tables.specs.Tables.{schema_0, schema_5, with_last, has_a_table, has_column, has_tables};
+ghost use Rattle.room_tables.specs.Tables.{has_room, has_first_room};
 ghost use Rattle.room_tables.specs.Rows.{version_rows, IsVersion};
 ghost use Rattle.room_tables.specs.Versions.{find_version_text, TellsVersion};
 ghost use Rattle.room_sql.specs.Taken.{IsTaken, MayBeTaken, IsAsBefore, HasItsVersion, HasAnotherVersion};
@@ -47,7 +48,7 @@ fn open_fault(error: Error) -> OpenFault
 }
 
 fn has_table<S: Alter>(conn: &Connection<S>, name: &str) -> bool
-    ensures { result ≡ has_table conn.now.schema name.now }
+    ensures { result ≡ is_some (table_named conn.now.schema name.now) }
 {
     conn.schema().table_named(name.as_bytes()).is_some()
 }
@@ -79,7 +80,7 @@ fn has_column<S: Alter>(conn: &Connection<S>, table: &str, column: &str) -> bool
 }
 
 fn has_columns<S: Alter>(conn: &Connection<S>, table: &str, columns: &[&str]) -> bool
-    ensures { result ≡ has_columns conn.now.schema table.now (map (λ c. c.now) columns.now) }
+    ensures { result ≡ list_all (has_column conn.now.schema table.now) (map (λ c. c.now) columns.now) }
 {
     for column in columns {
         if !has_column(conn, table, column) {
@@ -91,7 +92,7 @@ fn has_columns<S: Alter>(conn: &Connection<S>, table: &str, columns: &[&str]) ->
 
 /// Whether the five tables that every room has are there, with each of their columns.
 fn has_five<S: Alter>(conn: &Connection<S>) -> bool
-    ensures { result ≡ has_five conn.now.schema }
+    ensures { result ≡ has_tables conn.now.schema schema_5.tables }
 {
     has_columns(conn, "room", &["one", "version", "next"])
         && has_columns(
@@ -110,7 +111,8 @@ fn has_five<S: Alter>(conn: &Connection<S>) -> bool
 
 /// Whether a table of this name is there that can hold what slots keep.
 fn has_slots<S: Alter>(conn: &Connection<S>, table: &str) -> bool
-    ensures { result ≡ has_slots conn.now.schema table.now }
+    ensures { result ≡ list_all (has_column conn.now.schema table.now)
+        (codes "sid" ∷ codes "slot" ∷ codes "seq" ∷ codes "request" ∷ codes "reply" ∷ []) }
 {
     has_columns(conn, table, &["sid", "slot", "seq", "request", "reply"])
 }
@@ -133,8 +135,7 @@ fn version_rows<S: Alter>(conn: &mut Connection<S>) -> Result<Vec<Row>, Error>
     ensures frame { QueryFrame (state S.Store conn.old) (state S.Store conn.new) result }
     ensures shown { HasCleanDisk (state S.Store conn.new) → IfOk result
         (λ rows. Shown find_version_text [] (state S.Store conn.old) (state S.Store conn.new) rows.items) }
-    ensures asked { HasCleanDisk (state S.Store conn.new) → (more : List Table) (others : List Index)
-        → conn.old.schema ≡ with_last more others
+    ensures asked { HasCleanDisk (state S.Store conn.new) → (more : List Table) → conn.old.schema ≡ with_last more
         → IfOk result (λ rows. IsPermutation (version_rows (state S.Store conn.old).now.trees) rows.items) }
 {
     conn.query_all("SELECT version FROM room WHERE one = 1", &[])

@@ -6,7 +6,6 @@ ghost use Rattle.sqlite_trees.specs.Tree.{IsAscending};
 ghost use Rattle.sqlite.specs.State.{HasCleanDisk};
 ghost use Rattle.sqlite.specs.Held.{state};
 ghost use Rattle.sqlite.specs.Table.{Table};
-ghost use Rattle.sqlite_schema.specs.declared.schema.Index.{Index};
 ghost use Rattle.room_tables.specs.Tables.{with_last};
 ghost use Rattle.room_tables.specs.Layout.{IsRoomDatabase};
 ghost use Rattle.room_tables.specs.Rows.{node_rows, named_rows, child_rows, entry_rows, doc_rows, session_rows};
@@ -159,9 +158,8 @@ pub(crate) fn seq_rows<S: Alter>(
 /// The row with the next number.
 pub(crate) fn next_rows<S: Alter>(conn: &mut Connection<S>) -> Result<Vec<Row>, Error>
     ensures frame { QueryFrame (state S.Store conn.old) (state S.Store conn.new) result }
-    ensures rows { HasCleanDisk (state S.Store conn.new) → (more : List Table) (others : List Index)
-        → conn.old.schema ≡ with_last more others → IfOk result
-        (λ rows. IsPermutation (next_rows (state S.Store conn.old).now.trees) rows.items) }
+    ensures rows { HasCleanDisk (state S.Store conn.new) → (more : List Table) → conn.old.schema ≡ with_last more
+        → IfOk result (λ rows. IsPermutation (next_rows (state S.Store conn.old).now.trees) rows.items) }
 {
     conn.query_all("SELECT next FROM room WHERE one = 1", &[])
 }

@@ -7,7 +7,7 @@ ghost use Rattle.sqlite_value.specs.Order.{column};
 ghost use Rattle.sqlite_value.specs.declared.value.Value.TheVariants.{Int, Text};
 ghost use Rattle.room_acl.specs.Entries.{who_from, who_text};
 ghost use Rattle.room_tables.specs.Rows.{number_in, text_in, name_of_text, name_stored, parent_in, blob_in, reply_in};
-ghost use Rattle.room_tables.specs.Rows.{kind_stored, who_of, only, node_of, entry_of, doc_of, session_stored, kept_of};
+ghost use Rattle.room_tables.specs.Rows.{kind_stored, who_of, only, node_of, entry_of, session_stored, kept_of};
 ghost use Rattle.room_tables.specs.Rows.{listed_of, seq_stored, size_in, five_columns, HasEntryColumns};
 ghost use Rattle.room_tables.specs.Names.{counted_row};
 ghost use Rattle.room_tables.specs.Steps.{flag_of, type_of, shown_as, placed, IsReadBack};
@@ -290,7 +290,8 @@ pub(crate) fn one_count(rows: &[Row]) -> Result<u64, Error>
 
 /// The bytes of the one row, none where there is no row.
 pub(crate) fn one_doc(alloc: Global, rows: &[Row]) -> Result<Vec<u8>, Error>
-    ensures value { IfOk result (λ bytes. bytes.items ≡ unwrap_or (option_map doc_of (only rows.now)) []) }
+    ensures value { IfOk result (λ bytes. bytes.items
+        ≡ unwrap_or (option_map (λ row. blob_in (column row 0)) (only rows.now)) []) }
 {
     match rows {
         [row] => row.get(0),

@@ -19,15 +19,14 @@ use Rattle.sqlite_tied.specs.Compute.{everything}
 use Rattle.sqlite.specs.Listing.{understood}
 use Rattle.sqlite.proofs.Callers.{reads_as, one_permutation}
 use Rattle.sqlite.specs.Table.{Table}
-use Rattle.sqlite_schema.specs.declared.schema.Index.{Index}
 use Rattle.room_tables.proofs.Texts as T
 use Rattle.room_tables.specs.Tables.{room_schema, with_last, slots_tree}
 use Rattle.room_tables.specs.Layout.{IsRoomDatabase}
 use Rattle.room_tables.proofs.Each.{slots_seen}
 use Rattle.room_tables.specs.Rows.{has, has_text, is_child_named, is_slot, shown_node, node_rows, named_rows}
-use Rattle.room_tables.specs.Rows.{child_rows, shown_entry, entry_rows, IsEntryRow, HasEntryColumns, shown_doc}
-use Rattle.room_tables.specs.Rows.{doc_rows, shown_session, session_rows, shown_slot, slot_rows, shown_next, next_rows}
-use Rattle.room_tables.specs.Rows.{shown_version, version_rows, IsVersion, shown_seq, seq_rows, shown_size, size_rows}
+use Rattle.room_tables.specs.Rows.{child_rows, shown_entry, entry_rows, IsEntryRow, HasEntryColumns, one_column}
+use Rattle.room_tables.specs.Rows.{doc_rows, shown_session, session_rows, shown_slot, slot_rows, next_rows}
+use Rattle.room_tables.specs.Rows.{version_rows, IsVersion, seq_rows, shown_size, size_rows}
 use Rattle.room_tables.specs.Versions.{find_version_text, TellsVersion}
 use Rattle.room_tables.proofs.Meaning.{list_children_means, count_children_means, list_entries_means, find_size_means}
 use Rattle.room_tables.proofs.Meaning.{find_slot_means, find_seq_means}
@@ -101,7 +100,7 @@ pub asks_doc : (old new : State) (id : ℕ) (rows : List Row) → IsRoomDatabase
     → Shown T.find_doc_text (Int (pos id) ∷ []) old new rows → IsPermutation (doc_rows old.now.trees id) rows
 unfolding understood everything
 asks_doc old new id rows room h =
-    asked (room_schema room.layout) old new T.find_doc_text (Int (pos id) ∷ []) 5 _ _ _ rows (has 0 id) shown_doc
+    asked (room_schema room.layout) old new T.find_doc_text (Int (pos id) ∷ []) 5 _ _ _ rows (has 0 id) (one_column 2)
     room.schema ((refl, (refl, refl)), refl) refl (λ r. and_true (has 0 id r)) (λ r. refl) h
 
 size_is : (id : ℕ) (r : Row) → eval_all T.find_size_query.project ((Int (pos id) ∷ []) ∷ r ∷ []) ≡ shown_size r
@@ -136,43 +135,43 @@ pub asks_seq : (old new : State) (sid : List ℕ) (slot : ℕ) (rows : List Row)
     → IsRoomDatabase old.now → Shown T.find_seq_text (Text sid ∷ Int (pos slot) ∷ []) old new rows
     → IsPermutation (seq_rows old.now.trees sid slot) rows
 asks_seq old new sid slot rows room h =
-    subst (λ all. IsPermutation (map shown_seq (filter (is_slot sid slot) all)) rows) (sym room.listed)
+    subst (λ all. IsPermutation (map (one_column 3) (filter (is_slot sid slot) all)) rows) (sym room.listed)
     (asked (room_schema room.layout) old new T.find_seq_text (Text sid ∷ Int (pos slot) ∷ []) (slots_tree room.layout)
-    _ _ _ rows (is_slot sid slot) shown_seq room.schema (find_seq_means room.layout)
+    _ _ _ rows (is_slot sid slot) (one_column 3) room.schema (find_seq_means room.layout)
     (slots_seen room.layout old.now.trees) (λ r. ap (λ b. has_text 1 sid r && b) (and_true (has 2 slot r)))
     (λ r. refl) h)
 
-pub asks_next : (more : List Table) (others : List Index) (old new : State) (rows : List Row)
-    → old.now.schema ≡ with_last more others
+pub asks_next : (more : List Table) (old new : State) (rows : List Row)
+    → old.now.schema ≡ with_last more
     → Shown T.find_next_text [] old new rows → IsPermutation (next_rows old.now.trees) rows
 unfolding understood everything
-asks_next more others old new rows schema h =
-    asked (with_last more others) old new T.find_next_text [] 0 _ _ _ rows (has 0 1) shown_next schema
+asks_next more old new rows schema h =
+    asked (with_last more) old new T.find_next_text [] 0 _ _ _ rows (has 0 1) (one_column 3) schema
     ((refl, (refl, refl)), refl) refl (λ r. and_true (has 0 1 r)) (λ r. refl) h
 
-pub asks_version : (more : List Table) (others : List Index) (old new : State) (rows : List Row)
-    → old.now.schema ≡ with_last more others
+pub asks_version : (more : List Table) (old new : State) (rows : List Row)
+    → old.now.schema ≡ with_last more
     → Shown find_version_text [] old new rows → IsPermutation (version_rows old.now.trees) rows
 unfolding understood everything
-asks_version more others old new rows schema h =
-    asked (with_last more others) old new find_version_text [] 0 _ _ _ rows (has 0 1) shown_version schema
+asks_version more old new rows schema h =
+    asked (with_last more) old new find_version_text [] 0 _ _ _ rows (has 0 1) (one_column 2) schema
     ((refl, (refl, refl)), refl) refl (λ r. and_true (has 0 1 r)) (λ r. refl) h
 
 -- a version that was told is that of the rows
-pub told_version : (more : List Table) (others : List Index) (old new : State) (n : ℕ)
-    → old.now.schema ≡ with_last more others → TellsVersion old new (IsVersion n)
+pub told_version : (more : List Table) (old new : State) (n : ℕ)
+    → old.now.schema ≡ with_last more → TellsVersion old new (IsVersion n)
     → IsVersion n (version_rows old.now.trees)
-told_version more others old new n schema told =
+told_version more old new n schema told =
     subst (λ o. option_map (λ row. column row 0) o ≡ Some (Int (pos n)))
-    (only_permuted _ _ (asks_version more others old new told.0 schema told.1)) told.2
+    (only_permuted _ _ (asks_version more old new told.0 schema told.1)) told.2
 
 -- and so it is with another that was told
-pub told_another : (more : List Table) (others : List Index) (old new : State) (n : ℕ)
-    → old.now.schema ≡ with_last more others → TellsVersion old new (λ rows. ¬ IsVersion n rows)
+pub told_another : (more : List Table) (old new : State) (n : ℕ)
+    → old.now.schema ≡ with_last more → TellsVersion old new (λ rows. ¬ IsVersion n rows)
     → ¬ IsVersion n (version_rows old.now.trees)
-told_another more others old new n schema told is =
+told_another more old new n schema told is =
     told.2 (subst (λ o. option_map (λ row. column row 0) o ≡ Some (Int (pos n)))
-    (sym (only_permuted _ _ (asks_version more others old new told.0 schema told.1))) is)
+    (sym (only_permuted _ _ (asks_version more old new told.0 schema told.1))) is)
 
 -- ---- the count
 

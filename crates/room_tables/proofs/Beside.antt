@@ -41,7 +41,8 @@ use Rattle.sqlite.specs.State.{ExecutesIn, Executes, ExecutesInside}
 use Rattle.room_tables.specs.Tables.{room_table, node_table, entry_table, doc_table, session_table, slots_table}
 use Rattle.room_tables.specs.Tables.{schema_0, schema_1, schema_2, schema_3, schema_4, schema_5, Fresh, room_schema}
 use Rattle.room_tables.specs.Tables.{room_text, node_text, entry_text, doc_text, session_text, kept_text}
-use Rattle.room_tables.specs.Beside.{IsApart, IsBeside, HasItsSequence, AreOurs, AddsTables, own_indexes}
+use Rattle.room_tables.specs.Tables.{own_indexes}
+use Rattle.room_tables.specs.Beside.{IsApart, IsBeside, HasItsSequence, AreOurs, AddsTables}
 use Rattle.room_tables.proofs.Changes.{went, same_value}
 use Rattle.room_tables.proofs.Ours.{all_push, all_front, all_back, ours_push, still_whole}
 

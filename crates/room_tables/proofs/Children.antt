@@ -12,6 +12,8 @@ use Rattle.std.proofs.lemmas.List.Sorted.{length_permutation, IsPermutation-sym}
 use Rattle.std.proofs.lemmas.Option.{same_Some}
 use Rattle.sqlite_value.specs.declared.value.Value.{Value}
 use Rattle.sqlite_value.specs.declared.value.Value.TheVariants.{Int, Text}
+use Rattle.sqlite_value.specs.declared.keys.Collation.TheVariants.{Binary}
+use Rattle.sqlite_value.specs.Keys.{ascending}
 use Rattle.sqlite_value.specs.Order.{Row, column, value_cmp}
 use Rattle.sqlite_value.proofs.OrderLemmas.{value_cmp-Text}
 use Rattle.sqlite_trees.specs.Tree.{IsAscending}
@@ -33,9 +35,9 @@ use Rattle.room_records.specs.Rules.{NodeRules}
 use Rattle.room_records.specs.Shelf.{AreChildren, IsChildCount, IsChildNamed, InNameOrder, name_of}
 use Rattle.room_records.proofs.Children.{named_by_rules}
 use Rattle.room_tables.specs.Rows.{has, is_child_named, only, number_in, parent_in, name_of_text, name_stored}
-use Rattle.room_tables.specs.Rows.{shown_node, node_of, nodes_in, named_rows, child_rows, records_of}
+use Rattle.room_tables.specs.Rows.{one_column, shown_node, node_of, nodes_in, named_rows, child_rows, records_of}
 use Rattle.room_tables.specs.Layout.{HasNumbers, IsRoomDatabase, parent_value}
-use Rattle.room_tables.specs.Names.{ByName, name_key, name_keys}
+use Rattle.room_tables.specs.Names.{ByName}
 use Rattle.room_tables.proofs.Values.{has_one, has_text_value, has_not_null, has_tied, int_has, text_has}
 use Rattle.room_tables.proofs.Removed.{one_row, shown_of, is_shown}
 use Rattle.room_tables.proofs.Sorted.{ascending-sort_by}
@@ -253,9 +255,9 @@ are_children db p rows room same up =
 pub count_children : (db : Database) (p : ℕ) → IsRoomDatabase db
     → IsChildCount (records_of db.trees).objects p (length (child_rows db.trees p))
 count_children db p room =
-    let cmp = λ (a b : Row). key_cmp 0 name_keys (name_key a) (name_key b) in
-    let total = key_cmp_total name_keys 0 in
-    let total_on = Rattle.std.proofs.lemmas.Cmp.on_total name_key total in
+    let cmp = λ (a b : Row). key_cmp 0 (ascending Binary ∷ []) (one_column 2 a) (one_column 2 b) in
+    let total = key_cmp_total (ascending Binary ∷ []) 0 in
+    let total_on = Rattle.std.proofs.lemmas.Cmp.on_total (one_column 2) total in
     let rows = sort_by cmp (child_rows db.trees p) in
     let same = IsPermutation-sym _ _ (IsPermutation-sort_by cmp total_on (child_rows db.trees p)) in (
       map node_of rows,

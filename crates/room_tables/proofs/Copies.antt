@@ -36,7 +36,7 @@ use Rattle.sqlite.specs.Source.TheVariants.{Query as From}
 use Rattle.sqlite.specs.State.{State, Executes}
 use Rattle.sqlite.specs.Table.{Table}
 use Rattle.sqlite.specs.Effect.{Database, IsDatabase}
-use Rattle.room_tables.specs.Tables.{Upgraded, room_schema, slot_table, kept_table}
+use Rattle.room_tables.specs.Tables.{Upgraded, room_schema, slot_table, slots_table}
 use Rattle.room_tables.proofs.Texts.{copy_row_text, copy_row_query, take_row_text}
 use Rattle.room_tables.specs.Rows.{is_slot, shown_slot}
 use Rattle.room_tables.specs.Layout.{IsKeyed}
@@ -91,7 +91,7 @@ stays (i ∷ a ∷ b ∷ c ∷ more) h = (
 abbrev copy_of : ℤ → Row → Row
 copy_of id r = Int id ∷ tail_of r
 
-copied_row : (id : ℤ) (r : Row) → IsTyped r → cast_row (kept_table 10) (copy_of id r) ≡ copy_of id r
+copied_row : (id : ℤ) (r : Row) → IsTyped r → cast_row (slots_table Upgraded) (copy_of id r) ≡ copy_of id r
 copied_row id r h = let s = stays r h in rw (cast_int id, s.0, s.1, s.2) refl
 
 -- ---- the row that is copied
@@ -132,7 +132,7 @@ record Copied (old new : State) : Type 0 where
 copies : (old new : State) (count : ℕ) → old.now.schema ≡ room_schema Upgraded → IsDatabase old.now
     → IsKeyed (old.now.trees 8) → Executes copy_row_text [] old new (Ok count) → Copied old new
 copies old new count has sound keyed h =
-    let it = inserted Upgraded old new 6 (kept_table 10) copy_row_text [] _ count refl has refl
+    let it = inserted Upgraded old new 6 (slots_table Upgraded) copy_row_text [] _ count refl has refl
     copy_row_means (λ news. (quiet Upgraded 0 [] news).slots) h in
     let db = old.now.trees in
     let a = it.source.answer Null in
@@ -149,16 +149,17 @@ copies old new count has sound keyed h =
       others = it.tables;
       which = elim (gave (db 8) all it.given same a.shown) [
         | inl none ↦ inl (
-          it.changes ∙ ap (λ l. length (new_rows db (kept_table 10) l)) none.0,
+          it.changes ∙ ap (λ l. length (new_rows db (slots_table Upgraded) l)) none.0,
           none.1,
-          it.rows_are ∙ ap (λ l. put_all (db 10) (new_rows db (kept_table 10) l)) none.0,
+          it.rows_are ∙ ap (λ l. put_all (db 10) (new_rows db (slots_table Upgraded) l)) none.0,
         )
         | inr one ↦ inr (put one.0 one.1 it one.2)
       ];
     }
   where
     put : (r : Row) → Has (old.now.trees 8) r
-        → (it : Inserted Upgraded old new (kept_table 10) [] (From (record { lets = []; body = copy_row_query })))
+        → (it : Inserted Upgraded old new (slots_table Upgraded) []
+        (From (record { lets = []; body = copy_row_query })))
         → it.given ≡ given_row r ∷ []
         → (s : Row) × (new.changes ≡ 1) × Has (old.now.trees 8) s × (rowid s ≡ Int new.last_rowid)
         × (is_taken (old.now.trees 10) (copy_of new.last_rowid s) ≡ false)
@@ -168,10 +169,10 @@ copies old new count has sound keyed h =
         let id = id_in (rowid r) in
         let key : rowid r ≡ Int id = int_is (rowid r) (all_has _ (db 8) r keyed.ints there) in
         let typed = all_has IsTyped (db 8) r (typed_rows old.now sound has) there in
-        let cast_is : cast_row (kept_table 10) (given_row r) ≡ copy_of id r =
-        ap (λ v. cast_row (kept_table 10) (v ∷ tail_of r)) key ∙ copied_row id r typed in
-        let news : new_rows db (kept_table 10) it.given ≡ copy_of id r ∷ [] =
-        ap (new_rows db (kept_table 10)) given ∙ ap (λ x. numbered Chosen (db 10) (x ∷ [])) cast_is in
+        let cast_is : cast_row (slots_table Upgraded) (given_row r) ≡ copy_of id r =
+        ap (λ v. cast_row (slots_table Upgraded) (v ∷ tail_of r)) key ∙ copied_row id r typed in
+        let news : new_rows db (slots_table Upgraded) it.given ≡ copy_of id r ∷ [] =
+        ap (new_rows db (slots_table Upgraded)) given ∙ ap (λ x. numbered Chosen (db 10) (x ∷ [])) cast_is in
         let last : new.last_rowid ≡ id = it.last ∙ ap (λ l. unwrap_or (last_id l) old.last_rowid) news in
         let fresh = subst (λ l. are_fresh (db 10) l ≡ true) news it.fresh in (
           r,

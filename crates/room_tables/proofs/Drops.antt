@@ -41,7 +41,7 @@ use Rattle.room_records.specs.Changes.{apply_change}
 use Rattle.room_tables.specs.Tables.{Layout, Fresh, Upgraded, room_schema, slots_tree, node_table, entry_table}
 use Rattle.room_tables.specs.Tables.{doc_table, refers}
 use Rattle.room_tables.proofs.Texts.{drop_node_text, drop_node_query}
-use Rattle.room_tables.specs.Rows.{has, only, shown_node, node_of, entry_of, entries_shown, shown_doc, doc_of}
+use Rattle.room_tables.specs.Rows.{has, only, shown_node, node_of, entry_of, entries_shown, one_column, blob_in}
 use Rattle.room_tables.specs.Rows.{next_in, sessions_in, slots_in}
 use Rattle.room_tables.specs.Layout.{IsKeyed, HasNumbers, IsRoomDatabase}
 use Rattle.room_tables.specs.Steps.{Steps}
@@ -391,7 +391,8 @@ steps_drop old new id count room h =
       records = same_records _ _
           (λ q. rows_gone (λ rows. option_map node_of (only (map shown_node rows))) 0 id q (db 1) _ it.nodes)
           (λ q. rows_gone (λ rows. map entry_of (entries_shown rows)) 1 id q (db 3) _ it.entries)
-          (λ q. rows_gone (λ rows. option_map doc_of (only (map shown_doc rows))) 0 id q (db 5) _ it.docs)
+          (λ q. rows_gone (λ rows. option_map (λ row. blob_in (column row 0)) (only (map (one_column 2) rows))) 0 id q
+          (db 5) _ it.docs)
           (ap next_in it.room)
           (λ q. ap (λ rows. sessions_in rows q) it.sessions)
           (λ q n. ap (λ rows. slots_in rows q n) (listed ∙ it.slots ∙ sym room.listed));

@@ -24,8 +24,8 @@ use Rattle.sqlite.specs.Table.{Table}
 use Rattle.room_tables.specs.Tables.{Layout, Upgraded, room_schema, node_table, doc_table}
 use Rattle.room_tables.proofs.Texts as T
 use Rattle.room_tables.specs.Rows.{only, parent_in, name_of_text, kind_stored, shown_node, node_of, nodes_in}
-use Rattle.room_tables.specs.Rows.{entries_in, shown_doc, doc_of, documents_in, number_in, shown_next, next_in}
-use Rattle.room_tables.specs.Rows.{shown_version, version_rows, versions_in, IsVersion, sessions_in, slots_in}
+use Rattle.room_tables.specs.Rows.{entries_in, one_column, blob_in, documents_in, number_in, next_in}
+use Rattle.room_tables.specs.Rows.{version_rows, versions_in, IsVersion, sessions_in, slots_in}
 use Rattle.room_tables.specs.Rows.{kept_rows, records_of}
 use Rattle.room_tables.specs.Layout.{IsKeyed, HasNumbers, IsRoomDatabase, OfEachTable, parent_value, reply_value}
 use Rattle.room_tables.specs.Steps.{Steps, kind_number}
@@ -264,10 +264,10 @@ steps_put_doc old new id bytes room done =
     let it = done.put in
     steps_at 5 old new room _ (omega arith) done.schema done.sound it.others (keyed_after it room.keyed.doc)
     room.numbered (λ v. v) (same_records _ _ (λ _. refl) (λ _. refl)
-    (λ q. filter_put it (λ rows. option_map doc_of (only (map shown_doc rows))) id q
+    (λ q. filter_put it (λ rows. option_map (λ row. blob_in (column row 0)) (only (map (one_column 2) rows))) id q
     (id_is (sym it.has_id ∙ ap rowid it.fits))
     ∙ ap (λ found. cond (q == id) (Some found) (documents_in (old.now.trees 5) q))
-    (ap (λ r. doc_of (shown_doc r)) it.fits)) refl (λ _. refl) (λ _ _. refl))
+    (ap (λ r. blob_in (column (one_column 2 r) 0)) it.fits)) refl (λ _. refl) (λ _ _. refl))
 
 -- what an UPDATE of the document leaves, by how many rows it changed
 doc_changed : (old new : State) (id : ℕ) (bytes : List ℕ) (count : ℕ) (room : IsRoomDatabase old.now)
@@ -337,8 +337,8 @@ sets_put old new n room done beside =
     let it = done.put in
     let is : it.id ≡ pos 1 = id_is (sym it.has_id ∙ ap rowid it.fits) in
     let version : IsVersion 2 (version_rows new.now.trees) =
-    filter_put it (λ rows. option_map (λ row. column row 0) (only (map shown_version rows))) 1 1 is
-    ∙ ap (λ r. Some (column (shown_version r) 0)) it.fits in
+    filter_put it (λ rows. option_map (λ row. column row 0) (only (map (one_column 2) rows))) 1 1 is
+    ∙ ap (λ r. Some (column (one_column 2 r) 0)) it.fits in
     record {
       version = version;
       sound = done.sound;
@@ -347,8 +347,8 @@ sets_put old new n room done beside =
       steps = steps_at 0 old new room _ (omega arith) done.schema done.sound it.others (keyed_after it room.keyed.room)
           room.numbered (λ _. version) (same_records _ _ (λ _. refl) (λ _. refl) (λ _. refl)
           (filter_put it (λ rows. unwrap_or (option_map (λ row. number_in (column row 0)) (only
-          (map shown_next rows))) 0)
-          1 1 is ∙ ap (λ r. number_in (column (shown_next r) 0)) it.fits) (λ _. refl) (λ _ _. refl));
+          (map (one_column 3) rows))) 0)
+          1 1 is ∙ ap (λ r. number_in (column (one_column 3 r) 0)) it.fits) (λ _. refl) (λ _ _. refl));
     }
 
 -- what an UPDATE leaves, by how many rows it changed

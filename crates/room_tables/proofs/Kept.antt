@@ -1,5 +1,5 @@
 -- What a slot keeps is written: an UPDATE changes its row, or an INSERT adds one.
-use Rattle.std.proofs.Common.{◌≡◌, ◌∙◌, ℕ, ℤ, pos, Bool, true, false, ◌&&◌, List, [], ◌∷◌, drop}
+use Rattle.std.proofs.Common.{◌≡◌, ◌∙◌, ◌+◌, ℕ, ℤ, pos, Bool, true, false, ◌&&◌, List, [], ◌∷◌, drop}
 use Rattle.std.proofs.Common.{Option, Ok, Equal, inl, inr, refl, sym, ap, ap₂, subst, true≢false, is_eq}
 use Rattle.std.proofs.lemmas.Bool.{not-true, and_from}
 use Rattle.std.proofs.lemmas.Cmp.{tied_itself}
@@ -19,11 +19,12 @@ use Rattle.sqlite_rules.specs.Edit.{is_taken, left_by, next_rowid}
 use Rattle.sqlite_rules.proofs.ListLemmas.{all_has, some_from}
 use Rattle.sqlite_rules.proofs.TableLemmas.{has_put, put_all_adds}
 use Rattle.sqlite.specs.Kind.TheVariants as kind
+use Rattle.sqlite_catalog.specs.Listing.{automatic}
+use Rattle.sqlite_schema.specs.declared.schema.Index.{Index}
 use Rattle.sqlite.specs.Effect.{Database, IsDatabase}
 use Rattle.sqlite.specs.State.{State, Executes}
 use Rattle.room_records.specs.declared.session.SlotRow.{SlotRow}
 use Rattle.room_tables.specs.Tables.{Layout, Fresh, Upgraded, room_schema, slots_table, slots_tree, slots_place}
-use Rattle.room_tables.specs.Tables.{slots_index}
 use Rattle.room_tables.proofs.Texts.{change_slot_text, change_slot_query, add_slot_text, add_slot_terms}
 use Rattle.room_tables.specs.Rows.{has, has_text, is_slot}
 use Rattle.room_tables.specs.Layout.{IsKeyed, reply_value}
@@ -55,6 +56,9 @@ its_slot row r fits =
     and_from _ _ (text_has 1 row.sid r (ap (λ (r : Row). column r 1) fits.is)) number
 
 -- ---- a session's name and a slot's number stand once together, by the rule UNIQUE
+
+abbrev slots_index : Layout → Index
+slots_index l = automatic (slots_table l) 0 (1 ∷ 2 ∷ []) (slots_tree l + 1)
 
 slots_indexed : (l : Layout)
     → Has (room_schema l).indexes (slots_index l) × (guards (slots_index l) (slots_table l) ≡ true)

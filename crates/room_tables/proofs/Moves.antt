@@ -14,7 +14,7 @@ use Rattle.room_slots.specs.KeptModel.{KeptModel}
 use Rattle.room_records.specs.declared.change.Change.TheVariants.{PutNext}
 use Rattle.room_records.specs.Changes.{apply_change}
 use Rattle.room_records.specs.Records.{Records}
-use Rattle.room_tables.specs.Tables.{Upgraded, room_schema, first_schema, kept_table, kept_text}
+use Rattle.room_tables.specs.Tables.{Upgraded, room_schema, first_schema, slots_table, kept_text}
 use Rattle.room_tables.proofs.Texts.{copy_row_text, take_row_text}
 use Rattle.room_tables.specs.Rows.{only, kept_of, records_of, version_rows, IsVersion}
 use Rattle.room_tables.specs.Layout.{IsKeyed, HasNumbers, IsRoomOfVersion1, IsRoomOfVersion2}
@@ -33,7 +33,8 @@ use Rattle.room_tables.proofs.Effects.{same_records, read_same, after, each_afte
 pub widens : (old new : State) (count : ℕ) → ExecutesInside 0 kept_text [] old new (Ok count)
     → old.now.schema ≡ first_schema → IsWidened old.now new.now
 widens old new count h has =
-    let it = makes old new first_schema (room_schema Upgraded) (kept_table 0) kept_text count has kept_beside refl h in
+    let it = makes old new first_schema (room_schema Upgraded) (record (slots_table Upgraded) { tree = 0 }) kept_text
+    count has kept_beside refl h in
     record { schema = it.after; sound = it.sound; empty = it.empty; others = it.others }
 
 pub copied : (before : Database) (old new : State) (count : ℕ) → ExecutesInside 0 copy_row_text [] old new (Ok count)

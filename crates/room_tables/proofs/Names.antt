@@ -13,7 +13,7 @@ use Rattle.room_tables.specs.Tables.{room_schema}
 use Rattle.room_tables.specs.Layout.{IsRoomDatabase}
 use Rattle.room_tables.proofs.Texts.{list_names_text, list_names_query}
 use Rattle.room_tables.specs.Rows.{has, shown_node, name_and_kind, listed_of, node_of, records_of, only, seq_stored}
-use Rattle.room_tables.specs.Rows.{kept_of, shown_seq, shown_slot}
+use Rattle.room_tables.specs.Rows.{one_column, kept_of, shown_slot}
 use Rattle.room_tables.specs.Names.{ByName, AreNameRows}
 use Rattle.room_tables.proofs.Children.{are_children}
 use Rattle.room_tables.proofs.Meaning.{list_names_means}
@@ -54,7 +54,8 @@ are_names db p rows room h = (
 -- ---- the number of a slot
 
 pub same_seq : (rows : List Row)
-    → option_map seq_stored (only (map shown_seq rows)) ≡ kept_seq (option_map kept_of (only (map shown_slot rows)))
+    → option_map seq_stored (only (map (one_column 3) rows))
+    ≡ kept_seq (option_map kept_of (only (map shown_slot rows)))
 same_seq [] = refl
 same_seq (r ∷ []) = refl
 same_seq (r ∷ other ∷ rows) = refl

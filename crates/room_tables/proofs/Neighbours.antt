@@ -42,11 +42,11 @@ use Rattle.sqlite.specs.Command.TheVariants.{Update}
 use Rattle.sqlite.specs.Effect.{Database}
 use Rattle.sqlite.specs.State.{State, ExecutesInside}
 use Rattle.room_acl.specs.Entries.{EntryModel, who_text}
-use Rattle.room_tables.specs.Tables.{Layout, entry_table, room_schema, equals}
+use Rattle.room_tables.specs.Tables.{Layout, entry_table, room_schema}
 use Rattle.room_tables.specs.Rows.{has, shown_entry, entries_shown}
 use Rattle.room_tables.specs.Layout.{IsKeyed}
 use Rattle.room_tables.specs.Steps.{type_of, IsReadBack, shown_as, placed, Lists}
-use Rattle.room_tables.proofs.Texts.{over_table}
+use Rattle.room_tables.proofs.Texts.{equals, over_table}
 use Rattle.room_tables.proofs.Meaning.{Means}
 use Rattle.room_tables.proofs.Queries.{and_true}
 use Rattle.room_tables.proofs.Values.{truth_back, has_is, has_value, cast_tied}

@@ -27,9 +27,10 @@ use Rattle.sqlite_rules.proofs.ListLemmas.{all_has, all_from, has_filtered}
 use Rattle.sqlite_rules.proofs.PlaceLemmas.{tied_same}
 use Rattle.sqlite_rules.proofs.ProbeLemmas.{has_mapped}
 use Rattle.sqlite.specs.State.{State, Shown, Begins}
+use Rattle.sqlite_catalog.specs.Listing.{automatic}
 use Rattle.sqlite.specs.Effect.{Database, IsDatabase}
 use Rattle.sqlite.proofs.Callers.{reads_as, begins_as}
-use Rattle.room_tables.specs.Tables.{Layout, room_schema, entry_table, entry_index}
+use Rattle.room_tables.specs.Tables.{Layout, room_schema, entry_table}
 use Rattle.room_tables.specs.Rows.{has, shown_entry, entry_keys, entry_rows}
 use Rattle.room_tables.specs.Layout.{IsKeyed, IsRoomDatabase}
 use Rattle.room_tables.proofs.Texts.{read_entries_text, read_entries_query}
@@ -71,7 +72,7 @@ entry_once l db id x y schema sound keyed in_x in_y p q tie =
     let nodes = tied_equal (column x 1) (column y 1) (has_not_null 1 id x p) (has_not_null 1 id y q)
     (has_tied 1 id x y p q) in
     let places = tied_equal (column x 2) (column y 2) some_x some_y tie in
-    once_by l db entry_table entry_index x y (inr (inl refl)) refl
+    once_by l db entry_table (automatic entry_table 0 (1 ∷ 2 ∷ []) 4) x y (inr (inl refl)) refl
     (all_has _ (db.trees 3) y (rows_pass Unique db l schema sound).entry in_y) in_x (agree_on x y nodes places)
     (all_has _ (db.trees 3) x keyed.ints in_x) (all_has _ (db.trees 3) y keyed.ints in_y)
 

@@ -11,12 +11,13 @@ use Rattle.sqlite_schema.specs.Rules.{agree}
 use Rattle.sqlite_schema.specs.declared.schema.Constraint.TheVariants.{Unique}
 use Rattle.sqlite_rules.specs.Lists.{Has}
 use Rattle.sqlite_rules.proofs.ListLemmas.{all_has}
+use Rattle.sqlite_catalog.specs.Listing.{automatic}
 use Rattle.sqlite.specs.Effect.{Database, IsDatabase}
 use Rattle.sqlite.specs.State.{State, ExecutesInside}
 use Rattle.room_records.specs.declared.session.SessionRow.{SessionRow}
 use Rattle.room_records.specs.declared.change.Change.TheVariants.{PutSession}
 use Rattle.room_records.specs.Changes.{apply_change}
-use Rattle.room_tables.specs.Tables.{Layout, room_schema, session_table, session_index}
+use Rattle.room_tables.specs.Tables.{Layout, room_schema, session_table}
 use Rattle.room_tables.proofs.Texts.{put_session_text}
 use Rattle.room_tables.specs.Rows.{has_text, only, shown_session, session_stored, sessions_in}
 use Rattle.room_tables.specs.Layout.{IsKeyed, IsRoomDatabase}
@@ -39,7 +40,7 @@ pub session_once : (l : Layout) (db : Database) (sid : List ℕ) (x y : Row) →
     → IsDatabase db → IsKeyed (db.trees 6) → Has (db.trees 6) x → Has (db.trees 6) y
     → has_text 1 sid x ≡ true → has_text 1 sid y ≡ true → value_cmp (rowid x) (rowid y) ≡ Equal
 session_once l db sid x y schema sound keyed in_x in_y p q =
-    once_by l db session_table session_index x y (inr (inr (inl refl))) refl
+    once_by l db session_table (automatic session_table 0 (1 ∷ []) 7) x y (inr (inr (inl refl))) refl
     (all_has _ (db.trees 6) y (rows_pass Unique db l schema sound).session in_y) in_x (agree_on sid x y p q)
     (all_has _ (db.trees 6) x keyed.ints in_x) (all_has _ (db.trees 6) y keyed.ints in_y)
 
@@ -94,6 +95,7 @@ steps_session old new row count room h =
         ≡ cond (bytes_eq sid row.sid) (Some row) (sessions_in (old.now.trees 6) sid)
     found sid r fits = elim (cases_Bool (bytes_eq sid row.sid)) [
       | inl same ↦ rw same (ap Some (ap (λ q. session_stored q (shown_session r))
-          ((bytes_eq-Decides sid row.sid).0 same) ∙ ap (λ x. session_stored row.sid (shown_session x)) fits.1 ∙ session_back row fits.0))
+          ((bytes_eq-Decides sid row.sid).0 same)
+          ∙ ap (λ x. session_stored row.sid (shown_session x)) fits.1 ∙ session_back row fits.0))
       | inr differs ↦ rw differs refl
     ]

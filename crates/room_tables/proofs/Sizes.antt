@@ -13,7 +13,7 @@ use Rattle.sqlite_keyed.proofs.ListLemmas.{all-filter}
 use Rattle.sqlite_keyed.proofs.RuleLemmas.{first_of_both, second_of_both}
 use Rattle.sqlite.specs.Effect.{Database, IsDatabase}
 use Rattle.room_tables.specs.Tables.{Layout, room_schema, doc_table}
-use Rattle.room_tables.specs.Rows.{number_in, blob_in, has, only, shown_doc, doc_of, shown_size, size_rows, size_in}
+use Rattle.room_tables.specs.Rows.{number_in, blob_in, has, only, one_column, shown_size, size_rows, size_in}
 use Rattle.room_tables.specs.Rows.{records_of}
 use Rattle.room_tables.specs.Layout.{IsRoomDatabase}
 use Rattle.room_tables.proofs.Each.{rows_pass}
@@ -36,7 +36,8 @@ module _ (l : Layout) (db : Database) where
   sized_row (x ∷ y ∷ v ∷ more) h = sized v (first_of_both _ _ (second_of_both _ _ (first_of_both _ _ h)))
 
   sized_rows : (rows : List Row) → AllByRecursion IsTyped rows
-      → size_in (map shown_size rows) ≡ length (unwrap_or (option_map doc_of (only (map shown_doc rows))) [])
+      → size_in (map shown_size rows)
+      ≡ length (unwrap_or (option_map (λ row. blob_in (column row 0)) (only (map (one_column 2) rows))) [])
   sized_rows [] all = refl
   sized_rows (r ∷ []) all = sized_row r all.0
   sized_rows (r ∷ s ∷ more) all = refl

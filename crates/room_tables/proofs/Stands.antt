@@ -22,7 +22,7 @@ use Rattle.room_acl.specs.Entries.{EntryModel}
 use Rattle.room_records.specs.declared.node.Node.{Node}
 use Rattle.room_records.specs.Records.{Records}
 use Rattle.room_tables.specs.Tables.{has_a_table, room_table, node_table, entry_table, Fresh}
-use Rattle.room_tables.specs.Rows.{number_in, shown_next, shown_version, entry_of, records_of}
+use Rattle.room_tables.specs.Rows.{one_column, number_in, entry_of, records_of}
 use Rattle.room_tables.specs.Rows.{has, only, shown_node, node_of, entries_shown, name_of_text}
 use Rattle.room_tables.specs.Layout.{IsKeyed}
 use Rattle.room_tables.specs.Steps.{IsReadBack, kind_number}
@@ -51,13 +51,10 @@ record AreFree (schema : Schema) : Type 0 where
 
 are_free : (schema : Schema) → has_a_table schema ≡ false → AreFree schema
 are_free schema none =
-    let kept = or_parts _ _ none in
-    let slot = or_parts _ _ kept.0 in
-    let session = or_parts _ _ slot.0 in
-    let doc = or_parts _ _ session.0 in
-    let entry = or_parts _ _ doc.0 in
-    let node = or_parts _ _ entry.0 in
-    record { room = missing _ node.0; node = missing _ node.1; entry = missing _ entry.1 }
+    let room = or_parts _ _ none in
+    let node = or_parts _ _ room.1 in
+    let entry = or_parts _ _ node.1 in
+    record { room = missing _ room.0; node = missing _ node.0; entry = missing _ entry.0 }
 
 abbrev Finds : List ℕ → Table → Type 0
 Finds name o = AllByRecursion (λ (w : Table). same_name w.name name ≡ true → w ≡ o) six
@@ -164,8 +161,8 @@ of_next n =
     record {
       keyed = keyed_alone 1 row refl;
       next = ap (λ b. unwrap_or (option_map (λ r. number_in (column r 0))
-          (only (map shown_next (cond b (row ∷ []) [])))) 0) one;
-      version = ap (λ b. option_map (λ r. column r 0) (only (map shown_version (cond b (row ∷ []) [])))) one;
+          (only (map (one_column 3) (cond b (row ∷ []) [])))) 0) one;
+      version = ap (λ b. option_map (λ r. column r 0) (only (map (one_column 2) (cond b (row ∷ []) [])))) one;
     }
 
 pub fills_next : (old new : State) (n count : ℕ)

@@ -39,8 +39,7 @@ use Rattle.sqlite.specs.Table.{Table}
 use Rattle.sqlite.specs.State.{State, Executes}
 use Rattle.sqlite.proofs.Callers.{runs_as, one_step, one_permutation}
 use Rattle.room_tables.specs.Tables.{Layout, room_schema}
-use Rattle.room_tables.specs.Tables.{equals}
-use Rattle.room_tables.proofs.Texts.{over_table}
+use Rattle.room_tables.proofs.Texts.{equals, over_table}
 use Rattle.room_tables.specs.Layout.{IsKeyed}
 use Rattle.room_tables.proofs.Meaning.{Means}
 use Rattle.room_tables.proofs.Queries.{Picks, passing, answer_is, and_true}

@@ -1,15 +1,14 @@
 -- What was in a database stays beside what is made there.
-use Rattle.std.specs.Prelude.{◌≡◌, ◌≢◌, ℕ, ◌+◌, ◌==◌, List, [], ◌∷◌, ◌++◌, false, if◌then◌else◌}
-use Rattle.std.specs.List.{AllByRecursion, flat_map}
+use Rattle.std.specs.Prelude.{◌≡◌, ◌≢◌, ℕ, ◌==◌, List, [], ◌∷◌, ◌++◌, false, if◌then◌else◌}
+use Rattle.std.specs.List.{AllByRecursion}
 use Rattle.sqlite_value.specs.Order.{Row}
-use Rattle.sqlite.specs.Change.{KeepsRows, automatics}
+use Rattle.sqlite.specs.Change.{KeepsRows}
 use Rattle.sqlite.specs.Does.{lacks_sequence}
 use Rattle.sqlite.specs.Effect.{Database}
 use Rattle.sqlite.specs.Schema.{Schema}
 use Rattle.sqlite.specs.Table.{Table}
-use Rattle.sqlite_schema.specs.declared.schema.Index.{Index}
 use Rattle.sqlite_trees.specs.Tree.{Trees, no_trees}
-use Rattle.room_tables.specs.Tables.{has_a_table, Fresh, room_schema}
+use Rattle.room_tables.specs.Tables.{has_a_table, Fresh, own_indexes, room_schema}
 
 -- a table behind others: its rows lie in none of their trees, and it has no AUTOINCREMENT
 pub record IsApart (others : List Table) (table : Table) : Type 0 where
@@ -28,10 +27,6 @@ AreOurs _ held trees _ = ⊥
 -- missing, the next CREATE TABLE would make it too, among ours.
 abbrev pub HasItsSequence : Schema → Type 0
 HasItsSequence schema = lacks_sequence schema ≡ false
-
--- each table has the index of each UNIQUE and PRIMARY KEY of its own, and no other is there
-abbrev pub own_indexes : List Table → List Index
-own_indexes = flat_map (λ (t : Table). automatics t 0 (t.tree + 1) t.uniques)
 
 -- The tables, indexes and views that were there stand first, as they were, and each table has its rows. Behind them
 -- stand ours with their indexes, and nothing else, where `sqlite_sequence` was not missing.

@@ -2,24 +2,16 @@
 use Rattle.std.specs.Prelude.{◌≡◌, ℕ, pos, false, min, List, [], ◌∷◌, map, IsPermutation}
 use Rattle.std.specs.Ordering.{is_gt}
 use Rattle.sqlite_value.specs.declared.value.Value.TheVariants.{Int}
-use Rattle.sqlite_value.specs.declared.keys.Key.{Key}
 use Rattle.sqlite_value.specs.declared.keys.Collation.TheVariants.{Binary}
 use Rattle.sqlite_value.specs.Keys.{ascending}
 use Rattle.sqlite_value.specs.Order.{Row, column}
 use Rattle.sqlite_trees.specs.Tree.{Trees, IsAscending}
 use Rattle.sqlite_sql.specs.Query.{key_cmp}
-use Rattle.room_tables.specs.Rows.{child_rows, name_and_kind}
-
-abbrev pub name_keys : List Key
-name_keys = ascending Binary ∷ []
-
--- what rows of nodes are sorted by, as they are shown
-abbrev pub name_key : Row → Row
-name_key r = column r 2 ∷ []
+use Rattle.room_tables.specs.Rows.{one_column, child_rows, name_and_kind}
 
 -- the name of the one is not above that of the other
 abbrev pub ByName : Row → Row → Type 0
-ByName a b = is_gt (key_cmp 0 name_keys (name_key a) (name_key b)) ≡ false
+ByName a b = is_gt (key_cmp 0 (ascending Binary ∷ []) (one_column 2 a) (one_column 2 b)) ≡ false
 
 -- these are the names and kinds of a folder's rows, in order of the names
 abbrev pub AreNameRows : Trees → ℕ → List Row → Type 0

@@ -76,6 +76,10 @@ has place number row = equal Binary (column row place) (Int (pos number))
 abbrev pub has_text : ℕ → List ℕ → Row → Bool
 has_text place text row = equal Binary (column row place) (Text text)
 
+-- the value at this place alone
+abbrev pub one_column : ℕ → Row → Row
+one_column place row = column row place ∷ []
+
 -- A row of a table is its rowid and then its columns, so column i has place i + 1. An INTEGER PRIMARY KEY is the rowid,
 -- and its own column holds NULL.
 
@@ -148,17 +152,11 @@ entries_in rows id = map entry_of (entries_shown (filter (has 1 id) rows))
 
 -- ---- doc: tree 5, whose rowid is the node's number
 
-abbrev pub shown_doc : Row → Row
-shown_doc row = column row 2 ∷ []
-
 abbrev pub doc_rows : Trees → ℕ → List Row
-doc_rows db id = map shown_doc (filter (has 0 id) (db 5))
-
-abbrev pub doc_of : Row → List ℕ
-doc_of row = blob_in (column row 0)
+doc_rows db id = map (one_column 2) (filter (has 0 id) (db 5))
 
 abbrev pub documents_in : List Row → ℕ → Option (List ℕ)
-documents_in rows id = option_map doc_of (only (map shown_doc (filter (has 0 id) rows)))
+documents_in rows id = option_map (λ row. blob_in (column row 0)) (only (map (one_column 2) (filter (has 0 id) rows)))
 
 -- how long the bytes are, as SQL's length() tells
 abbrev pub shown_size : Row → Row
@@ -192,15 +190,10 @@ sessions_in rows sid = option_map (session_stored sid) (only (map shown_session 
 
 -- ---- slot: its tree is found by its name in the list of objects, which is one of the trees
 
-abbrev pub is_named : List ℕ → Row → Bool
-is_named name row = is_eq (value_cmp (column row 2) (Text name))
-
--- the tree that a row of the list tells, whose rowid is one above it
-abbrev pub tree_of : Row → ℕ
-tree_of row = number_in (rowid row) - 1
-
+-- the tree that the row of this name tells, whose rowid is one above it
 abbrev pub tree_named : Trees → List ℕ → Option ℕ
-tree_named db name = option_map tree_of (find (is_named name) (filter is_table_row (db catalog_tree)))
+tree_named db name = option_map (λ row. number_in (rowid row) - 1)
+    (find (λ row. is_eq (value_cmp (column row 2) (Text name))) (filter is_table_row (db catalog_tree)))
 
 -- the rows of what slots keep: in `kept`, and where there is none in `slot`
 abbrev pub kept_rows : Trees → List Row
@@ -219,36 +212,26 @@ is_slot sid slot row = has_text 1 sid row && has 2 slot row
 abbrev pub slot_rows : Trees → List ℕ → ℕ → List Row
 slot_rows db sid slot = map shown_slot (filter (is_slot sid slot) (kept_rows db))
 
--- the number alone
-abbrev pub shown_seq : Row → Row
-shown_seq row = column row 3 ∷ []
-
 abbrev pub seq_stored : Row → ℕ
 seq_stored row = number_in (column row 0)
 
 abbrev pub seq_rows : Trees → List ℕ → ℕ → List Row
-seq_rows db sid slot = map shown_seq (filter (is_slot sid slot) (kept_rows db))
+seq_rows db sid slot = map (one_column 3) (filter (is_slot sid slot) (kept_rows db))
 
 abbrev pub slots_in : List Row → List ℕ → ℕ → Option KeptModel
 slots_in rows sid slot = option_map kept_of (only (map shown_slot (filter (is_slot sid slot) rows)))
 
 -- ---- room: tree 0, with one row
 
-abbrev pub shown_next : Row → Row
-shown_next row = column row 3 ∷ []
-
 abbrev pub next_rows : Trees → List Row
-next_rows db = map shown_next (filter (has 0 1) (db 0))
+next_rows db = map (one_column 3) (filter (has 0 1) (db 0))
 
 abbrev pub next_in : List Row → ℕ
 next_in rows =
-    unwrap_or (option_map (λ row. number_in (column row 0)) (only (map shown_next (filter (has 0 1) rows)))) 0
-
-abbrev pub shown_version : Row → Row
-shown_version row = column row 2 ∷ []
+    unwrap_or (option_map (λ row. number_in (column row 0)) (only (map (one_column 3) (filter (has 0 1) rows)))) 0
 
 abbrev pub versions_in : List Row → List Row
-versions_in rows = map shown_version (filter (has 0 1) rows)
+versions_in rows = map (one_column 2) (filter (has 0 1) rows)
 
 abbrev pub version_rows : Trees → List Row
 version_rows db = versions_in (db 0)

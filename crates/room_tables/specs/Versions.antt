@@ -9,7 +9,3 @@ find_version_text = codes "SELECT version FROM room WHERE one = 1"
 -- the rows that it answered have this property
 abbrev pub TellsVersion : State → State → (List Row → Type 0) → Type 0
 TellsVersion old new P = (rows : List Row) × Shown find_version_text [] old new rows × P rows
-
--- and whatever becomes of the connection then, this is what the database says of itself
-abbrev pub SaysVersion : State → (List Row → Type 0) → Type 0
-SaysVersion s P = TellsVersion s s P

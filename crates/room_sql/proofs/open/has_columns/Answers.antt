@@ -1,13 +1,14 @@
 use Rattle.std.proofs.Common.{◌∙◌, ◌+◌, refl, sym, ap, map, ◌&&◌, List, ℕ, Bor, arith}
 use Rattle.std.specs.Prelude.{drop, Bool}
+use Rattle.std.specs.List.{list_all}
 use Rattle.std.proofs.lemmas.List.{at_drop_more, at_drop_all}
 use Rattle.sqlite.specs.Schema.{Schema}
-use Rattle.room_tables.specs.Tables.{has_columns}
+use Rattle.room_tables.specs.Tables.{has_column}
 use Rattle.room_sql.proofs.open.has_columns.Goals as goal
 
 -- what is to be said of the columns from a place on
 abbrev rest : Schema → List ℕ → List (Bor (List ℕ)) → Bool
-rest schema table columns = has_columns schema table (map (λ c. c.now) columns)
+rest schema table columns = list_all (has_column schema table) (map (λ c. c.now) columns)
 
 pub loop-column-init : goal.loop-column-init
 loop-column-init g c = refl

@@ -10,6 +10,6 @@ returns-clause-frame g c =
     c.query_all.ensures.mode c.query_all.ensures.survives
 
 pub returns-clause-asked : goal.returns-clause-asked
-returns-clause-asked g c clean more others schema =
-    IfOk-weaker c.query_all.result _ _ (λ rows h. asks_version more others _ _ rows.items schema h)
+returns-clause-asked g c clean more schema =
+    IfOk-weaker c.query_all.result _ _ (λ rows h. asks_version more _ _ rows.items schema h)
     (c.query_all.ensures.ok clean)

@@ -10,6 +10,6 @@ returns-clause-frame g c =
     c.query_all.ensures.mode c.query_all.ensures.survives
 
 pub returns-clause-rows : goal.returns-clause-rows
-returns-clause-rows g c clean more others schema =
-    IfOk-weaker c.query_all.result _ _ (λ rows h. asks_next more others _ _ rows.items schema h)
+returns-clause-rows g c clean more schema =
+    IfOk-weaker c.query_all.result _ _ (λ rows h. asks_next more _ _ rows.items schema h)
     (c.query_all.ensures.ok clean)

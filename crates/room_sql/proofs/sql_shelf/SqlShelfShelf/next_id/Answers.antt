@@ -1,5 +1,5 @@
 use Rattle.std.proofs.Common.{refl, ◌∙◌, ◌≡◌, Err, ap, not, rules}
-use Rattle.room_tables.specs.Tables.{last_tables, last_indexes}
+use Rattle.room_tables.specs.Tables.{last_tables}
 use Rattle.room_tables.proofs.Queries.{only_permuted}
 use Rattle.room_sql.proofs.Calls.{read, read_err, read_told}
 use Rattle.room_sql.proofs.sql_shelf.SqlShelfShelf.next_id.Goals as goal
@@ -8,7 +8,7 @@ pub returns-clause-value : goal.returns-clause-value
 returns-clause-value g c available laid_out =
     let rows = rw c.in_ok-rows.ensures.ok
     at (c.next_rows-rows.ensures.rows available.0 (last_tables laid_out.0.room.layout)
-    (last_indexes laid_out.0.room.layout) laid_out.0.room.schema) in
+    laid_out.0.room.schema) in
     read _ c.or_fault-2.ensures.ok (λ found is.
     rw is at c.one_number-found.ensures.value ∙ rw (c.as_slice.ensures.value, only_permuted _ _ rows) refl)
 
