@@ -74,7 +74,7 @@ pub session_made : (row : SessionRow) (a b : State) (count : ℕ) → IsRoomData
 session_made row a b count room ran = record {
   steps = steps_session a b row count room ran;
   nodes = (puts_session room.layout a b row.sid row.owner row.slots (flag_of row.is_open) count room.schema
-      room.keyed.session ran.0).put.others.node (omega arith);
+      room.keyed.1.1.1.1.0 ran.0).put.others.node (omega arith);
   entries = tt;
 }
 
@@ -82,7 +82,7 @@ pub slots_dropped : (sid : List ℕ) (a b : State) (count : ℕ) → IsRoomDatab
     → ExecutesInside 0 drop_slots_text (Text sid ∷ []) a b (Ok count) → MakesChange (DropSlots sid) a b
 slots_dropped sid a b count room ran = record {
   steps = steps_drop_slots a b sid count room ran;
-  nodes = (drops_slots room.layout a b sid count room.schema room.keyed.slots ran.0).others.node
+  nodes = (drops_slots room.layout a b sid count room.schema room.keyed.1.1.1.1.1.0 ran.0).others.node
       (omega (arith, above room.layout));
   entries = tt;
 }

@@ -77,7 +77,7 @@ pub row_is_child : (db : Database) (p : ℕ) (r : Row) → IsRoomDatabase db →
 row_is_child db p r room there inside =
     let n = all_has HasNumbers (db.trees 1) r room.numbered there in
     let mine : has 0 n.id r ≡ true = int_has 0 n.id r n.has_id in
-    let keyed = room.keyed.node in
+    let keyed = room.keyed.1.0 in
     let only_row =
     one_row (has 0 n.id) (db.trees 1) r keyed.table there mine (λ a b _ _ x y. has_tied 0 n.id a b x y) in
     let id : number_in (column r 0) ≡ n.id = ap number_in n.has_id in
@@ -128,7 +128,7 @@ shown_once db p id rows room same =
     let all = filter (has 2 p) (db.trees 1) in
     let few : length (filter (has 0 id) (child_rows db.trees p)) ≤ 1 =
     subst (λ l. length l ≤ 1) (sym (filter-map (has 0 id) shown_node all))
-    (elim (found_or_none all id (keyed_filter (has 2 p) (db.trees 1) room.keyed.node))
+    (elim (found_or_none all id (keyed_filter (has 2 p) (db.trees 1) room.keyed.1.0))
     [ inl none ↦ rw none (omega arith) | inr one ↦ rw one.1 (omega arith) ]) in
     omega (arith, few, length_permutation _ _ (IsPermutation-filter (has 0 id) _ _ same))
 

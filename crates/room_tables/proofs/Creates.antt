@@ -27,7 +27,7 @@ use Rattle.room_tables.specs.Steps.{Steps}
 use Rattle.room_records.specs.declared.node.Node.{Node}
 use Rattle.room_records.specs.Records.{Records}
 use Rattle.room_tables.specs.Rows.{records_of, version_rows, IsVersion}
-use Rattle.room_tables.proofs.Each.{by_name, from_both}
+use Rattle.room_tables.proofs.Each.{by_name, from_both, in_turn}
 use Rattle.room_tables.proofs.TreeNames.{slots_listed}
 use Rattle.room_tables.proofs.Making.{Makes, room_makes, node_makes, entry_makes, doc_makes, session_makes, kept_makes}
 use Rattle.room_tables.proofs.Effects.{read_same}
@@ -120,7 +120,8 @@ made_room db it =
         layout = Fresh;
         schema = it.schema;
         listed = listed;
-        keyed = from_both Fresh _ _ _ (λ t is _. subst IsKeyed (sym is) none) e e;
+        keyed = in_turn Fresh _ (from_both Fresh _ _ (λ (t : Table). IsKeyed (db.trees t.tree))
+            (λ t is _. subst IsKeyed (sym is) none) e e);
         numbered = subst (AllByRecursion HasNumbers) (sym e.node) tt;
       },
       read_same no_trees db.trees [] e (listed ∙ e.slots),

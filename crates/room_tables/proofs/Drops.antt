@@ -45,7 +45,7 @@ use Rattle.room_tables.specs.Rows.{has, only, shown_node, node_of, entry_of, ent
 use Rattle.room_tables.specs.Rows.{next_in, sessions_in, slots_in}
 use Rattle.room_tables.specs.Layout.{IsKeyed, HasNumbers, IsRoomDatabase}
 use Rattle.room_tables.specs.Steps.{Steps}
-use Rattle.room_tables.proofs.Each.{of_any, rows_pass, above}
+use Rattle.room_tables.proofs.Each.{of_any, in_turn, rows_pass, above}
 use Rattle.room_tables.proofs.TreeNames.{slots_listed}
 use Rattle.room_tables.proofs.Meaning.{drop_node_means}
 use Rattle.room_tables.proofs.Queries.{answer_is, found, and_true, tidy}
@@ -317,7 +317,7 @@ drops old new id count room h =
     (λ r. rowid r ∷ []) (λ r. and_true (has 0 id r)) (λ r. refl) k in (
       schema,
       w.sound,
-      elim (found_or_none (db 1) id room.keyed.node) [
+      elim (found_or_none (db 1) id room.keyed.1.0) [
         | inl none ↦
             let rows : given.0 ≡ [] =
             nothing _ (subst (λ l. IsPermutation (map (λ r. rowid r ∷ []) l) given.0) none same) in
@@ -346,7 +346,7 @@ drops old new id count room h =
             (ap (map (λ r. rowid r ∷ [])) there.1 ∙ ap (λ v. (v ∷ []) ∷ []) key) same) in
             subst (λ t. Dropped l db t id (without (has 0 id) (db 1))) (sym now)
             (drops_there l db edited_to.0 id there.0
-            given.0 room.keyed.node room.keyed.entry room.keyed.doc there.1 rows edited_to.1)
+            given.0 room.keyed.1.0 room.keyed.1.1.0 room.keyed.1.1.1.0 there.1 rows edited_to.1)
       ],
     )
   where
@@ -357,7 +357,7 @@ drops old new id count room h =
     keyed_there : (r : Row) → filter (has 0 id) (old.now.trees 1) ≡ r ∷ [] → rowid r ≡ Int (pos id)
     keyed_there r only =
         let kept = has_filtered (has 0 id) (old.now.trees 1) r (subst (λ l. Has l r) (sym only) (inl refl)) in
-        has_int id r (all_has _ (old.now.trees 1) r room.keyed.node.ints kept.0) kept.1
+        has_int id r (all_has _ (old.now.trees 1) r room.keyed.1.0.ints kept.0) kept.1
 
 -- ---- the records
 
@@ -373,14 +373,14 @@ steps_drop old new id count room h =
         layout = room.layout;
         schema = done.0;
         listed = listed;
-        keyed = record {
-          room = subst IsKeyed (sym it.room) room.keyed.room;
-          node = subst IsKeyed (sym it.nodes) (keyed_filter (λ r. not (has 0 id r)) (db 1) room.keyed.node);
-          entry = subst IsKeyed (sym it.entries) (keyed_filter (λ r. not (has 1 id r)) (db 3) room.keyed.entry);
-          doc = subst IsKeyed (sym it.docs) (keyed_filter (λ r. not (has 0 id r)) (db 5) room.keyed.doc);
-          session = subst IsKeyed (sym it.sessions) room.keyed.session;
-          slots = subst IsKeyed (sym it.slots) room.keyed.slots;
-        };
+        keyed = in_turn room.layout (λ (t : Table). IsKeyed (new.now.trees t.tree)) (record {
+          room = subst IsKeyed (sym it.room) room.keyed.0;
+          node = subst IsKeyed (sym it.nodes) (keyed_filter (λ r. not (has 0 id r)) (db 1) room.keyed.1.0);
+          entry = subst IsKeyed (sym it.entries) (keyed_filter (λ r. not (has 1 id r)) (db 3) room.keyed.1.1.0);
+          doc = subst IsKeyed (sym it.docs) (keyed_filter (λ r. not (has 0 id r)) (db 5) room.keyed.1.1.1.0);
+          session = subst IsKeyed (sym it.sessions) room.keyed.1.1.1.1.0;
+          slots = subst IsKeyed (sym it.slots) room.keyed.1.1.1.1.1.0;
+        });
         numbered = subst (AllByRecursion HasNumbers) (sym it.nodes)
             (all-filter HasNumbers (λ r. not (has 0 id r)) (db 1) room.numbered);
       };

@@ -1,6 +1,6 @@
 -- Facts of each table that a room is read from.
-use Rattle.std.proofs.Common.{◌≡◌, ◌<◌, true, [], slice_get, Some, refl, subst, arith, sym, ap₂, ◌∙◌, inl, inr, Equal}
-use Rattle.std.proofs.Common.{true≢false, not, ◌&&◌}
+use Rattle.std.proofs.Common.{◌≡◌, ◌<◌, true, [], ◌∷◌, slice_get, Some, refl, subst, arith, sym, ap₂, ◌∙◌, inl, inr}
+use Rattle.std.proofs.Common.{Equal, true≢false, not, ◌&&◌}
 use Rattle.std.specs.List.{AllByRecursion}
 use Rattle.std.proofs.lemmas.Bool.{cases_Bool, not-true, and_from}
 use Rattle.sqlite_value.specs.Order.{Row, value_cmp}
@@ -17,7 +17,7 @@ use Rattle.sqlite_rules.proofs.TableLemmas.{int_is}
 use Rattle.sqlite.specs.Table.{Table}
 use Rattle.sqlite.specs.Effect.{Database, IsDatabase}
 use Rattle.room_tables.specs.Tables.{Layout, Fresh, Upgraded, room_schema, room_table, node_table, entry_table}
-use Rattle.room_tables.specs.Tables.{doc_table, session_table, slots_table, slots_tree, slots_place}
+use Rattle.room_tables.specs.Tables.{doc_table, session_table, slots_table, slots_tree, slots_place, with_last}
 use Rattle.room_tables.specs.Layout.{OfEachTable}
 use Rattle.room_tables.proofs.Values.{same_ids}
 
@@ -48,6 +48,22 @@ by_name l P all = record {
   session = all.1.1.1.1.0;
   slots = slots_among l P all;
 }
+
+-- what is said of the tables that a room is read from, in turn and by their names
+pub of_turn : (l : Layout) (P : Table → Type 0) → AllByRecursion P (with_last (slots_table l ∷ [])).tables
+    → OfEachTable l P
+of_turn l P all = record {
+  room = all.0;
+  node = all.1.0;
+  entry = all.1.1.0;
+  doc = all.1.1.1.0;
+  session = all.1.1.1.1.0;
+  slots = all.1.1.1.1.1.0;
+}
+
+pub in_turn : (l : Layout) (P : Table → Type 0) → OfEachTable l P
+    → AllByRecursion P (with_last (slots_table l ∷ [])).tables
+in_turn l P all = (all.room, (all.node, (all.entry, (all.doc, (all.session, (all.slots, tt))))))
 
 -- what is so of any table
 pub of_any : (l : Layout) (P : Table → Type 0) → ((t : Table) → P t) → OfEachTable l P

@@ -29,7 +29,7 @@ use Rattle.room_tables.specs.Rows.{version_rows, versions_in, IsVersion, session
 use Rattle.room_tables.specs.Rows.{kept_rows, records_of}
 use Rattle.room_tables.specs.Layout.{IsKeyed, HasNumbers, IsRoomDatabase, OfEachTable, parent_value, reply_value}
 use Rattle.room_tables.specs.Steps.{Steps, kind_number}
-use Rattle.room_tables.proofs.Each.{from_both}
+use Rattle.room_tables.proofs.Each.{from_both, in_turn, of_turn}
 use Rattle.room_tables.proofs.TreeNames.{slots_listed}
 use Rattle.room_tables.proofs.Changes.{Leaves, Others}
 use Rattle.room_tables.proofs.Meaning.{change_node_means, change_doc_means}
@@ -138,7 +138,9 @@ steps_left tree old new room it =
         layout = room.layout;
         schema = it.schema;
         listed = listed;
-        keyed = from_both room.layout _ _ _ (λ t keyed is. subst IsKeyed (sym is) keyed) room.keyed same;
+        keyed = in_turn room.layout _ (from_both room.layout _ _ (λ (t : Table). IsKeyed (new.now.trees t.tree))
+            (λ t keyed is. subst IsKeyed (sym is) keyed)
+            (of_turn room.layout (λ (t : Table). IsKeyed (old.now.trees t.tree)) room.keyed) same);
         numbered = subst (AllByRecursion HasNumbers) (sym same.node) room.numbered;
       };
       schema = it.schema ∙ sym room.schema;
@@ -187,7 +189,7 @@ steps_put_node old new node name Met room named done =
     let id : it.id ≡ pos node.id = id_is (sym it.has_id ∙ ap rowid it.fits) in
     let is_numbered : HasNumbers it.row = subst HasNumbers (sym it.fits)
     (record { id = node.id; has_id = refl; parent = node.parent; has_parent = refl }) in
-    steps_at 1 old new room _ (omega arith) done.schema done.sound it.others (keyed_after it room.keyed.node)
+    steps_at 1 old new room _ (omega arith) done.schema done.sound it.others (keyed_after it room.keyed.1.0)
     (subst (AllByRecursion HasNumbers) (sym it.rows) (all-put_row HasNumbers it.row _ is_numbered
     (all-filter HasNumbers (λ r. not (has_rowid it.id r)) (old.now.trees 1) room.numbered))) (λ v. v)
     (same_records _ _ (λ q. filter_put it (λ rows. option_map node_of (only (map shown_node rows))) node.id q id
@@ -208,7 +210,7 @@ pub node_changed : (old new : State) (node : Node) (name : List ℕ) (count : �
 node_changed old new node name count room h =
     changes_row room.layout node_table node.id T.change_node_query.filter T.change_node_query.project _ _
     (node_update room.layout node.id node.parent name (kind_number node.kind) node.owner node.group node.aclflag)
-    old new 1 count T.change_node_text refl (change_node_means room.layout) room.schema room.keyed.node h.0
+    old new 1 count T.change_node_text refl (change_node_means room.layout) room.schema room.keyed.1.0 h.0
 
 pub steps_change_node : (old new : State) (node : Node) (name : List ℕ) (count : ℕ)
     → IsRoomDatabase old.now → name_of_text name ≡ node.name
@@ -262,7 +264,7 @@ steps_put_doc : (old new : State) (id : ℕ) (bytes : Vec ℕ Global) (room : Is
     → PutsDoc room.layout id bytes.items old.now new.now → Steps old new (apply_change (PutDoc id bytes))
 steps_put_doc old new id bytes room done =
     let it = done.put in
-    steps_at 5 old new room _ (omega arith) done.schema done.sound it.others (keyed_after it room.keyed.doc)
+    steps_at 5 old new room _ (omega arith) done.schema done.sound it.others (keyed_after it room.keyed.1.1.1.0)
     room.numbered (λ v. v) (same_records _ _ (λ _. refl) (λ _. refl)
     (λ q. filter_put it (λ rows. option_map (λ row. blob_in (column row 0)) (only (map (one_column 2) rows))) id q
     (id_is (sym it.has_id ∙ ap rowid it.fits))
@@ -276,7 +278,7 @@ doc_changed : (old new : State) (id : ℕ) (bytes : List ℕ) (count : ℕ) (roo
 doc_changed old new id bytes count room h =
     changes_row room.layout doc_table id T.change_doc_query.filter T.change_doc_query.project _ _
     (doc_update room.layout id bytes) old new 3 count T.change_doc_text refl (change_doc_means room.layout)
-    room.schema room.keyed.doc h.0
+    room.schema room.keyed.1.1.1.0 h.0
 
 pub steps_change_doc : (old new : State) (id : ℕ) (bytes : Vec ℕ Global) (count : ℕ) → IsRoomDatabase old.now
     → ExecutesInside 0 T.change_doc_text (doc_params id bytes.items) old new (Ok (suc count))
@@ -344,7 +346,7 @@ sets_put old new n room done beside =
       sound = done.sound;
       beside = beside;
       nodes = it.others.node (omega arith);
-      steps = steps_at 0 old new room _ (omega arith) done.schema done.sound it.others (keyed_after it room.keyed.room)
+      steps = steps_at 0 old new room _ (omega arith) done.schema done.sound it.others (keyed_after it room.keyed.0)
           room.numbered (λ _. version) (same_records _ _ (λ _. refl) (λ _. refl) (λ _. refl)
           (filter_put it (λ rows. unwrap_or (option_map (λ row. number_in (column row 0)) (only
           (map (one_column 3) rows))) 0)
@@ -355,13 +357,13 @@ sets_put old new n room done beside =
 next_changed : (old new : State) (n count : ℕ) (room : IsRoomDatabase old.now)
     → ExecutesInside 0 T.change_next_text (Int (pos n) ∷ []) old new (Ok count)
     → ChangesNext room.layout n count old.now new.now
-next_changed old new n count room h = changes_next room.layout old new n count room.schema room.keyed.room
+next_changed old new n count room h = changes_next room.layout old new n count room.schema room.keyed.0
     h.0
 
 pub change_sets_next : (old new : State) (n count : ℕ) → IsRoomDatabase old.now
     → ExecutesInside 0 T.change_next_text (Int (pos n) ∷ []) old new (Ok (suc count)) → SetsNext old new n
 change_sets_next old new n count room h = sets_put old new n room (next_changed old new n (suc count) room h)
-    (λ s. (changes_next Upgraded old new n (suc count) s room.keyed.room
+    (λ s. (changes_next Upgraded old new n (suc count) s room.keyed.0
     h.0).put.tables.1.1.1.1.1.0 (omega arith))
 
 -- an INSERT alone
@@ -383,7 +385,7 @@ add_sets_next old mid new n count room none one =
       version = b.version;
       sound = b.sound;
       beside = λ s.
-          let same = changes_next Upgraded old mid n 0 s room.keyed.room none.0 in
+          let same = changes_next Upgraded old mid n 0 s room.keyed.0 none.0 in
           b.beside same.leaves.schema ∙ same.tables.1.1.1.1.1.0 (omega arith);
       nodes = b.nodes ∙ left.leaves.others.node (omega arith);
       steps = steps_then a b.steps;

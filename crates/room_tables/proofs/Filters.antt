@@ -24,7 +24,7 @@ use Rattle.sqlite.specs.Effect.{Database, IsDatabase}
 use Rattle.room_tables.specs.Tables.{Layout, room_schema}
 use Rattle.room_tables.specs.Rows.{has, versions_in, kept_rows, IsVersion}
 use Rattle.room_tables.specs.Layout.{IsKeyed, HasNumbers, IsRoomDatabase}
-use Rattle.room_tables.proofs.Each.{from_both, above}
+use Rattle.room_tables.proofs.Each.{from_both, in_turn, of_turn, above}
 use Rattle.room_tables.proofs.TreeNames.{slots_listed}
 use Rattle.room_tables.proofs.Values.{has_is, has_one, int_has}
 use Rattle.room_tables.proofs.Changes.{without, Others}
@@ -189,7 +189,9 @@ still_room tree old new room schema sound others mine numbered = record {
   layout = room.layout;
   schema = schema;
   listed = slots_listed new room.layout sound schema;
-  keyed = from_both room.layout _ _ _ (still_keyed tree old.trees new.trees mine) room.keyed others;
+  keyed = in_turn room.layout _ (from_both room.layout _ _ (λ (t : Table). IsKeyed (new.trees t.tree))
+      (still_keyed tree old.trees new.trees mine)
+      (of_turn room.layout (λ (t : Table). IsKeyed (old.trees t.tree)) room.keyed) others);
   numbered = numbered;
 }
 

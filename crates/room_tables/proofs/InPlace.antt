@@ -182,7 +182,7 @@ lists_front old new id n count front back before place was h =
     let p = passes id (reaches n) in
     let rows = old.now.trees 3 in
     let it = cleared l old new 2 entry_table drop_behind_text (Int (pos id) ∷ Int (pos n) ∷ [])
-    drop_behind_query.filter count p refl was.room.schema was.room.keyed.entry (drop_behind_means l) refl
+    drop_behind_query.filter count p refl was.room.schema was.room.keyed.1.1.0 (drop_behind_means l) refl
     (λ olds. (quiet l 0 olds []).entry) (behind_test id n) h.0 in
     let left : IsPermutation (map shown_entry (filter (has 1 id) (without p rows))) (placed 0 front) =
     subst (λ xs. IsPermutation xs (placed 0 front)) (sym (shown_left id (reaches n) rows))
@@ -190,7 +190,7 @@ lists_front old new id n count front back before place was h =
     (IsPermutation-filter (λ s. not (reaches n s)) _ _ (scattered _ _ was.mine))) in
     relisted before old.now new.now id (front ++ back) front was it.schema it.sound it.others
     (parted IsReadBack front back was.back).0 (record {
-      keyed = subst IsKeyed (sym it.rows_are) (keyed_filter (λ r. not (p r)) rows was.room.keyed.entry);
+      keyed = subst IsKeyed (sym it.rows_are) (keyed_filter (λ r. not (p r)) rows was.room.keyed.1.1.0);
       mine = ap (λ l. entries_shown (filter (has 1 id) l)) it.rows_are ∙ arranged _ front left;
       others = λ q apart. ap (filter (has 1 q)) it.rows_are ∙ others_stay id (reaches n) rows q apart;
     })
@@ -318,7 +318,7 @@ lists_changed old new id at count front back stored e before place reads was h =
     let l = was.room.layout in
     let rows = old.now.trees 3 in
     let gone = without (passes id (stands at)) rows in
-    let keyed = was.room.keyed.entry in
+    let keyed = was.room.keyed.1.1.0 in
     let u = reads_rows l entry_table (passes id (stands at)) change_entry_query.filter change_entry_query.project
     (Int (pos id) ∷ shown_as at e) (λ _. Unit {0}) (entry_update l id at e) old new 2 count change_entry_text refl
     (change_entry_means l) was.room.schema h.0 in

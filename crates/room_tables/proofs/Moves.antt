@@ -7,6 +7,7 @@ use Rattle.std.specs.List.{AllByRecursion}
 use Rattle.sqlite_value.specs.declared.value.Value.TheVariants.{Int}
 use Rattle.sqlite_value.specs.Order.{Row}
 use Rattle.sqlite_trees.specs.Tree.{Trees}
+use Rattle.sqlite.specs.Table.{Table}
 use Rattle.sqlite.specs.Effect.{Database, IsDatabase}
 use Rattle.sqlite.specs.Schema.{Schema}
 use Rattle.sqlite.specs.State.{State, ExecutesInside}
@@ -15,6 +16,7 @@ use Rattle.room_records.specs.declared.change.Change.TheVariants.{PutNext}
 use Rattle.room_records.specs.Changes.{apply_change}
 use Rattle.room_records.specs.Records.{Records}
 use Rattle.room_tables.specs.Tables.{Upgraded, room_schema, first_schema, slots_table, kept_text}
+use Rattle.room_tables.proofs.Each.{in_turn}
 use Rattle.room_tables.proofs.Texts.{copy_row_text, take_row_text}
 use Rattle.room_tables.specs.Rows.{only, kept_of, records_of, version_rows, IsVersion}
 use Rattle.room_tables.specs.Layout.{IsKeyed, HasNumbers, IsRoomOfVersion1, IsRoomOfVersion2}
@@ -89,14 +91,14 @@ all_moved a d out room sound =
         layout = Upgraded;
         schema = it.schema;
         listed = here;
-        keyed = record {
+        keyed = in_turn Upgraded (λ (t : Table). IsKeyed (d.trees t.tree)) (record {
           room = subst IsKeyed (sym o.room) k.0;
           node = subst IsKeyed (sym o.node) k.1.0;
           entry = subst IsKeyed (sym o.entry) k.1.1.0;
           doc = subst IsKeyed (sym o.doc) k.1.1.1.0;
           session = subst IsKeyed (sym o.session) k.1.1.1.1.0;
           slots = it.kept_keyed;
-        };
+        });
         numbered = subst (AllByRecursion HasNumbers) (sym o.node) room.numbered;
       };
       schema = it.schema;

@@ -340,7 +340,7 @@ lists_renewed old new id at last count front gone back a b c d before place end 
     let t = between at last in
     let q = passes id t in
     let left = without q rows in
-    let keyed = was.room.keyed.entry in
+    let keyed = was.room.keyed.1.1.0 in
     let four = a ∷ b ∷ c ∷ d ∷ [] in
     let es = take (length gone) four in
     let long : length es ≡ length gone = length-take-le (length gone) four few in

@@ -154,13 +154,13 @@ lists_stored db id es room mine back = record {
 pub lists_none : (old new : State) (id count : ℕ) → IsRoomDatabase old.now
     → ExecutesInside 0 drop_entries_text (Int (pos id) ∷ []) old new (Ok count) → Lists old.now id [] new.now
 lists_none old new id count room h =
-    let it = drops_entries room.layout old new id count room.schema room.keyed.entry
+    let it = drops_entries room.layout old new id count room.schema room.keyed.1.1.0
     h.0 in
     let o = it.others in
     let rows = λ (q : ℕ). rows_gone entries_shown 1 id q (old.now.trees 3) (new.now.trees 3) it.rows_are in
     record {
       room = still_room 3 old.now new.now room it.schema it.sound o
-          (subst IsKeyed (sym it.rows_are) (keyed_filter (λ r. not (has 1 id r)) (old.now.trees 3) room.keyed.entry))
+          (subst IsKeyed (sym it.rows_are) (keyed_filter (λ r. not (has 1 id r)) (old.now.trees 3) room.keyed.1.1.0))
           (still_numbered 3 old.now new.now room (omega arith) o);
       schema = it.schema ∙ sym room.schema;
       mine = rw (eq-eqb id id refl) at (rows id);
@@ -257,7 +257,7 @@ lists_more text old new id at count es batch before adds place back was h =
     let it = adds was.room.layout old new count was.room.schema h.0 in
     relisted before old.now new.now id es (es ++ batch) was it.schema it.sound it.others
     (all-append IsReadBack es batch was.back back)
-    (all_grown id at es batch (old.now.trees 3) (new.now.trees 3) place was.room.keyed.entry was.mine it.rows)
+    (all_grown id at es batch (old.now.trees 3) (new.now.trees 3) place was.room.keyed.1.1.0 was.mine it.rows)
 
 -- what the records are then
 pub lists_records : (before : Database) (id : ℕ) (es : List EntryModel) (db : Database) → Lists before id es db

@@ -155,7 +155,7 @@ read_begins s id given room sound h =
     let read = begins_as read_entries_text (Int (pos id) ∷ []) s s (room_schema room.layout) room.schema _
     means.0.0 means.0.1 means.1 given h in
     let start = read.1 in
-    (start.0, whole_answer room.layout s.now id room.schema sound room.keyed.entry (given ++ start.0) (start.1 Null))
+    (start.0, whole_answer room.layout s.now id room.schema sound room.keyed.1.1.0 (given ++ start.0) (start.1 Null))
 
 -- and at the end they are all
 pub read_ends : (old new : State) (id : ℕ) (given : List Row) → IsRoomDatabase old.now → IsDatabase old.now
@@ -164,4 +164,4 @@ read_ends old new id given room sound h =
     let means = read_entries_means room.layout in
     let read = reads_as read_entries_text (Int (pos id) ∷ []) old new (room_schema room.layout) room.schema _
     means.0.0 means.0.1 means.1 given h in
-    whole_answer room.layout old.now id room.schema sound room.keyed.entry given (read.answer Null)
+    whole_answer room.layout old.now id room.schema sound room.keyed.1.1.0 given (read.answer Null)

@@ -81,13 +81,13 @@ pub steps_session : (old new : State) (row : SessionRow) (count : ℕ) → IsRoo
     → Steps old new (apply_change (PutSession row))
 steps_session old new row count room h =
     let done = puts_session room.layout old new row.sid row.owner row.slots
-    (flag_of row.is_open) count room.schema room.keyed.session h.0 in
+    (flag_of row.is_open) count room.schema room.keyed.1.1.1.1.0 h.0 in
     let it = done.put in
     let mine : has_text 1 row.sid it.row ≡ true = text_has 1 row.sid it.row (ap (λ (r : Row). column r 1) it.fits.1) in
-    steps_at 6 old new room _ (omega arith) done.schema done.sound it.others (keyed_after it room.keyed.session)
+    steps_at 6 old new room _ (omega arith) done.schema done.sound it.others (keyed_after it room.keyed.1.1.1.1.0)
     room.numbered (λ v. v) (same_records _ _ (λ _. refl) (λ _. refl) (λ _. refl) refl
     (λ sid. filter_session (λ rows. option_map (session_stored sid) (only (map shown_session rows))) room.layout
-    row.sid sid old.now new.now _ it mine done.schema done.sound room.keyed.session ∙ found sid it.row it.fits)
+    row.sid sid old.now new.now _ it mine done.schema done.sound room.keyed.1.1.1.1.0 ∙ found sid it.row it.fits)
     (λ _ _. refl))
   where
     found : (sid : List ℕ) (r : Row) → IsSession row.sid row.owner row.slots (flag_of row.is_open) r

@@ -97,9 +97,9 @@ pub steps_drop_slots : (old new : State) (sid : List ℕ) (count : ℕ) → IsRo
     → ExecutesInside 0 drop_slots_text (Text sid ∷ []) old new (Ok count) → Steps old new (apply_change (DropSlots sid))
 steps_drop_slots old new sid count room h =
     let l = room.layout in
-    let it = drops_slots l old new sid count room.schema room.keyed.slots h.0 in
+    let it = drops_slots l old new sid count room.schema room.keyed.1.1.1.1.1.0 h.0 in
     let keyed = subst IsKeyed (sym it.rows_are)
-    (keyed_filter (λ r. not (has_text 1 sid r)) (old.now.trees (slots_tree l)) room.keyed.slots) in
+    (keyed_filter (λ r. not (has_text 1 sid r)) (old.now.trees (slots_tree l)) room.keyed.1.1.1.1.1.0) in
     let rows : kept_rows new.now.trees ≡ without (has_text 1 sid) (kept_rows old.now.trees) =
     slots_listed new.now l it.sound it.schema ∙ it.rows_are ∙ ap (without (has_text 1 sid)) (sym room.listed) in
     steps_slots old new room _ it.schema it.sound it.others keyed
@@ -140,10 +140,10 @@ steps_put old new row room done =
     let mine = its_slot row it.row it.fits in
     let back : kept_of (shown_slot it.row) ≡ row.kept = ap (λ r. kept_of (shown_slot r)) it.fits.is
     ∙ (λ i. record row.kept { reply = reply_back row.kept.reply i }) in
-    steps_slots old new room _ done.schema done.sound it.others (keyed_after it room.keyed.slots)
+    steps_slots old new room _ done.schema done.sound it.others (keyed_after it room.keyed.1.1.1.1.1.0)
     (same_records _ _ (λ _. refl) (λ _. refl) (λ _. refl) refl (λ _. refl)
     (λ q n. ap (λ rows. slots_in rows q n) (slots_listed new.now l done.sound done.schema)
-    ∙ filter_slot kept_in l row.sid q row.slot n old.now new.now _ it mine done.schema done.sound room.keyed.slots
+    ∙ filter_slot kept_in l row.sid q row.slot n old.now new.now _ it mine done.schema done.sound room.keyed.1.1.1.1.1.0
     ∙ ap₂ (λ kept rows. cond (bytes_eq q row.sid && (n == row.slot)) (Some kept) (slots_in rows q n)) back
     (sym room.listed)))
 
@@ -155,7 +155,7 @@ changes_row : (old new : State) (row : SlotRow) (count : ℕ) (room : IsRoomData
     → ExecutesInside 0 change_slot_text (row_values row) old new (Ok count)
     → ChangesSlot room.layout row count old.now new.now
 changes_row old new row count room h =
-    changes_slot room.layout row old new count room.schema room.keyed.slots h.0
+    changes_slot room.layout row old new count room.schema room.keyed.1.1.1.1.1.0 h.0
 
 -- where it changed rows, the slot's row is put
 pub steps_change_slot : (old new : State) (row : SlotRow) (count : ℕ) → IsRoomDatabase old.now

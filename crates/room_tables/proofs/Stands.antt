@@ -280,6 +280,9 @@ filled_rows root entries nodes list next one of_nodes of_list of_next =
       | inr apart ↦ rw (ne_eqb q 1 apart) (ap (λ l. map entry_of (entries_shown l)) (of_list.others q apart))
     ]) (λ q. refl) of_next.next (λ sid. refl) (λ sid slot. refl)
 
+of_no_row : IsKeyed []
+of_no_row = record { table = tt; ints = tt }
+
 -- a root, its entries and the next number were put into tables that were just made
 pub stands_filled : (root : Node) (entries : Vec EntryModel Global) (made a b c before : Database) → root.id ≡ 1
     → has_a_table before.schema ≡ false → IsBeside six no_trees before made
@@ -299,14 +302,10 @@ stands_filled root entries made a b c before one none was nodes list next sound 
         layout = Fresh;
         schema = refl;
         listed = refl;
-        keyed = record {
-          room = (r.1 whole).keyed;
-          node = (n.1 whole).keyed;
-          entry = (l.1 whole).keyed;
-          doc = record { table = tt; ints = tt };
-          session = record { table = tt; ints = tt };
-          slots = record { table = tt; ints = tt };
-        };
+        keyed = (
+          (r.1 whole).keyed,
+          ((n.1 whole).keyed, ((l.1 whole).keyed, (of_no_row, (of_no_row, (of_no_row, tt))))),
+        );
         numbered = (n.1 whole).numbered;
       };
       version = λ whole. (r.1 whole).version;

@@ -1,5 +1,5 @@
 -- A database that is laid out for the records of a room.
-use Rattle.std.specs.Prelude.{◌≡◌, ℕ, pos, true, List, Option}
+use Rattle.std.specs.Prelude.{◌≡◌, ℕ, pos, true, List, [], ◌∷◌, Option}
 use Rattle.std.specs.List.{AllByRecursion}
 use Rattle.sqlite_value.specs.declared.value.Value.{Value}
 use Rattle.sqlite_value.specs.declared.value.Value.TheVariants.{Int, Blob}
@@ -11,7 +11,7 @@ use Rattle.sqlite.specs.Values.{or_null}
 use Rattle.sqlite.specs.Effect.{Database, IsDatabase}
 use Rattle.sqlite.specs.Schema.{Schema}
 use Rattle.room_tables.specs.Tables.{Layout, room_schema, first_schema, room_table, node_table, entry_table, doc_table}
-use Rattle.room_tables.specs.Tables.{session_table, slots_table, slots_tree}
+use Rattle.room_tables.specs.Tables.{session_table, slots_table, slots_tree, with_last}
 use Rattle.room_tables.specs.Rows.{version_rows, IsVersion, kept_rows}
 
 -- the rowids are integers and rise, so none comes twice
@@ -48,7 +48,8 @@ pub record IsRoomDatabase (db : Database) : Type 0 where
   pub schema : db.schema ≡ room_schema layout
   -- the list of objects names the table of what slots keep
   pub listed : kept_rows db.trees ≡ db.trees (slots_tree layout)
-  pub keyed : OfEachTable layout (λ (t : Table). IsKeyed (db.trees t.tree))
+  -- the tables that a room is read from
+  pub keyed : AllByRecursion (λ (t : Table). IsKeyed (db.trees t.tree)) (with_last (slots_table layout ∷ [])).tables
   pub numbered : AllByRecursion HasNumbers (db.trees 1)
 
 -- the database that has these trees under this layout's schema: where the two are sound, the trees list that schema
