@@ -1,9 +1,9 @@
 -- The parameters of an INSERT of entries.
 use Rattle.std.proofs.Common.{◌≡◌, ◌≤◌, ◌<◌, refl, ◌+◌, ℕ, List, [], ◌∷◌, ◌++◌, length, take, drop, get_or}
-use Rattle.std.proofs.Common.{zero, suc, sym, ap, ap₂, ◌∙◌, arith}
+use Rattle.std.proofs.Common.{sym, ap, ap₂, ◌∙◌, arith}
 use Rattle.std.proofs.Math.Seq.{take-append_seam, drop-append_seam}
 use Rattle.std.proofs.lemmas.List.{map-append, append_assoc, length-append, length-take-le, take-append-drop}
-use Rattle.std.proofs.lemmas.List.{take_more, length-drop}
+use Rattle.std.proofs.lemmas.List.{length-drop}
 use Rattle.sqlite_value.specs.declared.value.ValueRef.{ValueRef}
 use Rattle.sqlite_value.specs.Value.{owned}
 use Rattle.sqlite_value.specs.Order.{Row}
@@ -43,24 +43,7 @@ next_batch place xs rest batch more low is parts =
       omega (arith, long, whole),
     )
 
--- one more element of a list stands in the place of one of another
-next_left : {X : Type 0} (k : ℕ) (xs : List X) (x : X) → k < length xs → x ≡ get_or xs k x
-    → drop k xs ≡ x ∷ drop (suc k) xs
-next_left k [] x low is = absurd (omega arith)
-next_left zero (y ∷ xs) x low is = ap (λ z. z ∷ xs) (sym is)
-next_left (suc k) (y ∷ xs) x low is = next_left k xs x (omega arith) is
-
-pub next_place : {X : Type 0} (k : ℕ) (es st : List X) (e s : X) → k < length es → k < length st
-    → e ≡ get_or es k e → s ≡ get_or st k s → (drop k st ≡ s ∷ drop (k + 1) st)
-    × (take k es ++ e ∷ drop (k + 1) st ≡ take (k + 1) es ++ drop (k + 1) st)
-next_place k es st e s low high p q =
-    let one : suc k ≡ k + 1 = omega arith in (
-      next_left k st s high q ∙ ap (λ n. s ∷ drop n st) one,
-      sym (append_assoc (take k es) (e ∷ []) (drop (k + 1) st))
-          ∙ ap (λ l. l ++ drop (k + 1) st) (ap (λ x. take k es ++ x ∷ []) p ∙ sym (take_more es k e low)),
-    )
-
--- the same of some elements at once, which are taken from one list and stand in the place of as many of another
+-- some elements at once are taken from one list, and stand in the place of as many of another
 pub next_few : {X : Type 0} (k n m : ℕ) (es st : List X) → m ≡ n → k + n ≤ length es → k + n ≤ length st
     → (length (take n (drop k st)) ≡ length (take m (drop k es)))
     × (drop k st ≡ take n (drop k st) ++ drop (k + n) st)

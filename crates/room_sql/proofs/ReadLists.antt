@@ -1,6 +1,6 @@
 -- Lists that are kept, after calls.
 use Rattle.std.specs.declared.alloc.Global.{Global}
-use Rattle.std.proofs.Common.{◌≡◌, ◌≢◌, ◌∙◌, ◌⊎◌, ℕ, true, false, cond, List, [], Option, None, Some, Vec, Result, Ok}
+use Rattle.std.proofs.Common.{◌≡◌, ◌≢◌, ◌∙◌, ◌⊎◌, ℕ, cond, List, Option, None, Some, Vec, Result, Ok}
 use Rattle.std.proofs.Common.{Err, OnOk, OnErr, inl, inr, sym, ap, subst, subst₂, eq-eqb}
 use Rattle.std.specs.BTreeMap.{BTreeMap, Updates, IsUnchanged, is_at}
 use Rattle.std.specs.Cmp.{unsigned_tied}
@@ -21,11 +21,6 @@ Kept = List (ℕ × Vec EntryModel Global)
 abbrev Are : Kept → Trees → Type 0
 Are kept trees = (id : ℕ) (list : Vec EntryModel Global) → row_at nat_cmp kept id ≡ Some list
     → IsStored id list.items trees
-
-pub none_stored : (kept : Kept) (trees : Trees) → kept ≡ [] → Are kept trees
-none_stored kept trees none = λ id list held.
-    let bad : ◌≡◌ {A = Option (Vec EntryModel Global)} None (Some list) =
-    sym (ap (λ (rows : Kept). row_at nat_cmp rows id) none) ∙ held in absurd cc
 
 -- what is at a number where something was put, or taken
 at_number : (id k : ℕ) (was put : Option (Vec EntryModel Global)) (list : Vec EntryModel Global)

@@ -3,16 +3,16 @@ use Rattle.std.proofs.Common.{◌≡◌, ◌∙◌, ℕ, List, [], ◌∷◌, op
 use Rattle.std.proofs.Common.{true, false, true≢false, IsTrue}
 use Rattle.sqlite_value.specs.Order.{Row, column}
 use Rattle.sqlite_trees.specs.Tree.{Trees}
-use Rattle.sqlite_schema.specs.Names.{same_name}
 use Rattle.sqlite.specs.Table.{Table}
 use Rattle.sqlite.specs.Effect.{Database}
 use Rattle.sqlite.specs.State.{State, Shown}
-use Rattle.room_tables.specs.Tables.{Layout, Fresh, Upgraded, with_last, room_schema, first_schema, last_tables}
+use Rattle.room_tables.specs.Tables.{Layout, with_last, room_schema, first_schema, last_tables}
 use Rattle.room_tables.specs.Tables.{slot_table, has_room, has_first_room}
 use Rattle.room_tables.specs.Rows.{only, number_in, next_rows, IsVersion, records_of}
 use Rattle.room_tables.specs.Layout.{IsRoomOfVersion1}
 use Rattle.room_tables.specs.Versions.{find_version_text, TellsVersion}
 use Rattle.room_tables.specs.Upgrade.{IsUpgraded, MayBeUpgraded, MayBeMovedWith}
+use Rattle.room_tables.proofs.Meaning.{room_has_room, first_has_first, first_has_no_kept}
 use Rattle.room_tables.proofs.Selects.{find_version_selects}
 use Rattle.room_tables.proofs.Asks.{told_version, told_another}
 use Rattle.room_tables.proofs.Queries.{only_permuted, shown_still}
@@ -45,24 +45,11 @@ says old new rows P shown p = (rows, shown_still find_version_text [] old new ro
 
 -- ---- the version and the tables
 
-has_of : (l : Layout) → has_room (room_schema l) ≡ true
-unfolding same_name
-has_of Fresh = refl
-has_of Upgraded = refl
-
-no_kept : has_room first_schema ≡ false
-unfolding same_name
-no_kept = refl
-
-has_slot : has_first_room first_schema ≡ true
-unfolding same_name
-has_slot = refl
-
 not_both : (s : State) (l : Layout) → has_room s.now.schema ≡ false → s.now.schema ≡ room_schema l → ⊥
-not_both s l none is = true≢false (sym (has_of l) ∙ sym (ap has_room is) ∙ none)
+not_both s l none is = true≢false (sym (room_has_room l) ∙ sym (ap has_room is) ∙ none)
 
 not_first : (s : State) → IsTrue (has_room s.now.schema) → s.now.schema ≡ first_schema → ⊥
-not_first s has is = true≢false (sym has ∙ ap has_room is ∙ no_kept)
+not_first s has is = true≢false (sym has ∙ ap has_room is ∙ first_has_no_kept)
 
 pub second_version : (old new : State) → IsTrue (has_room old.now.schema) → TellsVersion old new (IsVersion 2)
     → HasItsVersion old
@@ -94,5 +81,5 @@ no_first_version old new none told = record {
 pub no_version : (s : State) → has_room s.now.schema ≡ false → has_first_room s.now.schema ≡ false → HasAnotherVersion s
 no_version s none empty = record {
   second = λ l is. absurd (not_both s l none is);
-  first = λ is. absurd (true≢false (sym has_slot ∙ sym (ap has_first_room is) ∙ empty));
+  first = λ is. absurd (true≢false (sym first_has_first ∙ sym (ap has_first_room is) ∙ empty));
 }

@@ -28,7 +28,7 @@ use Rattle.sqlite_rules.specs.Action.{Writes, action_edit}
 use Rattle.sqlite_rules.proofs.ListLemmas.{all_has, some_has, has_kept, has_filtered}
 use Rattle.sqlite_rules.proofs.PlaceLemmas.{row_at_is}
 use Rattle.sqlite_keyed.proofs.RuleLemmas.{first_of_both}
-use Rattle.sqlite_keyed.proofs.ListLemmas.{filter_all, all_weaker, all-filter}
+use Rattle.sqlite_keyed.proofs.ListLemmas.{all_weaker, all-filter}
 use Rattle.sqlite.specs.Rowids.TheVariants.{Given}
 use Rattle.sqlite.specs.Table.{Table}
 use Rattle.sqlite.specs.Effect.{Database, IsDatabase}

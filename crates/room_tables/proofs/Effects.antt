@@ -399,14 +399,6 @@ pub steps_more : (old mid new : State) (changes more : List Change) (change : Ch
 steps_more old mid new changes more change is a b = subst (Steps old new)
     (λ i r. (sym (changes_then changes change r) ∙ ap (λ cs. apply_changes cs r) (sym is)) i) (steps_then a b)
 
--- the same, with the parameters as they are given
-pub steps_add_node_at : (old new : State) (node : Node) (name : List ℕ) (params : Row) (count : ℕ)
-    → IsRoomDatabase old.now → name_of_text name ≡ node.name → params ≡ params_of_node node name
-    → ExecutesInside 0 T.add_node_text params old new (Ok count) → Steps old new (apply_change (PutNode node))
-steps_add_node_at old new node name params count room named params_are h =
-    steps_add_node old new node name count room named
-    (subst (λ p. ExecutesInside 0 T.add_node_text p old new (Ok count)) params_are h)
-
 -- a parent's number is bound as it is
 pub bound_parent : (p : Option ℕ) → bound_value (parent_value p) ≡ parent_value p
 bound_parent None = refl

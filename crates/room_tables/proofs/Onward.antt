@@ -9,7 +9,7 @@ use Rattle.sqlite_resolve.specs.declared.error.CompileError.{CompileError}
 use Rattle.sqlite.specs.Clock.{timed}
 use Rattle.sqlite.specs.Effect.{Database, RefusesToRead}
 use Rattle.sqlite.specs.Listing.{understood, reads_listing, IsSourceOf}
-use Rattle.sqlite.specs.State.{State, Survives, Begins, FailsToQuery, FailsToShow, IsStatement, IsNotRun, IsUnchanged}
+use Rattle.sqlite.specs.State.{State, Survives, FailsToQuery, FailsToShow, IsStatement, IsNotRun, IsUnchanged}
 use Rattle.sqlite.specs.declared.error.Error.{Error}
 use Rattle.sqlite.specs.Held.{Held, state}
 use Rattle.sqlite.specs.Given.{HasGiven, HasBegun, Returns}
@@ -41,13 +41,6 @@ module _ (sql : List ℕ) (params : Row) (a b : State) (same : IsUnchanged a b) 
   source_from : (db : Database) → IsSourceOf (reads_listing b.now.schema sql) b.now db
       → IsSourceOf (reads_listing a.now.schema sql) a.now db
   source_from db = subst (λ (d : Database). IsSourceOf (reads_listing d.schema sql) d db) same.0.now_is
-
--- what begins an answer later begins one from the first
-pub begins_from : (sql : List ℕ) (params : Row) (a b : State) (rows : List Row)
-    → IsUnchanged a b → Begins sql params b rows → Begins sql params a rows
-unfolding Begins
-begins_from sql params a b rows same h =
-    (h.0, statement_from sql params a b same h.0 h.1, h.2, h.3, source_from sql params a b same h.3 h.4, h.5)
 
 -- a query that fails later fails as seen from the first
 pub fails_on : (sql : List ℕ) (params : Row) (a b c : State) (P : Trees → Type 0) (e : Error)

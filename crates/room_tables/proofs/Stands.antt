@@ -240,17 +240,7 @@ over : (new old other : List Row) (d : Bool) → cond d new (cond d old other) �
 over new old other true = refl
 over new old other false = refl
 
--- none, and some more behind some
-pub fills_none : (tree : ℕ) (A : List Row → Type 0) (a : Database) → Fills tree A A a a
-fills_none tree A a before held none had was =
-    (held tree, had, subst (λ h. IsBeside six h before a) (λ i n. same n i) was)
-  where
-    same : (n : ℕ) → held n ≡ with_rows tree (held tree) held n
-    same n = elim (cases_eq n tree) [
-      | inl is ↦ ap held is ∙ sym (ap (λ d. cond d (held tree) (held n)) (eq-eqb n tree is))
-      | inr apart ↦ sym (ap (λ d. cond d (held tree) (held n)) (ne_eqb n tree apart))
-    ]
-
+-- some rows, and some more behind them
 fills_then : (tree : ℕ) (A B C : List Row → Type 0) (a b c : Database) → Fills tree A B a b → Fills tree B C b c
     → Fills tree A C a c
 fills_then tree A B C a b c first next before held none had was =
