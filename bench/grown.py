@@ -2,7 +2,7 @@
 
 They lie below `/p/g0/f0`, `/p/g0/f1` and so on, at a greater depth with more folders `p` above. At depth 1 some lie at
 the root, as many as are asked for, and some in folders there, which are listed; the others below `/p`. Each object has
-the list that the root hands down, of which the last entry, or the first, decides and the others are somebody else's.
+the list that the root hands down, of which the last entry decides and the others are somebody else's.
 """
 import contextlib
 import os
@@ -24,7 +24,6 @@ class Shape(NamedTuple):
     depth: int = 4
     size: int = 10
     length: int = 4
-    is_last: bool = True  # whether the last entry of a list decides, or the first
     letters: int = 0  # of a document's name, at least
 
 
@@ -39,7 +38,7 @@ class Grown:
             for n in range(FOLDERS_THERE):
                 self.filled(self.node(1, f"l{n}", 1), f"/l{n}", shape.size)
         self.below((shape.objects - sum(len(paths) for _, paths in self.folders)) // shape.size)
-        self.put(shape.length - 1, shape.length - 1 if shape.is_last else 0)
+        self.put(shape.length - 1)
         self.listed = [path for path, _ in self.folders if path]
         if shape.depth == 1:
             self.listed, self.folders = self.listed[:FOLDERS_THERE], self.folders[:1]
@@ -65,15 +64,15 @@ class Grown:
         for name in names:
             self.node(parent, name, 0)
 
-    def put(self, last, place):
-        """Writes the rows into the file, with lists of entries up to the last, of which the one at a place decides."""
+    def put(self, last):
+        """Writes the rows into the file, with lists of entries up to the last, which decides."""
         with contextlib.closing(sqlite3.connect(self.room.db)) as db, db:
             db.executemany("INSERT INTO node VALUES (?, ?, ?, ?, ?, ?, ?)", self.nodes)
             db.execute("INSERT INTO doc SELECT id, randomblob(1024) FROM node WHERE kind = 0")
             db.execute("DELETE FROM entry")
             db.execute(f"""WITH RECURSIVE p(n) AS (SELECT 0 UNION ALL SELECT n + 1 FROM p WHERE n < {last})
                 INSERT INTO entry SELECT id, n, 0, iif(id = 1, {AT_ROOT}, iif(kind, {FOLDERS_PART}, {FILES_PART})),
-                {EVERYTHING}, iif(n = {place}, 'EVERYONE@', 'nobody') FROM node CROSS JOIN p""")
+                {EVERYTHING}, iif(n = {last}, 'EVERYONE@', 'nobody') FROM node CROSS JOIN p""")
             db.execute(f"UPDATE room SET next = {len(self.nodes) + 2}")
 
     @contextlib.contextmanager
