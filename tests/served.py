@@ -117,6 +117,15 @@ def findings_of(db):
     return found[1:] if found[:1] == [("ok",)] else found
 
 
+def put_version_1(db, owner="ann", group="eng"):
+    """Makes a fresh room of version 1, by the statements of tests/upgrade."""
+    lines = text_of(os.path.join(HERE, "upgrade", "version1.sql")).splitlines(keepends=True)
+    rows = f"""INSERT INTO room VALUES (1, 1, 2); INSERT INTO node VALUES (1, NULL, '', 1, '{owner}', '{group}', 0);
+INSERT INTO entry VALUES (1, 0, 0, 3, 2033663, 'OWNER@'), (1, 1, 0, 3, 1179817, 'GROUP@');"""
+    with contextlib.closing(sqlite3.connect(db)) as table:
+        table.executescript("".join(it for it in lines if it.startswith("CREATE TABLE ")) + rows)
+
+
 def text_of(path):
     with open(path, encoding="utf-8") as file:
         return file.read()
