@@ -5,7 +5,7 @@ import time
 
 from room_client import files
 from counter import Counter, stop
-from test_refusals import EXCLUSIVE
+from test_refusals import EXCLUSIVE, tag_of
 
 SHARE = 0.3  # of requests to the room that something happens to
 FILES = 30
@@ -29,7 +29,11 @@ class Lossy(Counter):
             self.assertEqual(sorted(self.names("ann", folder)), [f"/dav/plans{folder}/", f"/dav/plans{folder}/b"])
         self.does("ann", "PUT", "/large", 201, large)
         self.does("ann", "PUT", "/large", 204, iter([large[:0:-1], large[:1]]))  # (in chunks)
-        self.assertEqual(self.does("ann", "GET", "/large", 200).body, large[::-1])
+        got = self.does("ann", "GET", "/large", 200)
+        self.assertEqual((got.body, got.fields["etag"]), (large[::-1], tag_of(large[::-1])))
+        self.assertEqual(self.names("ann", "/large"), ["/dav/plans/large"])
+        self.does("ann", "MKCOL", "/large/inside", 409)
+        self.does("ann", "GET", "/large/.room-file", 404)
         self.loser.share = 0.0
         self.assertTrue(all(self.loser.lost.values()), self.loser.lost)
         with self.room("ann") as room:

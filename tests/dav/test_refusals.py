@@ -4,7 +4,6 @@ import os
 import socket
 import subprocess
 
-from room_client import files
 from counter import ANNS, BOB_READS, BOB_WRITES, HERS, PASSWORDS, Counter, make_folders
 
 LOCKINFO = (b'<?xml version="1.0"?><D:lockinfo xmlns:D="DAV:"><D:lockscope><D:%s/></D:lockscope><D:locktype><D:write/>'
@@ -114,6 +113,7 @@ class Refusals(Counter):
         self.does("ann", "PUT", "/.room-file", 403, b"x")
         self.does("ann", "GET", "/" + "n" * 65, 404)
         self.does("ann", "PUT", "/a" * 17, 403, b"x")
+        self.does("ann", "PUT", "/a", 413, b"", Content_Length="99999999999")
         self.does("ann", "PUT", "/dav/plans/%ff", 400, b"x", raw=True)
         self.does("ann", "DELETE", "/", 403)
         for path in "/dav/plans/a/%2e%2e/both", "/dav/plans/./both", "/dav/plans/../plans/both":
@@ -187,11 +187,6 @@ class Refusals(Counter):
         self.does("ann", "PUT", "/odd", 400, b"x", If="(<a")
         self.does("ann", "PUT", "/odd", 400, b"x", If="(<a>)" * 200)
 
-    def test_sizes(self):
-        self.does("ann", "PUT", "/sixteen", 413, b"x" * (1 << 24) + b"y")
-        self.does("ann", "PUT", "/sixteen", 413, b"", Content_Length="99999999999")
-        self.does("ann", "GET", "/sixteen", 404)
-
     def test_a_body_of_a_length_that_is_not_told(self):
         """Finder sends such, and curl from a pipe. (What is iterated http.client sends in chunks.)"""
         large = os.urandom(200_000)
@@ -240,44 +235,6 @@ class Refusals(Counter):
             self.assertEqual(room.stat("/both/letter")["owner"], "ann")
             self.assertEqual(room.get_list("/both/letter"), before)
             self.assertNotIn("letter.new", room.children("/both"))
-
-    def test_large_files_are_files(self):
-        first, second = os.urandom(200_000), os.urandom(70_001)
-        self.does("ann", "PUT", "/both/large", 201, first)
-        self.assertEqual(self.does("bob", "GET", "/both/large", 200).fields["etag"], tag_of(first))
-        with self.room("ann") as room:
-            self.assertEqual(files.read(room, "/both/large"), first)
-            files.write(room, "/both/large", second)
-        self.assertEqual(self.does("bob", "GET", "/both/large", 200).body, second)
-        self.assertIn("/dav/plans/both/large", self.names("bob", "/both"))
-        self.assertEqual(self.names("bob", "/both/large"), ["/dav/plans/both/large"])
-        self.does("ann", "PUT", "/both/large/inside", 409, b"x")
-        self.does("ann", "MKCOL", "/both/large/inside", 409)
-        self.does("ann", "GET", "/both/large/.room-file", 404)
-        self.does("ann", "PUT", "/both/large", 204, b"small again")
-        self.does("bob", "COPY", "/both/large", 201, Destination="/both/large2")
-        self.assertEqual(self.does("ann", "GET", "/both/large2", 200).body, b"small again")
-        self.does("ann", "DELETE", "/both/large", 204)
-        self.assertNotIn("/dav/plans/both/large", self.names("bob", "/both"))
-
-    def test_trash(self):
-        with self.room("ann") as room:
-            room.mkdir("/trash")
-            room.mkdir("/trash/ann")
-            room.set_list("/trash/ann", 3, [HERS])
-        self.does("ann", "PUT", "/both/gone", 201, b"g")
-        self.does("ann", "DELETE", "/both/gone", 204)
-        self.does("ann", "PUT", "/both/.~lock.a.odt#", 201, b"g")
-        self.does("ann", "DELETE", "/both/.~lock.a.odt#", 204)
-        with self.room("ann") as room:
-            found = list(room.children("/trash/ann"))
-            self.assertEqual([it[:10] for it in found], ["gone~both~"])
-            room.set_list("/trash/ann", 3, [HERS, BOB_READS])
-        self.does("ann", "PUT", "/both/stays", 201, b"g")
-        self.assertIn("trash", self.does("ann", "DELETE", "/both/stays", 403).body.decode())
-        with self.room("ann") as room:
-            self.assertIn("stays", room.children("/both"))
-            files.remove_all(room, "/trash/ann")
 
     # Locks
 
