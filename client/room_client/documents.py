@@ -133,7 +133,7 @@ def long_lines(room: Room, asked, path: str, seen: dict[str, str], large: dict) 
         rows.append({"name": name, "kind": seen[name], "size": size, "whose": whose})
     if asked.json:
         return show(asked, rows, "")
-    sizes = [f"{it['size']} inside" if it["kind"] == FOLDER else str(it["size"]) for it in rows]
+    sizes = [("?" if it["size"] is None else str(it["size"])) + " inside" * (it["kind"] == FOLDER) for it in rows]
     wide, wider = (max(map(len, its), default=0) for its in (sizes, [it["whose"] for it in rows]))
     lines = [f"{size:>{wide}}  {it['whose']:{wider}}  {shown(it['name'])}" + "/" * (it["kind"] == FOLDER)
              for it, size in zip(rows, sizes)]
