@@ -50,25 +50,7 @@ class Behind(Desk):
         return sorted(it.rpartition("-")[0] for it in room.children(path) if it != manifest.NAME)
 
 
-class Who(Behind):
-    def test_groups_of_the_front(self):
-        """A user has the groups of the room's roster, as the front tells it."""
-        with self.room() as room:
-            room.set_list("/", 1, [{"flag": 0x43, "mask": 0x1200AF, "type": 0, "who": "staff"},
-                                   {"flag": 3, "mask": 0x1F07FF, "type": 0, "who": "OWNER@"},
-                                   {"flag": 0, "mask": 1, "type": 0, "who": "bob"}])
-        self.prints("who", "/", want="ann (owner)   all\nbob           edit\ngroup:eng     none\ngroup:staff   edit\n"
-                    "anybody else  none\n")
-
-
 class Sizes(Behind):
-    def test_a_large_one_is_told_as_a_file(self):
-        self.file("in", some(PIECE + 1, 1))
-        self.prints("put", "in", "/a", want="/a: 65537 bytes\n")
-        self.prints("stat", "/a", want="file, 65537 bytes in 2 pieces, owner ann, group eng, list flags auto-inherit\n")
-        self.prints("ls", "-l", want="65537  ann:eng  a\n")
-        self.prints("get", "/a", "out", want="65537 bytes to out\n")
-
     def test_of_one_that_is_too_large_nothing_is_sent(self):
         self.file("in", some(MOST + 1, 1))
         self.prints("ls", want="")
@@ -76,19 +58,6 @@ class Sizes(Behind):
         self.refuses("put", "in", "/bigger", want="FBIG (9) at /bigger: a file has at most 16 MiB (16,777,216 bytes): "
                      "split it; nothing was sent")
         self.assertEqual(self.front.passed, passed)
-
-    def test_what_is_there_is_not_taken(self):
-        self.file("in", some(PIECE + 1, 1))
-        self.prints("mkdir", "/d", want="/d: made\n")
-        folder = "ISDIR (3) at /d: a document is needed, and a folder is there: correct the path"
-        self.refuses("put", "in", "/d", want=folder)
-        self.prints("put", "in", "/d/", want="/d/in: 65537 bytes\n")
-        self.refuses("put", "in", "/d", want=folder)
-        self.refuses("put", "--new", "in", "/d/in",
-                     want="EXIST (4) at /d/in: something is there already: choose another name, or remove it first")
-        deep = "/" + "/".join("d" * 15)
-        self.refuses("put", "in", deep, want=f"TOO_DEEP (10) at {deep}: a path has at most 16 names, and a large file "
-                     "takes two of them: move it higher")
 
 
 class Shown(Behind):
@@ -106,23 +75,6 @@ class Shown(Behind):
             self.assertTrue(said.endswith("\r\033[K"), said)
         os.close(main)
         os.close(terminal)
-
-    def test_what_is_left_of_an_upload_is_told(self):
-        left = ".room-writing-0123456789abcdef"
-        with self.room() as room:
-            for path in ("/a", f"/a/{left}", "/.room-gone-0123456789abcdef"):
-                room.mkdir(path)
-            room.create(f"/a/{left}/000", b"x")
-        was_left = "/.room-gone-0123456789abcdef was left by an upload that was stopped, or is under way"
-        self.assertEqual(self.does("ls"), (0, "a/\n", f"room: {was_left}\n"))
-        self.prints("stat", "/a", want="unfinished upload, owner ann, group eng, list flags auto-inherit\n")
-        data = some(PIECE + 1, 1)
-        self.file("in", data)
-        cleared = "room: /a: an upload was stopped here, or is under way: what it left is cleared\n"
-        self.assertEqual(self.does("put", "in", "/a"), (0, "/a: 65537 bytes\n", cleared))
-        with self.behind() as room:
-            self.assertEqual(files.read(room, "/a"), data)
-            self.assertEqual(self.parts(room, "/a"), [".room-pieces"])
 
 
 class Damaged(Behind):
@@ -147,7 +99,6 @@ class Damaged(Behind):
         with self.room() as room:
             room.write(f"{self.at}/001", bytes(PIECE))
         self.told_damaged()
-
 
 
 class Writers(Behind):
@@ -220,7 +171,6 @@ class Writers(Behind):
                     files.write(room, "/a", mine)
             self.assertEqual(files.read(room, "/a"), b"theirs")
             self.assertEqual(list(room.children("/")), ["a"])
-
 
 
 class Stopped(Behind):
@@ -451,31 +401,6 @@ class Slots(Behind):
 
 
 class Kept(Behind):
-    """A large file in the place of a document is nobody else's, and nobody else reads it."""
-
-    def test_rights_and_owner_by_command(self):
-        data = some(PIECE + 1, 1)
-        self.file("in", data)
-        self.prints("put", "in", "/a", want="/a: 65537 bytes\n")
-        with self.behind() as room:
-            room.set_list("/", 0, [{"flag": 3, "mask": 0x1F07FF, "type": 0, "who": "OWNER@"},
-                                   {"flag": 0, "mask": 0x21, "type": 0, "who": "bob"}])
-        self.prints("acl", "/a", "add", "allow bob read", want="/a: list set\n")
-        with self.room(user="bob") as bob:
-            self.assertEqual(files.read(bob, "/a"), data)
-        self.prints("acl", "/a", "add", "allow bob read", want="/a: that is there already, and nothing was set\n")
-        self.prints("acl", "/a", "add", "allow zoe read", want="/a: list set\n")
-        self.prints("acl", "/a", "drop", "allow zoe read", want="/a: list set\n")
-        self.prints("acl", "/a", want="# /a: large file of owner ann and group eng\nflags auto-inherit\n"
-                    "allow bob read,execute inherit\nallow OWNER@ all inherit inherited\n")
-        self.refuses("acl", "/a", "drop", "allow zoe read", status=2,
-                     want="the list has no entry of its own 'allow zoe list': nothing was set")
-        self.prints("acl", "/a", "set", want="/a: list set\n")
-        self.prints("chown", "bob:staff", "/a", want="/a: owner bob, group staff\n")
-        with self.room(user="bob") as bob:
-            self.assertEqual(files.read(bob, "/a"), data)
-        self.assertEqual(self.does("get", "/a")[:2], (1, ""))
-
     def test_one_document(self):
         """In the words of its list, and in who may do what: there with what its pieces are handed."""
         self.file("in", some(PIECE + 1, 1))

@@ -2,7 +2,6 @@
 import json
 import os
 import re
-import stat
 import sys
 import tempfile
 from unittest import mock
@@ -41,43 +40,6 @@ class Trees(Behind):
                     found[os.path.relpath(os.path.join(at, it), self.path(top))] = file.read()
         return found
 
-    def test_there_and_back(self):
-        self.prints("put", "-r", "photos", "/album", want="/album/2026/June/b.txt: 1 bytes\n"
-                    "/album/2026/lake.jpg: 65537 bytes\n/album/a.txt: 1 bytes\n")
-        self.prints("ls", "-l", "/album", want="2 inside  ann:eng  2026/\n       1  ann:eng  a.txt\n"
-                    "0 inside  ann:eng  empty/\n")
-        self.prints("find", "/", "B.T", want="/album/2026/June/b.txt\n")
-        self.prints("find", "/album", "*.[jt]*", want="/album/2026/June/b.txt\n/album/2026/lake.jpg\n/album/a.txt\n")
-        self.prints("find", "/", "June", want="/album/2026/June/\n")
-        self.assertEqual(self.does("get", "-r", "/album", "back")[0], 0)
-        self.assertEqual(self.here("back"), self.here("photos"))
-        self.assertEqual(self.does("cp", "-r", "/album", "/other")[0], 0)
-        self.assertEqual(self.does("get", "-r", "/other")[0], 0)
-        self.assertEqual(self.here("other"), self.here("photos"))
-        for words in (["-r", "/album", "/album/2026/x"], ["-r", "/", "/x"], ["/album/a.txt", "/album/"]):
-            path = words[-2]
-            self.refuses("cp", *words, want=f"INVAL (7) at {path}: nothing is copied into itself: correct the path")
-        self.assertEqual(self.does("get", "-r", "/", "all")[0], 0)
-        self.assertEqual(sorted(os.listdir(self.path("all"))), ["album", "other"])
-        full = "NOTEMPTY (6) at /album: the folder has something in it: room rm -r removes it with that"
-        self.refuses("rm", "/album", want=full)
-        self.prints("rm", "-r", "/album", "/other", want="/album: removed\n/other: removed\n")
-        self.prints("ls", want="")
-
-    def test_into_a_folder_that_is_there(self):
-        for path in "/office", "/board":
-            self.prints("mkdir", path, want=f"{path}: made\n")
-        self.prints("put", "photos/a.txt", "/board/", want="/board/a.txt: 1 bytes\n")
-        self.prints("cp", "/board/a.txt", "/office", want="/board/a.txt is also /office/a.txt\n")
-        self.refuses("mv", "/board/a.txt", "/office", want="EXIST (4) at /office/a.txt: something is there already: "
-                     "choose another name, or remove it first")
-        self.prints("rm", "/office/a.txt", want="/office/a.txt: removed\n")
-        self.prints("mv", "/board/a.txt", "/office", want="/board/a.txt is now /office/a.txt\n")
-        self.prints("mv", "/office", "/board", want="/office is now /board/office\n")
-        self.prints("put", "photos/2026/lake.jpg", "/lake.jpg", want="/lake.jpg: 65537 bytes\n")
-        self.prints("cp", "/board/office/a.txt", "/lake.jpg", want="/board/office/a.txt is also /lake.jpg\n")
-        self.prints("get", "/lake.jpg", want="a")
-
     def test_moved_once_though_its_answer_was_lost(self):
         for path in "/a", "/b":
             self.prints("mkdir", path, want=f"{path}: made\n")
@@ -90,16 +52,6 @@ class Trees(Behind):
             status, out, err = self.does("mv", path, to)
             self.assertEqual((status, out), (0, f"{path} is now {at}\n"), err)
             self.assertIn("that was this very request, done once", err)
-
-    def test_looked_at(self):
-        self.assertEqual(self.does("put", "-r", "photos", "/album")[0], 0)
-        self.prints("tree", "/album", want="/album\n  2026/\n    June/\n      b.txt\n    lake.jpg\n  a.txt\n  empty/\n")
-        self.prints("ls", "-R", "/album", want="/album:\n2026/\na.txt\nempty/\n\n/album/2026:\nJune/\nlake.jpg\n\n"
-                    "/album/2026/June:\nb.txt\n\n/album/empty:\n")
-        self.prints("du", "/album", want="65538  2026/\n    1  a.txt\n    0  empty/\n65539  /album\n")
-        self.prints("cat", "/album/a.txt", "/album/2026/June/b.txt", want="ab")
-        status, out, err = self.does("cat", "/none", "/album/a.txt")
-        self.assertEqual((status, out, err.count("\n")), (1, "a", 1))
 
     def test_edited(self):
         """By editors that add, that do nothing, that are slow, and that fail."""
@@ -129,46 +81,6 @@ class Trees(Behind):
             status, _, err = self.does("edit", "/a")
             self.assertEqual((status, "nothing was put; it is in" in err), (5, True), err)
 
-    def test_several(self):
-        self.file("b", b"22")
-        self.prints("mkdir", "/d", want="/d: made\n")
-        self.prints("put", "photos/a.txt", "b", "/d", want="/d/a.txt: 1 bytes\n/d/b: 2 bytes\n")
-        self.file("b", b"333")
-        self.prints("put", "b", "photos/2026/lake.jpg", "/d/", want="/d/b: 3 bytes\n/d/lake.jpg: 65537 bytes\n")
-        self.file("lake.jpg", b"small")
-        self.prints("put", "lake.jpg", "b", "/d", want="/d/lake.jpg: 5 bytes\n/d/b: 3 bytes\n")
-        self.prints("get", "/d/b", "/d/lake.jpg", "photos/empty",
-                    want="3 bytes to photos/empty/b\n5 bytes to photos/empty/lake.jpg\n")
-        self.prints("mkdir", "/e", want="/e: made\n")
-        self.prints("mv", "/d/b", "/d/a.txt", "/e", want="/d/b is now /e/b\n/d/a.txt is now /e/a.txt\n")
-        status, out, err = self.does("rm", "/e/b", "/e/none", "/e/a.txt")
-        self.assertEqual((status, out), (1, "/e/b: removed\n/e/a.txt: removed\n"))
-        self.assertEqual(err, "room: NOENT (1) at /e/none: nothing is there, or a folder above it is missing: look "
-                         "with: room ls\n")
-        status, out, err = self.does("put", "none", "b", "/e")
-        self.assertEqual((status, out, err), (5, "/e/b: 3 bytes\n", "room: none: No such file or directory\n"))
-
-    def test_links_are_not_followed(self):
-        os.mkdir(self.path("hidden"))
-        self.file("hidden/s", b"s")
-        os.symlink(self.path("hidden"), self.path("photos/linked"))
-        os.symlink(self.path("hidden/s"), self.path("photos/2026/s"))
-        os.mkfifo(self.path("photos/pipe"))
-        status, out, err = self.does("put", "-r", "photos", "/album")
-        self.assertEqual((status, out.count("bytes")), (0, 3))
-        for it in ("linked is left out: it is a link", "2026/s is left out: it is a link", "pipe is left out: it is"):
-            self.assertIn(f"photos/{it}", err)
-        with self.room() as room:
-            room.mkdir("/album/linked")
-            room.create("/album/linked/s", b"new")
-            room.create("/album/2026/s", b"new")
-        os.remove(self.path("photos/pipe"))
-        status, out, err = self.does("get", "-r", "/album", "photos")
-        self.assertEqual(status, 5)
-        with open(self.path("hidden/s"), "rb") as file:
-            self.assertEqual(file.read(), b"s")
-        self.assertIn("photos/linked", err)
-
     def test_names_that_are_none_here(self):
         """(This room takes no such names: one that tells them is played.)"""
         with self.room() as room:
@@ -193,109 +105,10 @@ class Trees(Behind):
             self.assertEqual(self.here("to"), {"a": b"in"})
             self.assertLessEqual({it for it in after if it not in before and "json" not in it}, {"to", "to/a"})
 
-    def test_sync_up(self):
-        self.prints("sync", "photos", "room:/album", want="made 2026/\nmade 2026/June/\nmade empty/\n"
-                    "sent 2026/June/b.txt\nsent 2026/lake.jpg\nsent a.txt\n3 sent, 3 made\n")
-        self.prints("sync", "photos", "room:/album", want="3 same\n")
-        self.file("photos/a.txt", b"A")
-        self.file("photos/2026/lake.jpg", self.large[::-1])
-        os.remove(self.path("photos/2026/June/b.txt"))
-        os.rmdir(self.path("photos/2026/June"))
-        os.symlink("nowhere", self.path("photos/empty/kept"))
-        with self.room() as room:
-            room.create("/album/empty/kept", b"its source is a link")
-        want = "sent 2026/lake.jpg\nsent a.txt\n2 sent\n"
-        self.assertEqual(self.does("sync", "--dry-run", "photos", "room:/album")[:2], (0, want))
-        self.assertEqual(self.does("sync", "photos", "room:/album")[:2], (0, want))
-        told = self.does("sync", "--delete", "--dry-run", "photos", "room:/album")
-        self.assertEqual(told[:2], (0, "removed 2026/June\n1 removed, 2 same\n"))
-        self.assertEqual(self.does("sync", "--delete", "photos", "room:/album")[:2], told[:2])
-        with self.behind() as room:
-            self.assertEqual(files.read(room, "/album/2026/lake.jpg"), self.large[::-1])
-            self.assertEqual(room.read("/album/a.txt"), b"A")
-            self.assertEqual(list(room.children("/album/2026")), ["lake.jpg"])
-            self.assertEqual(list(room.children("/album/empty")), ["kept"])
-
-    def test_sync_down(self):
-        self.assertEqual(self.does("put", "-r", "photos", "/album")[0], 0)
-        self.prints("sync", "room:/album", "copy", want="made 2026/\nmade 2026/June/\nmade empty/\n"
-                    "got 2026/June/b.txt\ngot a.txt\ngot 2026/lake.jpg\n3 got, 3 made\n")
-        self.assertEqual(self.here("copy"), self.here("photos"))
-        self.prints("sync", "room:/album", "copy", want="3 same\n")
-        self.tree("copy", {"more/x": b"x", "2026/y": b"y"})
-        self.file("copy/a.txt", b"other")
-        self.prints("sync", "room:/album", "copy", want="got a.txt\n1 got, 2 same\n")
-        self.prints("sync", "--delete", "room:/album", "copy",
-                    want="removed more/x\nremoved more\nremoved 2026/y\n3 removed, 3 same\n")
-        self.assertEqual(self.here("copy"), self.here("photos"))
-
-    def test_a_folder_that_may_not_be_listed_is_not_removed_here(self):
-        self.assertEqual(self.does("put", "-r", "photos", "/album")[0], 0)
-        self.assertEqual(self.does("sync", "room:/album", "copy")[0], 0)
-        with self.room() as room:
-            room.set_list("/album/2026", 3, [{"flag": 3, "mask": 0x1F07FE, "type": 0, "who": "OWNER@"}])
-        status, out, err = self.does("sync", "--delete", "room:/album", "copy")
-        self.assertEqual((status, out), (0, "1 same\n"))
-        self.assertIn("you lack the right list", err)
-        self.assertEqual(self.here("copy"), self.here("photos"))
-
-    def test_what_does_not_fit_stays_here(self):
-        """Too long, too deep, too large: each is told, and the others go."""
-        deep = "/".join("d" * 15)
-        self.tree("photos", {"x" * 65: b"", f"{deep}/in": b"x", f"{deep}/d/out": b"x", " ": b""})
-        with open(self.path("photos/huge"), "wb") as file:
-            file.truncate((1 << 24) + 1)
-        status, out, err = self.does("put", "-r", "photos", "/album")
-        self.assertEqual((status, len(out.splitlines())), (1, 3), out)
-        self.assertEqual(len(err.splitlines()), 6, err)
-        for it in ("FBIG (9) at /album/huge", f"BAD_REQUEST (43) at /album/{deep}/d", "a name in the room has 1 to 64"):
-            self.assertIn(it, err)
-
-    def test_wrong_words(self):
-        for words in (["photos", "/album"], ["room:/a", "room:/b"]):
-            self.refuses("sync", *words, status=2,
-                         want="one of FROM and TO is a folder of the room, written as room:/PATH")
-        self.refuses("sync", "none", "room:/a", status=5, want="none: No such file or directory")
-        self.refuses("put", "photos", "/a", status=5, want="photos is a folder: -r puts it with what is in it")
-        self.refuses("get", "/a", "/b", "none", status=5,
-                     want="none is no folder here, and several files are to go there")
-        self.file("photos/d", b"")
-        with self.room() as room:
-            room.mkdir("/album")
-            room.mkdir("/album/d")
-        status, _, err = self.does("sync", "photos", "room:/album")
-        self.assertEqual((status, err), (1, "room: EXIST (4) at d: a file on one side, a folder on the other\n"))
-
-    def planted(self):
-        """What somebody else may put into a folder here, so that the client reads or writes elsewhere."""
-        self.assertEqual(self.does("put", "-r", "photos", "/album")[0], 0)
+    def test_put_of_what_was_looked_at(self):
+        """Swapped between the look and the reading, so that the client would read elsewhere."""
         self.file("private", b"a secret")
 
-    def test_get_into_a_folder_with_a_link(self):
-        self.planted()
-        os.mkdir(self.path("here"))
-        for plant in lambda it: os.symlink(self.path("private"), it), os.mkfifo:
-            plant(self.path("here/a.txt"))
-            self.prints("get", "/album/a.txt", "here", want="1 bytes to here/a.txt\n")
-            self.assertEqual(self.here("here"), {"a.txt": b"a"})
-            self.assertEqual(self.here("")["private"], b"a secret")
-            os.remove(self.path("here/a.txt"))
-
-    def test_one_link_in_the_way_of_many(self):
-        self.planted()
-        os.mkdir(self.path("elsewhere"))
-        for words, to in (["get", "-r", "/album"], "back"), (["sync", "room:/album"], "synced"):
-            os.mkdir(self.path(to))
-            os.symlink(self.path("elsewhere"), self.path(f"{to}/2026"))
-            status, out, err = self.does(*words, to)
-            self.assertEqual((status, err.count("\n")), (5, 1 + (to == "synced")), err)
-            self.assertIn(f"room: {to}/2026: Not a directory", err)
-            self.assertIn("a.txt", out)
-            self.assertEqual(self.here("elsewhere"), {})
-
-    def test_put_of_what_was_looked_at(self):
-        """Swapped between the look and the reading."""
-        self.planted()
         def swap(*words):
             os.remove(self.path("photos/a.txt"))
             os.symlink(self.path("private"), self.path("photos/a.txt"))
@@ -332,16 +145,6 @@ class Names(Desk):
         self.assertEqual((status, out), (0, "/up/\u00e9: 1 bytes\n"))
         self.assertIn("is left out: another one gets the same name in the room", err)
 
-    def test_a_file_here_is_whole_and_keeps_its_mode(self):
-        self.prints("put", "-", "/a", stdin=b"x", want="/a: 1 bytes\n")
-        os.chmod(self.file("mine", b"longer"), 0o600)
-        os.symlink("mine", self.path("link"))
-        self.prints("get", "/a", "link", want="1 bytes to link\n")
-        self.assertEqual(stat.S_IMODE(os.stat(self.path("mine")).st_mode), 0o600)
-        with open(self.path("mine"), "rb") as file:
-            self.assertEqual(file.read(), b"x")
-        self.assertTrue(os.path.islink(self.path("link")))
-
 
 class Trash(Behind):
     def setUp(self):
@@ -356,23 +159,6 @@ class Trash(Behind):
     def in_trash(self):
         with self.room() as room:
             return list(room.children("/trash/ann"))
-
-    def test_there_and_back(self):
-        self.prints("rm", "/d/e/a.txt", "/d/large", want="/d/e/a.txt: in /trash/ann\n/d/large: in /trash/ann\n")
-        first, second = self.in_trash()
-        self.assertRegex(first, "^a.txt~d~e~[0-9]{14}$")
-        self.assertRegex(second, "^large~d~[0-9]{14}$")
-        self.assertRegex(self.does("trash")[1], r"\Aa\.txt  \(was in /d/e, removed 20\d\d-\d\d-\d\d \d\d:\d\d\)\n"
-                         r"large  \(was in /d, removed 20.*\)\n\Z")
-        self.prints("trash", "restore", first, want="/d/e/a.txt: restored\n")
-        self.prints("trash", "restore", "large", "/big", want="/big: restored\n")
-        self.prints("get", "/d/e/a.txt", want="x")
-        self.prints("rm", "/big", want="/big: in /trash/ann\n")
-        self.refuses("rm", "/d", want="NOTEMPTY (6) at /d: the folder has something in it: room rm -r removes it "
-                     "with that")
-        self.prints("rm", "-r", "/d", want="/d: in /trash/ann\n")
-        self.prints("trash", "empty", want="2 removed for good\n")
-        self.assertEqual(self.in_trash(), [])
 
     def test_the_same_name_again_and_again(self):
         for _ in range(3):
@@ -422,52 +208,6 @@ class Trash(Behind):
             room.set_list("/trash/@d/ann", 2, ANNS)
         self.prints("rm", "/d/e/a.txt", want="/d/e/a.txt: in /trash/@d/ann\n")
         self.prints("trash", "restore", "a.txt", want="/d/e/a.txt: restored\n")
-
-    def test_somebody_elses_is_not_used(self):
-        with self.room() as room:
-            room.set_list("/trash/ann", 2, OWNERS)
-            room.chown("/trash/ann", "bob", "eng")
-        told = ("your trash /trash/ann is bob's, who could read what you remove: ask who runs the room for one "
-                "(fileroom-admin trash); or room rm --for-good")
-        self.refuses("rm", "/d/e/a.txt", want=told.replace("bob", "somebody else"))
-        with self.room("bob") as room:
-            room.set_list("/trash/ann", 2, [EVERYBODY])
-        self.refuses("rm", "/d/e/a.txt", want=told)
-        self.prints("ls", "/d/e", want="a.txt\n")
-        os.mkdir(self.path("none"))
-        status, out, err = self.does("sync", "--delete", "none", "room:/d/e")
-        self.assertEqual((status, err), (1, f"room: {told}\n"), out)
-        self.prints("ls", "/d/e", want="a.txt\n")
-        self.prints("rm", "--for-good", "/d/e/a.txt", want="/d/e/a.txt: removed\n")
-
-    def test_one_that_others_may_read_is_not_used(self):
-        """Its owner may be the caller, and its list still let others in, or the folder above hand that down; what is in
-        it can be taken out."""
-        self.prints("rm", "/d/e/a.txt", want="/d/e/a.txt: in /trash/ann\n")
-        told = ("the list of your trash /trash/ann does not keep others out, who could read what you remove: ask who "
-                "runs the room for one (fileroom-admin trash); or room rm --for-good")
-        for flags, *others in [
-            (2, {"flag": 0, "mask": 0x21, "type": 0, "who": "bob"}), (1,),
-            (0, {"flag": 11, "mask": 1, "type": 0, "who": "bob"}),
-            (2, {"flag": 0x40, "mask": 0x21, "type": 0, "who": "ann"}),
-            (2, {"flag": 3, "mask": 0x40000, "type": 0, "who": "EVERYONE@"}),
-        ]:
-            with self.room() as room:
-                room.set_list("/trash/ann", flags, OWNERS + others)
-            self.refuses("rm", "/d/large", want=told)
-        self.prints("ls", "/d", want="e/\nlarge\n")
-        self.prints("trash", "restore", "a.txt", want="/d/e/a.txt: restored\n")
-        with self.room() as room:
-            room.set_list("/trash/ann", 2, ANNS)
-        self.prints("rm", "/d/large", want="/d/large: in /trash/ann\n")
-
-    def test_a_trash_that_does_not_take_it(self):
-        with self.room() as room:
-            room.set_list("/trash/ann", 3, [{"flag": 3, "mask": 0x1200A9, "type": 0, "who": "OWNER@"}])
-        status, out, err = self.does("rm", "/d/e/a.txt")
-        self.assertEqual((status, out), (1, ""))
-        self.assertRegex(err, "the trash /trash/ann does not take it: room trash empty, or room rm --for-good")
-        self.prints("get", "/d/e/a.txt", want="x")
 
     def test_done_once_though_its_answer_was_lost(self):
         self.front.faults[:] = ["pass"] * 5 + ["lose"] + [504] * 99
