@@ -354,7 +354,8 @@ class Played:
         except No as no:
             said = str(no)
         if sign == "!":
-            self.differs(text, said and self.words(want) in said or said or "it is done", True)
+            is_told = said and all(it in said for it in self.words(want).split(" .. "))
+            self.differs(text, is_told or said or "it is done", True)
         elif said is not None:
             self.differs(text, said, "it is done")
         elif sign == "&":
