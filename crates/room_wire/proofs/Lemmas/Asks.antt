@@ -2,6 +2,7 @@
 pub mod Callers
 pub mod Finds
 pub mod Numerals
+pub mod RoomTargets
 pub mod Routes
 pub mod TargetTexts
 pub mod Targets

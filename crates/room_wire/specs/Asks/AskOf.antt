@@ -30,7 +30,8 @@ use Rattle.room_wire.specs.Asks.EventModel.{EventModel, Open, Close, Slot, event
 use Rattle.room_wire.specs.Messages.Fields.{values_named}
 use Rattle.room_wire.specs.Questions.QuestionModel.{QuestionModel, question_model, question_of_body}
 use Rattle.room_wire.specs.Forms.Reading.{json_of, has_count, number_at, principal_from}
-use Rattle.room_wire.specs.Asks.Routing.{TargetModel, target_at, room_rows}
+use Rattle.room_wire.specs.Asks.Routing.{TargetModel}
+use Rattle.room_wire.specs.Asks.Targets.{room_target}
 use Rattle.room_wire.specs.Messages.MessageModel.{MessageModel, fields_of}
 
 pub data AskModel : Type 0 where
@@ -105,7 +106,7 @@ ask_for (Some target) caller body = ask_at target.action caller target body
 
 -- what a message asks of a room with these users: the route and its method, then the user, then all else
 abbrev pub ask_of : List SubjectModel → MessageModel → Result AskModel WireFault
-ask_of users m = ask_for (target_at room_rows m.head.method m.head.target)
+ask_of users m = ask_for (room_target m.head.method m.head.target)
     (caller_by users (values_named (codes "room-user") (fields_of m))) m.body
 
 -- the result is what was asked, unless memory was refused

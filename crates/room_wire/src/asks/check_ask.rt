@@ -1,13 +1,12 @@
 //! From messages to questions.
 ghost use Rattle.std.specs.Prelude.{◌≡◌, ok_or};
-ghost use Rattle.room_wire.specs.Asks.CheckAsk.{check_ask, check_for, Decodes};
+ghost use Rattle.room_wire.specs.Asks.CheckAsk.{check_ask, check_of, Decodes};
 ghost use Rattle.room_wire.specs.declared.fault.WireFault.TheVariants.{BadRequest};
-ghost use Rattle.room_wire.specs.Asks.Routing.{target_at, check_rows};
 ghost use Rattle.room_wire.specs.Messages.MessageModel.{MessageModel};
 ghost use Rattle.room_wire.specs.Messages.Taken.{Shows};
 ghost use Rattle.room_wire.specs.Questions.QuestionModel.{question_of_body};
 
-use crate::asks::routing::{Action, CheckRoute};
+use crate::asks::routing::CheckRoute;
 use crate::fault::WireFault;
 use crate::messages::message::Message;
 use crate::questions::asking::question_of_body;
@@ -30,16 +29,12 @@ fn read_check(
     message: &Message<'_>,
     route: &CheckRoute,
 ) -> Result<Question, WireFault>
-    ensures { Decodes
-        (check_for (target_at check_rows message.now.method.now message.now.target.now) message.now.body.now) result }
+    ensures { Decodes (check_of message.now.method.now message.now.target.now message.now.body.now) result }
 {
-    match route.target_at(message.method, message.target) {
-        Some(target) => match target.action {
-            Action::Check => read_question(alloc, message.body),
-            Action::Session(_) => Err(WireFault::BadRoute),
-        },
-        None => Err(WireFault::BadRoute),
+    if !route.asks(message.method, message.target) {
+        return Err(WireFault::BadRoute);
     }
+    read_question(alloc, message.body)
 }
 
 /// The question that a message asks. The route is tested before the body.

@@ -4,8 +4,8 @@ ghost use Rattle.std.specs.List.{AllByRecursion, list_any};
 ghost use Rattle.room_wire.specs.declared.asks.routing.Route.{Route};
 ghost use Rattle.room_wire.specs.declared.asks.routing.Action.{Action};
 ghost use Rattle.room_wire.specs.Asks.Routing.{is_route, is_mark, is_ascii, check_rows, room_rows};
-ghost use Rattle.room_wire.specs.Asks.Routing.{action_of, target_at};
-ghost use Rattle.room_wire.specs.Asks.Targets.{IsTargetOf};
+ghost use Rattle.room_wire.specs.Asks.Routing.{action_of};
+ghost use Rattle.room_wire.specs.Asks.Targets.{IsTargetOf, room_target};
 
 /// Where questions alone have a route, a target is that route where it is its text, and no other is.
 pub fn check_route_is_one_target()
@@ -19,7 +19,7 @@ pub fn routes_are_three_targets()
         (is_route room_rows target ≡ true) ↔ ((list_any is_mark target ≡ false)
         × ((route : Route) × (sid slot seq : List ℕ) × IsTargetOf route target sid slot seq)) }
     ensures asked { (method target sid slot seq : List ℕ) (route : Route) → is_ascii target ≡ true →
-        list_any is_mark target ≡ false → IsTargetOf route target sid slot seq → target_at room_rows method target
+        list_any is_mark target ≡ false → IsTargetOf route target sid slot seq → room_target method target
         ≡ option_map (λ (action : Action). record { action = action; sid = sid; slot = slot; seq = seq })
         (action_of method route) }
 {}

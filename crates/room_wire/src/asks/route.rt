@@ -9,7 +9,8 @@ ghost use Rattle.room_wire.specs.Forms.Commands.{command_of_body};
 ghost use Rattle.room_wire.specs.Asks.EventModel.{event_model, Open, Close};
 ghost use Rattle.room_wire.specs.declared.fault.WireFault.TheVariants.{BadRequest};
 ghost use Rattle.room_wire.specs.Questions.QuestionModel.{question_of_body};
-ghost use Rattle.room_wire.specs.Asks.Routing.{target_model, target_at, room_rows};
+ghost use Rattle.room_wire.specs.Asks.Routing.{target_model};
+ghost use Rattle.room_wire.specs.Asks.Targets.{room_target};
 ghost use Rattle.room_wire.specs.Messages.Fields.{values_named};
 ghost use Rattle.room_wire.specs.Messages.MessageModel.{MessageModel};
 ghost use Rattle.room_wire.specs.Messages.Taken.{Shows};
@@ -110,7 +111,7 @@ fn route_parts<'b>(
     routes: &Routes,
     roster: &Roster,
 ) -> Result<Routed<'b>, WireFault>
-    ensures { RoutesAsk (ask_for (target_at room_rows message.now.method.now message.now.target.now)
+    ensures { RoutesAsk (ask_for (room_target message.now.method.now message.now.target.now)
         (caller_by roster.now (values_named (codes "room-user")
         (map (header_bytes message.now.window.now) (take message.now.count message.now.spans)))) message.now.body.now)
         result }

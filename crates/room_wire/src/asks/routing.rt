@@ -1,12 +1,14 @@
 //! The routes, and what stands in a target.
-ghost use Rattle.std.specs.Prelude.{◌≡◌, IfOk, OnErr, option_map, nat_lt, Err};
+ghost use Rattle.std.specs.Prelude.{◌≡◌, ◌&&◌, IfOk, OnErr, option_map, nat_lt, Err, bytes_eq, codes};
 ghost use Rattle.std.specs.List.{AllByRecursion, list_all, list_any};
 ghost use Rattle.std.specs.Str.{IsUtf8};
 ghost use Rattle.matchit.specs.Params.{walk};
 ghost use Rattle.room_wire.specs.Asks.Routing.{check_rows, room_rows, is_mark, is_ascii, action_of, target_model};
 ghost use Rattle.room_wire.specs.Asks.Routing.{target_of, pairs_in, target_at};
+ghost use Rattle.room_wire.specs.Asks.Targets.{room_target};
 
 use crate::fault::WireFault;
+use crate::forms::commands::bytes_fit;
 use matchit::{InsertError, Params, Router};
 use std::alloc::Global;
 use std::marker::Model;
@@ -112,8 +114,9 @@ impl Routes {
 
     /// What a method and a target ask of a room.
     pub(crate) fn target_at<'t>(&self, method: &[u8], target: &'t str) -> Option<Target<'t>>
-        ensures { option_map target_model result ≡ target_at room_rows method.now target.now }
+        ensures { option_map target_model result ≡ room_target method.now target.now }
     {
+        bytes_fit(target.as_bytes());
         target_in(&self.router, method, target)
     }
 }
@@ -133,11 +136,14 @@ impl CheckRoute {
         }
     }
 
-    /// What a method and a target ask where questions alone have a route.
-    pub(crate) fn target_at<'t>(&self, method: &[u8], target: &'t str) -> Option<Target<'t>>
-        ensures { option_map target_model result ≡ target_at check_rows method.now target.now }
+    /// Whether a method and a target ask a question where those alone have a route.
+    pub(crate) fn asks(&self, method: &[u8], target: &str) -> bool
+        ensures { result ≡ (bytes_eq method.now (codes "POST") && bytes_eq target.now (codes "/v1/check")) }
     {
-        target_in(&self.router, method, target)
+        match self.router.at(target) {
+            Ok(_) => method == b"POST".as_slice(),
+            Err(_) => false,
+        }
     }
 }
 

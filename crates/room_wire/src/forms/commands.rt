@@ -371,7 +371,7 @@ fn command_of_body(alloc: Global, body: &[u8]) -> Result<Option<(Command, bool)>
 }
 
 /// What a byte is below, as contracts see it.
-fn bytes_fit(bytes: &[u8])
+pub(crate) fn bytes_fit(bytes: &[u8])
     ensures { AreBytes bytes.now }
 {
     let _ = bytes.len();

@@ -30,17 +30,17 @@ any_slash (b ∷ text) = by (b == 47) (any_slash text)
     by true rest = refl
     by false rest = rest
 
-some_of : (text : List ℕ) → IsPart text → IsSome text
+pub some_of : (text : List ℕ) → IsPart text → IsSome text
 some_of text h = (h.0, sym (any_slash text) ∙ h.1)
 
 part_of : (text : List ℕ) → IsSome text → IsPart text
 part_of text h = (h.0, any_slash text ∙ h.1)
 
-bytes_text : (text : List ℕ) → AllByRecursion (λ b. b < 256) text → IsText text
+pub bytes_text : (text : List ℕ) → AllByRecursion (λ b. b < 256) text → IsText text
 bytes_text [] h = tt
 bytes_text (b ∷ text) h = (h.0, bytes_text text h.1)
 
-ascii_text : (text : List ℕ) → is_ascii text ≡ true → IsText text
+pub ascii_text : (text : List ℕ) → is_ascii text ≡ true → IsText text
 ascii_text [] h = tt
 ascii_text (b ∷ text) h =
     let parts = and_parts (nat_lt b 128) (list_all (λ c. nat_lt c 128) text) h in
@@ -49,7 +49,7 @@ ascii_text (b ∷ text) h =
 
 -- ---- the routes by their numbers
 
-key : ℕ → RouteOf Route
+unfoldable pub key : ℕ → RouteOf Route
 key zero = record { pattern = codes "/v1/check"; text = codes "/v1/check"; names = []; value = R.Check }
 key (suc zero) = record {
   pattern = slot_tokens;
@@ -60,24 +60,24 @@ key (suc zero) = record {
 key (suc (suc n)) =
     record { pattern = session_tokens; text = codes "/v1/sessions/{sid}"; names = (14, 17) ∷ []; value = R.Session }
 
-found_is : (target : List ℕ) → IsText target
+pub found_is : (target : List ℕ) → IsText target
     → first room_rows target ≡ map_key key (after (codes "/v1/") version_found target)
 unfolding key
 found_is target h = first-rename key rows_of_room target ∙ ap (map_key key) (room_is target h)
 
-abbrev number : Route → ℕ
+abbrev pub number : Route → ℕ
 number R.Check = 0
 number R.Slot = 1
 number R.Session = 2
 
-to_number : (route : Route) (target sid slot seq : List ℕ) → IsTargetOf route target sid slot seq
+pub to_number : (route : Route) (target sid slot seq : List ℕ) → IsTargetOf route target sid slot seq
     → IsRouteOf (number route) target
 to_number R.Check target sid slot seq h = inl (refl, h.0)
 to_number R.Session target sid slot seq h = inr (inl (refl, (sid, some_of sid h.1, h.0)))
 to_number R.Slot target sid slot seq h =
     inr (inr (refl, (sid, slot, seq, some_of sid h.1, some_of slot h.2, some_of seq h.3, h.0)))
 
-from_number : (k : ℕ) (target : List ℕ) → IsRouteOf k target
+pub from_number : (k : ℕ) (target : List ℕ) → IsRouteOf k target
     → (route : Route) × (sid slot seq : List ℕ) × IsTargetOf route target sid slot seq
 from_number k target (inl h) = (R.Check, [], [], [], (h.1, refl, refl, refl))
 from_number k target (inr (inl h)) = (R.Session, h.1.0, [], [], (h.1.2, part_of h.1.0 h.1.1, refl, refl))
@@ -114,10 +114,10 @@ routes_are target bytes =
 
 -- ---- what is asked
 
-abbrev made : Action → (sid slot seq : List ℕ) → TargetModel
+abbrev pub made : Action → (sid slot seq : List ℕ) → TargetModel
 made action sid slot seq = record { action = action; sid = sid; slot = slot; seq = seq }
 
-asked_by : (method target sid slot seq : List ℕ) (route : Route) → is_ascii target ≡ true
+pub asked_by : (method target sid slot seq : List ℕ) (route : Route) → is_ascii target ≡ true
     → IsTargetOf route target sid slot seq → target_by method target (Some (key (number route)))
     ≡ option_map (λ (action : Action). made action sid slot seq) (action_of method route)
 unfolding key

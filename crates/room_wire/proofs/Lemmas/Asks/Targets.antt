@@ -1,5 +1,5 @@
 -- Where a router has one route and that is a plain text, it finds that text and no other.
-use Rattle.std.proofs.Common.{◌≡◌, ℕ, ◌==◌, ◌&&◌, Bool, true, false, List, [], ◌∷◌, cond, nat_lt, refl, ap, ◌∙◌}
+use Rattle.std.proofs.Common.{◌≡◌, ℕ, ◌==◌, ◌&&◌, Bool, true, false, List, [], ◌∷◌, cond, nat_lt, refl, sym, ap, ◌∙◌}
 use Rattle.std.proofs.Common.{arith, Option, None, Some, codes}
 use Rattle.std.specs.Prelude.{is_some, bytes_eq}
 use Rattle.std.specs.List.{list_all, list_any}
@@ -62,3 +62,14 @@ marks target true true e f =
 pub route_is : (target : List ℕ) → is_route check_rows target ≡ bytes_eq target (codes "/v1/check")
 route_is target = ap (cond (list_any is_mark target) false) (found_is target)
     ∙ marks target (list_any is_mark target) (bytes_eq target (codes "/v1/check")) refl refl
+
+-- whether the router finds it says whether a method that is right or not asks a question of it
+pub asks_found : (right : Bool) (target : List ℕ) (route : RouteOf Route) → first check_rows target ≡ Some route
+    → right ≡ (right && bytes_eq target (codes "/v1/check"))
+asks_found true target route e = sym (ap is_some e) ∙ found_is target
+asks_found false target route e = refl
+
+pub asks_missing : (right : Bool) (target : List ℕ) → first check_rows target ≡ None
+    → false ≡ (right && bytes_eq target (codes "/v1/check"))
+asks_missing true target e = sym (ap is_some e) ∙ found_is target
+asks_missing false target e = refl
