@@ -19,17 +19,19 @@ use Rattle.room_commands.specs.CommandModel.{CommandModel}
 use Rattle.room_commands.specs.CommandModel as C
 use Rattle.room_commands.specs.ReplyModel.{Refusal, Attributes}
 use Rattle.room_commands.specs.Lawful.{IsLawful}
-use Rattle.room_commands.specs.Checks.{first_refusal, checks, check_right, removal_refusal, walk, is_file}
-use Rattle.room_commands.specs.Checks.{is_root, is_at_or_below, is_kind, bytes_of, check_exists, check_file}
-use Rattle.room_commands.specs.Effect.{effect, effect_by, changed, with_object, size_of, or_no_object}
-use Rattle.room_commands.specs.Effect.{object_or_default}
-use Rattle.room_commands.specs.Sight.{LooksAlike, Sight, View, may, may_remove, shown, depth_in, sight_of, if_reached}
-use Rattle.room_commands.specs.Sight.{view, changes_bytes_alone, handed_by, handed_to}
+use Rattle.room_commands.specs.Checks.{first_refusal, checks, check_right, walk, is_file}
+use Rattle.room_commands.specs.Checks.{is_root, is_at_or_below, is_kind, check_exists, check_file}
+use Rattle.room_commands.specs.Effect.{effect, effect_by, changed, with_object, size_of}
+use Rattle.room_commands.specs.Sight.{LooksAlike, Sight, View, may, may_remove, depth_in, sight_of}
+use Rattle.room_commands.specs.Sight.{view, changes_bytes_alone, handed_to}
 use Rattle.room_commands.proofs.Rights.{all_none}
 use Rattle.room_commands.proofs.ChecksTell.{exists_there, file_there}
 use Rattle.room_commands.proofs.RoomsObject.{after_change, children_stay}
 use Rattle.room_commands.proofs.RoomLaws.{right_alike, walk_alike, bytes_stay_out}
 use Rattle.room_commands.proofs.NothingShows.{refused_alike, in_turn}
+use Rattle.room_commands.specs.Checks.{object_or_default}
+use Rattle.room_commands.proofs.Shorthands.{bytes_of, handed_by, if_reached, or_no_object, removal_refusal}
+use Rattle.std.specs.Bool.{then_some}
 
 -- what a sight is made of, besides the object
 pub record Facts : Type 0 where
@@ -58,19 +60,19 @@ abbrev pub sight_with : SubjectModel → Facts → Object → Sight
 sight_with caller facts o = record {
   kind = o.kind;
   rights = allowed_mask facts.list caller (standing_of o);
-  attributes = shown (facts.may read_attributes) (record {
+  attributes = then_some (facts.may read_attributes) (record {
     aclflag = o.aclflag;
     group = o.group;
     kind = o.kind;
     owner = o.owner;
     size = size_with facts.names o.bytes o.kind;
   });
-  names = shown (not (is_file o.kind) && facts.may list_directory) facts.names;
-  bytes = shown (is_file o.kind && facts.may read_data) o.bytes;
-  entries = shown (facts.may read_acl) (o.aclflag, facts.list);
-  size = shown (is_file o.kind && facts.may append_data) (length o.bytes);
-  depth = shown facts.removes facts.depth;
-  full = shown (not (is_file o.kind) && (facts.may add_file || facts.may add_subdirectory)) facts.full;
+  names = then_some (not (is_file o.kind) && facts.may list_directory) facts.names;
+  bytes = then_some (is_file o.kind && facts.may read_data) o.bytes;
+  entries = then_some (facts.may read_acl) (o.aclflag, facts.list);
+  size = then_some (is_file o.kind && facts.may append_data) (length o.bytes);
+  depth = then_some facts.removes facts.depth;
+  full = then_some (not (is_file o.kind) && (facts.may add_file || facts.may add_subdirectory)) facts.full;
 }
 
 abbrev pub view_with : SubjectModel → Option Refusal → Facts → Option Object → View
@@ -85,7 +87,7 @@ module _ (room : Room) (caller : SubjectModel) (path : Path) where
   sight_by_facts : (o : Object) → object_at room path ≡ Some o
       → sight_of room caller path o ≡ sight_with caller (facts_at room caller path) o
   sight_by_facts o is = ap (λ (n : ℕ). record (sight_of room caller path o) {
-    attributes = shown (may room caller path read_attributes)
+    attributes = then_some (may room caller path read_attributes)
         (record { aclflag = o.aclflag; group = o.group; kind = o.kind; owner = o.owner; size = n });
   }) (size_by_facts o is o.kind)
 
@@ -116,7 +118,7 @@ module _ (new : List ℕ → List ℕ) (count : ℕ → ℕ) (counts : (l : List
   view_written false v = v
   view_written true v = record v { there = option_map sight_written v.there }
 
-  shown_then : {X Y : Type 0} (f : X → Y) (test : Bool) (x : X) → shown test (f x) ≡ option_map f (shown test x)
+  shown_then : {X Y : Type 0} (f : X → Y) (test : Bool) (x : X) → then_some test (f x) ≡ option_map f (then_some test x)
   shown_then f true x = refl
   shown_then f false x = refl
 
@@ -126,7 +128,7 @@ module _ (new : List ℕ → List ℕ) (count : ℕ → ℕ) (counts : (l : List
       let size : size_with facts.names (new o.bytes) o.kind ≡ count (size_with facts.names o.bytes o.kind) =
       ap (size_with facts.names (new o.bytes)) file ∙ counts o.bytes
       ∙ ap (λ kind. count (size_with facts.names o.bytes kind)) (sym file) in
-      let attributes = ap (λ (n : ℕ). shown (facts.may read_attributes) (let made : Attributes =
+      let attributes = ap (λ (n : ℕ). then_some (facts.may read_attributes) (let made : Attributes =
       record { aclflag = o.aclflag; group = o.group; kind = o.kind; owner = o.owner; size = n } in made)) size
       ∙ shown_then (λ (x : Attributes). record x { size = count x.size }) (facts.may read_attributes)
       (record {
@@ -137,7 +139,7 @@ module _ (new : List ℕ → List ℕ) (count : ℕ → ℕ) (counts : (l : List
         size = size_with facts.names o.bytes o.kind;
       }) in
       let bytes = shown_then new (is_file o.kind && facts.may read_data) o.bytes in
-      let length_shown = ap (shown (is_file o.kind && facts.may append_data)) (counts o.bytes)
+      let length_shown = ap (then_some (is_file o.kind && facts.may append_data)) (counts o.bytes)
       ∙ shown_then count (is_file o.kind && facts.may append_data) (length o.bytes) in
       (λ i. record (sight_with caller facts o) {
         attributes = attributes i;

@@ -8,7 +8,7 @@ use Rattle.std.proofs.lemmas.Bool.{both_ways, or_parts, and_from, or_left, or_ri
 use Rattle.std.proofs.lemmas.Bool.{ltb-false}
 use Rattle.room_acl.specs.declared.subject.Kind.{Kind}
 use Rattle.room_acl.specs.declared.subject.Kind.TheVariants.{File, Folder}
-use Rattle.room_acl.specs.Bits.{write_acl, write_owner, add_file, add_subdirectory, delete_object, delete_child}
+use Rattle.room_acl.specs.Bits.{write_acl, write_owner, delete_object, delete_child}
 use Rattle.room_acl.specs.SubjectModel.{SubjectModel}
 use Rattle.room_acl.specs.Inheritance.{handed_down}
 use Rattle.room_records.specs.Names.{Name, Path, path_eq}
@@ -21,14 +21,14 @@ use Rattle.room_commands.specs.CommandModel as C
 use Rattle.room_commands.specs.ReplyModel.{Refusal}
 use Rattle.room_commands.specs.Lawful.{IsLawful}
 use Rattle.room_commands.specs.Checks.{first_refusal, checks, check_right, check_absent, walk}
-use Rattle.room_commands.specs.Checks.{is_at_or_below, is_root, is_file, is_kind, removal_refusal, right_to_add}
+use Rattle.room_commands.specs.Checks.{is_at_or_below, is_root, is_file, is_kind, right_to_add}
 use Rattle.room_commands.specs.Checks.{refuse_if}
 use Rattle.room_commands.specs.declared.reply.RefusalCode.TheVariants.{NotEmpty}
 use Rattle.room_commands.specs.SetList.{own_entries_of_setlist}
 use Rattle.room_commands.specs.Effect.{effect, effect_by, changed, with_object, with_new, without, renamed, new_object}
-use Rattle.room_commands.specs.Effect.{object_or_default, reply}
-use Rattle.room_commands.specs.Sight.{LooksAlike, StayAlike, SameBelow, may, may_remove, handed_by, handed_to}
-use Rattle.room_commands.specs.Sight.{right_to_make, replies}
+use Rattle.room_commands.specs.Effect.{reply}
+use Rattle.room_commands.specs.Sight.{LooksAlike, StayAlike, SameBelow, may, may_remove, handed_to}
+use Rattle.room_commands.proofs.Shorthands.{replies}
 use Rattle.room_commands.proofs.Rights.{all_none}
 use Rattle.room_commands.proofs.ChecksTell.{absent_there, exists_there, not_refused}
 use Rattle.room_commands.proofs.Renaming.{at_behind}
@@ -41,6 +41,8 @@ use Rattle.room_commands.proofs.BytesAlone.{change_alike, group_kept, handed_kep
 use Rattle.room_commands.proofs.EffectIsRoom.{effect_is_room, not_root_ends}
 use Rattle.room_commands.proofs.NothingShows.{refused_alike, in_turn, reply_alike}
 use Rattle.room_commands.proofs.Staying.{Off, Numbers, stay, region_at, front_is_off, off_front, list_out}
+use Rattle.room_commands.specs.Checks.{object_or_default}
+use Rattle.room_commands.proofs.Shorthands.{handed_by, kind_of, removal_refusal}
 
 -- where a folder stands at or below a path, there is one at the path
 folder_at : (room : Room) → IsRoom room → (p rest : Path) (o : Object) → object_at room (p ++ rest) ≡ Some o
@@ -172,7 +174,7 @@ module _ (a b : Room) (caller : SubjectModel) (room_a : IsRoom a) (room_b : IsRo
   -- an object made where nothing was
   object_made : (p : Path) (end : Ends p) (kind : Kind) (bytes : List ℕ) → walk a caller p ≡ None
       → check_absent a p ≡ None → check_absent b p ≡ None
-      → check_right a caller (parent_of p) (right_to_make kind) ≡ None
+      → check_right a caller (parent_of p) (right_to_add kind) ≡ None
       → IsRoom (with_new a p (new_object a caller p kind bytes))
       → IsRoom (with_new b p (new_object b caller p kind bytes))
       → StayAlike caller (with_new a p (new_object a caller p kind bytes))
@@ -180,7 +182,7 @@ module _ (a b : Room) (caller : SubjectModel) (room_a : IsRoom a) (room_b : IsRo
   object_made p end kind bytes walked free free_b adds later_a later_b =
       let folder : parent_of p ≡ end.folder = ap parent_of end.is ∙ parent_of_end end.folder end.name in
       let given = before.adding end.folder end.name kind (ap (walk a caller) (sym end.is) ∙ walked)
-      (ap (λ f. is_none (check_right a caller f (right_to_make kind))) (sym folder) ∙ ap is_none adds) in
+      (ap (λ f. is_none (check_right a caller f (right_to_add kind))) (sym folder) ∙ ap is_none adds) in
       let new_a = new_object a caller p kind bytes in
       let new_b = new_object b caller p kind bytes in
       let same_group : (object_or_default a (parent_of p)).group ≡ (object_or_default b (parent_of p)).group =
@@ -228,14 +230,11 @@ module _ (a b : Room) (caller : SubjectModel) (room_a : IsRoom a) (room_b : IsRo
           ∙ ap (object_at room) (sym (append_assoc p (n ∷ []) r))
           ∙ nothing_below room lawful r (p ++ n ∷ []) (nothing_in_empty room p none n)
 
-  adds_kind : (kind : Kind) → cond (not (is_file kind)) add_subdirectory add_file ≡ right_to_make kind
-  adds_kind File = refl
-  adds_kind Folder = refl
-
   -- a subtree moved
   object_moved : (p t : Path) (end : Ends t) (o : Object) → object_at a p ≡ Some o → is_at_or_below t p ≡ false
       → object_at a t ≡ None → object_at b t ≡ None → walk a caller p ≡ None → walk a caller t ≡ None
-      → may_remove a caller p ≡ true → check_right a caller (parent_of t) (right_to_add a p) ≡ None
+      → may_remove a caller p ≡ true
+      → check_right a caller (parent_of t) (right_to_add (object_or_default a p).kind) ≡ None
       → IsRoom (renamed a p t) → IsRoom (renamed b p t) → StayAlike caller (renamed a p t) (renamed b p t)
   object_moved p t end o there apart free free_b walked walked_to removes adds later_a later_b =
       let same = before.moving p walked removes in
@@ -261,10 +260,10 @@ module _ (a b : Room) (caller : SubjectModel) (room_a : IsRoom a) (room_b : IsRo
       (let whole : object_at (renamed a p t) t ≡ object_at a p =
       rw (append-nil p, append-nil t) at (at_new_place a room_a p t o apart there free []) in whole ∙ there) in
       let folder : parent_of t ≡ end.folder = ap parent_of end.is ∙ parent_of_end end.folder end.name in
-      let right : right_to_add a p ≡ right_to_make o.kind =
-      ap (λ f. cond (is_kind Folder f) add_subdirectory add_file) there ∙ adds_kind o.kind in
+      let right : right_to_add (object_or_default a p).kind ≡ right_to_add o.kind =
+      ap (λ f. right_to_add (kind_of f)) there in
       let given = before.adding end.folder end.name o.kind (ap (walk a caller) (sym end.is) ∙ walked_to)
-      (ap (λ f. is_none (check_right a caller f (right_to_make o.kind))) (sym folder)
+      (ap (λ f. is_none (check_right a caller f (right_to_add o.kind))) (sym folder)
       ∙ ap (λ w. is_none (check_right a caller (parent_of t) w)) (sym right) ∙ ap is_none adds) in
       stay a b (renamed a p t) (renamed b p t) caller p t (record {
         before = before;
@@ -298,7 +297,7 @@ module _ (a b : Room) (caller : SubjectModel) (room_a : IsRoom a) (room_b : IsRo
     now = looks;
     adding = λ folder name kind walked adds.
         let given = before.adding folder name kind (sym (way a (folder ++ name ∷ [])) ∙ walked)
-        (sym (ap is_none (rights a folder (right_to_make kind))) ∙ adds) in (
+        (sym (ap is_none (rights a folder (right_to_add kind))) ∙ adds) in (
           given.0,
           group a folder ∙ given.1 ∙ sym (group b folder),
           ap (λ entries. handed_down entries kind) (lists a folder) ∙ given.2

@@ -17,8 +17,8 @@ use Rattle.room_commands.specs.CommandModel as C
 use Rattle.room_commands.specs.ReplyModel.{Refusal}
 use Rattle.room_commands.specs.Lawful.{IsLawful}
 use Rattle.room_commands.specs.SetList.{own_entries_of_setlist}
-use Rattle.room_commands.specs.Checks.{first_refusal, checks, is_root, is_at_or_below, bytes_of, bytes_at, check_absent}
-use Rattle.room_commands.specs.Checks.{check_folder_full, check_lawful, walk, kind_of}
+use Rattle.room_commands.specs.Checks.{first_refusal, checks, is_root, is_at_or_below, bytes_at, check_absent}
+use Rattle.room_commands.specs.Checks.{check_folder_full, check_lawful, walk}
 use Rattle.room_commands.specs.Effect.{changed, effect, effect_by, new_object, with_new, renamed}
 use Rattle.room_commands.proofs.Rights.{AllNone, all_none}
 use Rattle.room_commands.proofs.ChecksTell.{not_refused, exists_there, absent_there, file_there, file_is_no_folder}
@@ -28,6 +28,7 @@ use Rattle.room_commands.proofs.RoomsObject.{with_object_is_room}
 use Rattle.room_commands.proofs.RoomsWithout.{without_is_room}
 use Rattle.room_commands.proofs.RenamedIsRoom.{renamed_is_room}
 use Rattle.room_commands.proofs.SetListKept.{no_mark_left}
+use Rattle.room_commands.proofs.Shorthands.{bytes_of, kind_of}
 
 -- a path that passes the test for the root has a folder and a name
 pub not_root_ends : (path : Path) → is_root path ≡ false → Ends path

@@ -11,14 +11,14 @@ use Rattle.room_acl.specs.SubjectModel.{SubjectModel}
 use Rattle.room_records.specs.Limits.{max_objects}
 use Rattle.room_records.specs.Names.{Name, Path}
 use Rattle.room_records.specs.Room.{Object, Room, IsRoom, object_at, children}
-use Rattle.room_commands.specs.CommandModel.{CommandModel}
+use Rattle.room_commands.specs.CommandModel.{CommandModel, paths_of}
 use Rattle.room_commands.specs.CommandModel as C
 use Rattle.room_commands.specs.ReplyModel.{Refusal, Attributes}
 use Rattle.room_commands.specs.Lawful.{IsLawful}
 use Rattle.room_commands.specs.Checks.{first_refusal, checks, prefix_refusal, walk, is_root, is_at_or_below}
 use Rattle.room_commands.specs.Effect.{effect, effect_by, changed}
-use Rattle.room_commands.specs.Sight.{View, view, shown, depth_in}
-use Rattle.room_commands.specs.Elsewhere.{paths_of, IsOff, HoldsNeither, IsAboveNeither, but_full, but_depth, but_names}
+use Rattle.room_commands.specs.Sight.{View, view, depth_in}
+use Rattle.room_commands.specs.Elsewhere.{IsOff, HoldsNeither, IsAboveNeither, but_full, but_depth, but_names}
 use Rattle.room_commands.proofs.Rights.{all_none}
 use Rattle.room_commands.proofs.ChecksTell.{absent_there, exists_there, not_refused}
 use Rattle.room_commands.proofs.Renaming.{at_behind}
@@ -33,6 +33,7 @@ use Rattle.room_commands.proofs.BytesAlone.{Facts, facts_at, sight_with, size_wi
 use Rattle.room_commands.proofs.SameParts.{children_same, depth_same, walk_same}
 use Rattle.room_commands.proofs.Staying.{Off, Below_p, Below_t, Away, place, child_off, prefix_out, walk_out, facts_out}
 use Rattle.room_commands.proofs.CommandsStay.{apart_from, own_fronts, moved_fronts}
+use Rattle.std.specs.Bool.{then_some}
 
 -- what a command that passes leaves as it was: all but its paths and what is below them, and so what is above them
 pub record Leaves (room later : Room) (p t : Path) : Type 0 where
@@ -110,13 +111,13 @@ off_below p q rest off above = false_from_ne_true (is_at_or_below (q ++ rest) p)
 -- what is left out of a view
 module _ (caller : SubjectModel) (facts : Facts) (names : List (Name × Kind)) (depth : ℕ) (full : Bool) where
   sizes : (test : Bool) (o : Object) (m n : ℕ)
-      → option_map (λ (x : Attributes). record x { size = 0 }) (shown test (let x : Attributes = record {
+      → option_map (λ (x : Attributes). record x { size = 0 }) (then_some test (let x : Attributes = record {
         aclflag = o.aclflag;
         group = o.group;
         kind = o.kind;
         owner = o.owner;
         size = m;
-      } in x)) ≡ option_map (λ (x : Attributes). record x { size = 0 }) (shown test (let x : Attributes = record {
+      } in x)) ≡ option_map (λ (x : Attributes). record x { size = 0 }) (then_some test (let x : Attributes = record {
         aclflag = o.aclflag;
         group = o.group;
         kind = o.kind;

@@ -1,3 +1,4 @@
+pub mod Shorthands
 pub mod Rights
 pub mod Renaming
 pub mod RoomsNew

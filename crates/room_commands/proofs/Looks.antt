@@ -26,11 +26,12 @@ use Rattle.room_commands.specs.Checks.{first_refusal, refuse_if, refusal_without
 use Rattle.room_commands.specs.Checks.{check_right}
 use Rattle.room_commands.specs.Checks.{is_file, is_kind, check_exists, check_absent, check_folder, check_file}
 use Rattle.room_commands.specs.Checks.{proper_prefixes, prefix_refusal, walk, check_folder_full, check_room_full}
-use Rattle.room_commands.specs.Checks.{kind_of}
 use Rattle.room_commands.proofs.Rights.{all_none}
 use Rattle.room_commands.proofs.ChecksTell.{not_refused, exists_there}
-use Rattle.room_commands.specs.Sight.{may, shown, Sight, sight_of, View, if_reached}
+use Rattle.room_commands.specs.Sight.{may, Sight, sight_of, View}
 use Rattle.room_commands.specs.Sight.{LooksAlike}
+use Rattle.room_commands.proofs.Shorthands.{if_reached, kind_of}
+use Rattle.std.specs.Bool.{then_some}
 
 -- checks of two rooms are alike where the first two are, and the others are where the first two pass
 pub then_alike : (x y : Option Refusal) (xs ys : List (Option Refusal)) → x ≡ y
@@ -126,7 +127,7 @@ decided_by_rights entries caller standing wanted =
     named = refl
 
 -- what is shown in two rooms is the same, where it is shown
-pub shown_same : {X : Type 0} (t u : Bool) (x y : X) → shown t x ≡ shown u y → t ≡ true → x ≡ y
+pub shown_same : {X : Type 0} (t u : Bool) (x y : X) → then_some t x ≡ then_some u y → t ≡ true → x ≡ y
 shown_same true true x y same is = some_is x y same
 shown_same true false x y same is = absurd (none_is_some x (sym same))
 shown_same false u x y same is = let no : false ≡ true = is in cc

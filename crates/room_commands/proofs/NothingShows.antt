@@ -21,21 +21,22 @@ use Rattle.room_commands.specs.declared.reply.RefusalCode.{RefusalCode}
 use Rattle.room_commands.specs.declared.reply.RefusalCode.TheVariants.{NotEmpty, TooDeep, Inval, Exist}
 use Rattle.room_commands.specs.Lawful.{IsLawful}
 use Rattle.room_commands.specs.SetList.{own_entries_of_setlist}
-use Rattle.room_commands.specs.Checks.{first_refusal, checks, refuse_if, check_right, check_removal, removal_refusal}
+use Rattle.room_commands.specs.Checks.{first_refusal, checks, refuse_if, check_right, check_removal}
 use Rattle.room_commands.specs.Checks.{walk}
 use Rattle.room_commands.specs.Checks.{check_exists, check_absent, check_folder, check_file, is_kind, is_file, is_root}
-use Rattle.room_commands.specs.Checks.{right_to_add}
+use Rattle.room_commands.specs.Checks.{right_to_add, object_or_default}
 use Rattle.room_commands.specs.Checks.{check_depth, check_folder_full, check_room_full, check_size, check_lawful}
 use Rattle.room_commands.specs.Checks.{bytes_at}
-use Rattle.room_commands.specs.Checks.{bytes_of, is_at_or_below, kind_of}
-use Rattle.room_commands.specs.Effect.{effect, effect_by, reply, or_no_object, attributes_of}
+use Rattle.room_commands.specs.Checks.{is_at_or_below}
+use Rattle.room_commands.specs.Effect.{effect, effect_by, reply, attributes_of}
 use Rattle.room_commands.specs.Sight.{LooksAlike, Sight, may, may_remove, depth_in}
 use Rattle.room_commands.proofs.ChecksTell.{not_refused}
 use Rattle.room_commands.proofs.EffectIsRoom.{not_root_ends}
 use Rattle.room_commands.proofs.DepthTells.{depth_tells_empty, too_deep}
 use Rattle.room_commands.proofs.Looks.{BothThere, both_there, way_alike, exists_alike, absent_alike, folder_alike}
-use Rattle.room_commands.proofs.Looks.{file_alike, right_alike, kind_alike, kind_of_alike, in_folder_alike}
+use Rattle.room_commands.proofs.Looks.{file_alike, right_alike, kind_of_alike, in_folder_alike}
 use Rattle.room_commands.proofs.Looks.{folder_full_alike, room_full_alike, shown_same}
+use Rattle.room_commands.proofs.Shorthands.{bytes_of, kind_of, or_no_object, removal_refusal}
 
 -- two lists of checks refuse alike: each pair is alike where those before it pass. Where all pass, so is the rest
 abbrev pub AlikeInTurn : Type 0 → List (Option Refusal) → List (Option Refusal) → Type 0
@@ -349,9 +350,9 @@ module _ (a b : Room) (caller : SubjectModel) (room_a : IsRoom a) (room_b : IsRo
                 let end_to = not_root_ends to roots.1 in (
                   removal_alike path end walked,
                   λ removal. (
-                    right_above to end_to walked_to (right_to_add a path)
-                        ∙ ap (λ folder. check_right b caller (parent_of to) (cond folder add_subdirectory add_file))
-                        (kind_alike a b caller alike path walked Folder),
+                    right_above to end_to walked_to (right_to_add (object_or_default a path).kind)
+                        ∙ ap (λ kind. check_right b caller (parent_of to) (right_to_add kind))
+                        (kind_of_alike a b caller alike path walked),
                     λ adds. (
                       too_deep_alike path end walked to lawful.1 there removal,
                       λ fits. (

@@ -22,17 +22,19 @@ use Rattle.room_commands.specs.CommandModel as C
 use Rattle.room_commands.specs.ReplyModel.{Refusal, Stat, Names, Size, Bytes, Entries, Allowed}
 use Rattle.room_commands.specs.declared.reply.RefusalCode.TheVariants.{NotEmpty, Exist, Inval, TooDeep, FolderFull}
 use Rattle.room_commands.specs.SetList.{own_entries_of_setlist}
-use Rattle.room_commands.specs.Checks.{first_refusal, checks, refuse_if, removal_refusal, check_right, check_size, walk}
+use Rattle.room_commands.specs.Checks.{first_refusal, checks, refuse_if, check_right, check_size, walk}
 use Rattle.room_commands.specs.Checks.{check_exists, check_absent, check_file, check_removal, check_depth}
-use Rattle.room_commands.specs.Checks.{check_folder_full, check_room_full, check_lawful, right_to_add, kind_of}
-use Rattle.room_commands.specs.Checks.{bytes_of, bytes_at, is_root, is_at_or_below}
-use Rattle.room_commands.specs.Effect.{effect, effect_by, changed, reply, attributes_of, size_of, object_or_default}
-use Rattle.room_commands.specs.Effect.{or_no_object, with_new, moved, new_object}
-use Rattle.room_commands.specs.OtherBytes.{object_with, room_with, command_with, reply_with}
+use Rattle.room_commands.specs.Checks.{check_folder_full, check_room_full, check_lawful, right_to_add}
+use Rattle.room_commands.specs.Checks.{bytes_at, is_root, is_at_or_below}
+use Rattle.room_commands.specs.Effect.{effect, effect_by, changed, reply, attributes_of, size_of}
+use Rattle.room_commands.specs.Effect.{with_new, moved, new_object}
+use Rattle.room_commands.specs.OtherBytes.{room_with, command_with, reply_with}
 use Rattle.room_commands.specs.Sight.{may}
 use Rattle.room_commands.proofs.Rights.{all_none}
-use Rattle.room_commands.proofs.RoomLaws.{some_alike, kind_alike, exists_alike, folder_alike, file_alike, right_alike}
+use Rattle.room_commands.proofs.RoomLaws.{some_alike, exists_alike, folder_alike, file_alike, right_alike}
 use Rattle.room_commands.proofs.RoomLaws.{walk_alike}
+use Rattle.room_commands.specs.Checks.{object_or_default}
+use Rattle.room_commands.proofs.Shorthands.{bytes_of, kind_of, object_with, or_no_object, removal_refusal}
 
 module _ (new : ℕ → ℕ) where
   abbrev entry_with : Path × Object → Path × Object
@@ -134,12 +136,12 @@ module _ (new : ℕ → ℕ) where
     kind_with None = refl
     kind_with (Some o) = refl
 
+    kind : (q : Path) → kind_of (object_at other q) ≡ kind_of (object_at room q)
+    kind q = ap kind_of (there q) ∙ kind_with (object_at room q)
+
     depth : (path to : Path) → check_depth other path to ≡ check_depth room path to
     depth path to = ap (λ t. refuse_if t TooDeep) (any_with (λ q. is_at_or_below q path
         && nat_lt max_names (length to + (length q - length path))) room.objects)
-
-    to_add : (path : Path) → right_to_add other path ≡ right_to_add room path
-    to_add path = ap (λ t. cond t add_subdirectory add_file) (kind_alike other room caller bare Folder path)
 
     checks_with : (command : CommandModel) → checks other caller (command_with new command) ≡ checks room caller command
     checks_with (C.Stat path) = (λ i. way path i ∷ exists path i ∷ right path read_attributes i ∷ [])
@@ -162,16 +164,13 @@ module _ (new : ℕ → ℕ) where
         ∷ check_right_to_add i ∷ depth path to i
         ∷ cond (path_eq (parent_of path) (parent_of to)) None (full (parent_of to) i) ∷ [])
       where
-        check_right_to_add : check_right other caller (parent_of to) (right_to_add other path)
-            ≡ check_right room caller (parent_of to) (right_to_add room path)
-        check_right_to_add =
-            right (parent_of to) (right_to_add other path) ∙ ap (check_right room caller (parent_of to)) (to_add path)
+        check_right_to_add : check_right other caller (parent_of to) (right_to_add (kind_of (object_at other path)))
+            ≡ check_right room caller (parent_of to) (right_to_add (kind_of (object_at room path)))
+        check_right_to_add = right (parent_of to) (right_to_add (kind_of (object_at other path)))
+            ∙ ap (λ kind. check_right room caller (parent_of to) (right_to_add kind)) (kind path)
     checks_with (C.GetList path) = (λ i. way path i ∷ exists path i ∷ right path read_acl i ∷ [])
     checks_with (C.SetList aclflag entries path) = (λ i. way path i ∷ exists path i ∷ right path write_acl i
         ∷ check_lawful (own_entries_fault (own_entries_of_setlist path aclflag entries) (kind path i)) ∷ [])
-      where
-        kind : (q : Path) → kind_of (object_at other q) ≡ kind_of (object_at room q)
-        kind q = ap kind_of (there q) ∙ kind_with (object_at room q)
     checks_with (C.Chown group owner path) = (λ i. way path i ∷ exists path i ∷ right path write_owner i ∷ [])
     checks_with (C.Access mask path) = (λ i. way path i ∷ exists path i ∷ [])
 

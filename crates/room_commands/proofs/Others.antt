@@ -14,9 +14,9 @@ use Rattle.room_records.proofs.RoomsMap.{same_path, parent_of_end, ends}
 use Rattle.room_commands.specs.CommandModel as C
 use Rattle.room_commands.specs.ReplyModel.{Refusal, Attributes}
 use Rattle.room_commands.specs.Effect.{effect, effect_by, with_object}
-use Rattle.room_commands.specs.Checks.{check_right, walk, removal_refusal, first_refusal, checks, is_file}
-use Rattle.room_commands.specs.Sight.{LooksAlike, StayAlike, may, may_remove, right_to_make, shown, view}
-use Rattle.room_commands.specs.Sight.{Turn, Own, Other, own_commands, replies, replies_among, OthersUnseen, BytesUnseen}
+use Rattle.room_commands.specs.Checks.{check_right, walk, first_refusal, checks, is_file}
+use Rattle.room_commands.specs.Sight.{LooksAlike, StayAlike, may, may_remove, view}
+use Rattle.room_commands.specs.Sight.{Turn, Own, Other, own_turns, replies_among, OthersUnseen, BytesUnseen}
 use Rattle.room_commands.proofs.Rights.{all_none}
 use Rattle.room_commands.proofs.ChecksTell.{exists_there, file_there}
 use Rattle.room_commands.proofs.EffectIsRoom.{effect_is_room}
@@ -35,6 +35,9 @@ use Rattle.room_commands.specs.Sight.{HasNoPower, SameBelow}
 use Rattle.std.proofs.lemmas.Bool.{or_left, or_right}
 use Rattle.std.proofs.Common.{inl, inr}
 use Rattle.room_commands.proofs.Looks.{way_alike, right_alike, kind_alike, in_folder_alike, walk_to_folder}
+use Rattle.room_commands.proofs.Shorthands.{removal_refusal}
+use Rattle.std.specs.Bool.{then_some}
+use Rattle.room_commands.specs.Checks.{right_to_add}
 
 module _ (a b : Room) (caller : SubjectModel) (alike : LooksAlike caller a b) where
   pub may_alike : (path : Path) → walk a caller path ≡ None → (wanted : ℕ)
@@ -64,7 +67,7 @@ stay_turned a b caller s = record {
   adding = λ folder name kind walked adds.
       let back = way_back a b caller s.now (folder ++ name ∷ []) walked in
       let given = s.adding folder name kind back
-      (may_alike a b caller s.now folder (walk_to_folder a caller folder name back).0 (right_to_make kind) ∙ adds) in
+      (may_alike a b caller s.now folder (walk_to_folder a caller folder name back).0 (right_to_add kind) ∙ adds) in
       (sym given.0, sym given.1, sym given.2);
   moving = λ path walked removes rest.
       let back = way_back a b caller s.now path walked in
@@ -88,7 +91,7 @@ stay_joined a b c caller s next = record {
       let on = sym (way_alike a b caller s.now (folder ++ name ∷ [])) ∙ walked in
       let first = s.adding folder name kind walked adds in
       let second = next.adding folder name kind on
-      (sym (may_alike a b caller s.now folder (walk_to_folder a caller folder name walked).0 (right_to_make kind))
+      (sym (may_alike a b caller s.now folder (walk_to_folder a caller folder name walked).0 (right_to_add kind))
       ∙ adds) in
       (first.0 ∙ second.0, first.1 ∙ second.1, first.2 ∙ second.2);
   moving = λ path walked removes rest.
@@ -110,7 +113,7 @@ stay_joined a b c caller s next = record {
 -- so what others do unseen does not show in the answers
 pub others_do_not_show : (caller : SubjectModel) (turns : List Turn) (a b : Room) → IsRoom a → IsRoom b
     → StayAlike caller a b → OthersUnseen caller a turns
-    → replies_among a caller turns ≡ replies b caller (own_commands turns)
+    → replies_among a caller turns ≡ replies_among b caller (own_turns turns)
 others_do_not_show caller [] a b room_a room_b alike unseen = refl
 others_do_not_show caller (Own command ∷ turns) a b room_a room_b alike unseen =
     let first = reply_alike a b caller room_a room_b alike.now command unseen.0 in
@@ -133,7 +136,8 @@ stay_itself room caller = record {
   setting = λ path walked sets. ((λ rest. refl), refl, λ folder. refl);
 }
 
-not_shown : {X : Type 0} (f : X → X) (test : Bool) (x : X) → test ≡ false → option_map f (shown test x) ≡ shown test x
+not_shown : {X : Type 0} (f : X → X) (test : Bool) (x : X) → test ≡ false
+    → option_map f (then_some test x) ≡ then_some test x
 not_shown f true x h = let no : true ≡ false = h in cc
 not_shown f false x h = refl
 

@@ -17,7 +17,7 @@ use Rattle.room_commands.specs.CommandModel as C
 use Rattle.room_commands.specs.ReplyModel.{Bytes, Refusal, IsRefused}
 use Rattle.room_commands.specs.Checks.{first_refusal, checks, is_kind, check_exists, check_file, check_folder}
 use Rattle.room_commands.specs.Checks.{check_right, right_on, denied_at, refuse_if, prefix_refusal, proper_prefixes}
-use Rattle.room_commands.specs.Checks.{walk, bytes_of, bytes_at, is_root, is_at_or_below}
+use Rattle.room_commands.specs.Checks.{walk, bytes_at, is_root, is_at_or_below}
 use Rattle.room_commands.specs.declared.reply.RefusalCode.TheVariants.{NoEnt, NotDir, IsDir}
 use Rattle.room_commands.specs.Effect.{effect, effect_by, changed, reply, with_object, renamed}
 use Rattle.room_commands.specs.Needs.{NeedsAllowed}
@@ -25,6 +25,7 @@ use Rattle.room_commands.proofs.Rights.{AllNone, all_none, rights_of_success}
 use Rattle.room_commands.proofs.ChecksTell.{not_refused, exists_there, absent_there}
 use Rattle.room_commands.proofs.RoomsObject.{at_changed, after_change}
 use Rattle.room_commands.proofs.RoomsRenamed.{at_new_place, at_old_place, away}
+use Rattle.room_commands.proofs.Shorthands.{bytes_of}
 
 reply_is_no_refusal : (room : Room) (caller : SubjectModel) (command : CommandModel)
     → IsRefused (reply room caller command) → ⊥

@@ -20,12 +20,14 @@ use Rattle.room_records.proofs.RoomsChildren.{children_rise, same_entries, kind_
 use Rattle.room_commands.specs.declared.reply.RefusalCode.TheVariants.{NoEnt, NotDir}
 use Rattle.room_commands.specs.ReplyModel.{Refusal}
 use Rattle.room_commands.specs.Checks.{first_refusal, refuse_if, denied_at, right_on, check_right, is_file, is_kind}
-use Rattle.room_commands.specs.Checks.{is_root, proper_prefixes, prefix_refusal, walk, removal_refusal}
-use Rattle.room_commands.specs.Sight.{depth_in, view, may, shown, if_reached, SameBelow, handed_by, handed_to}
+use Rattle.room_commands.specs.Checks.{is_root, proper_prefixes, prefix_refusal, walk}
+use Rattle.room_commands.specs.Sight.{depth_in, view, may, SameBelow, handed_to}
 use Rattle.room_commands.proofs.RoomsRenamed.{rest_below}
 use Rattle.room_commands.proofs.DepthTells.{within_depth, no_deeper}
 use Rattle.room_commands.proofs.Looks.{walk_end}
 use Rattle.room_commands.proofs.BytesAlone.{facts_at, sight_with, view_with, view_by_facts}
+use Rattle.room_commands.proofs.Shorthands.{handed_by, if_reached, removal_refusal}
+use Rattle.std.specs.Bool.{then_some}
 
 all_mapped : {X Y : Type 0} (P : Y → Type 0) (g : X → Y) (xs : List X)
     → AllByRecursion (λ x. P (g x)) xs → AllByRecursion P (map g xs)
@@ -199,11 +201,11 @@ module _ (x y : Room) (caller : SubjectModel) (room_x : IsRoom x) (room_y : IsRo
   })
 
   full_in : (rest : Path) (o : Object) → object_at x (top ++ rest) ≡ Some o → (kind : Kind) → o.kind ≡ kind
-      → (adds : Bool) → shown (not (is_file o.kind) && adds) (nat_le max_objects x.made)
-      ≡ shown (not (is_file o.kind) && adds) (nat_le max_objects y.made)
+      → (adds : Bool) → then_some (not (is_file o.kind) && adds) (nat_le max_objects x.made)
+      ≡ then_some (not (is_file o.kind) && adds) (nat_le max_objects y.made)
   full_in rest o is File file adds = rw file refl
   full_in rest o is Folder folder adds =
-      ap (λ n. shown (not (is_file o.kind) && adds) (nat_le max_objects n)) (region.made rest o is folder)
+      ap (λ n. then_some (not (is_file o.kind) && adds) (nat_le max_objects n)) (region.made rest o is folder)
 
   numbers_in : (rest : Path) (o : Option Object) → object_at x (top ++ rest) ≡ o → (way : Option Refusal)
       → view_with caller way (record (facts_at y caller (top ++ rest)) { full = nat_le max_objects x.made }) o

@@ -15,7 +15,8 @@ use Rattle.room_commands.specs.declared.reply.RefusalCode.TheVariants.{RoomFull}
 use Rattle.room_commands.specs.CommandModel as C
 use Rattle.room_commands.specs.ReplyModel.{ReplyModel, Attributes, Done, Size, Allowed, Refused, Stat, Bytes, Entries}
 use Rattle.room_commands.specs.Effect.{effect}
-use Rattle.room_commands.specs.Sight.{Sight, View, view, replies}
+use Rattle.room_commands.specs.Sight.{Sight, View, view}
+use Rattle.room_commands.proofs.Shorthands.{replies}
 
 abbrev bob : SubjectModel
 bob = record { name = codes "bob"; groups = [] }

@@ -19,11 +19,9 @@ use Rattle.room_records.proofs.RoomsLists.{lists_by_objects_above}
 use Rattle.room_records.proofs.RoomsChildren.{same_name}
 use Rattle.room_commands.specs.ReplyModel.{Refusal, Attributes}
 use Rattle.room_commands.specs.Checks.{first_refusal, check_right, is_file, is_kind, is_root, prefix_refusal, walk}
-use Rattle.room_commands.specs.Checks.{removal_refusal}
 use Rattle.room_commands.specs.Checks.{is_at_or_below}
-use Rattle.room_commands.specs.Effect.{or_no_object, object_or_default}
-use Rattle.room_commands.specs.Sight.{LooksAlike, StayAlike, SameBelow, Sight, View, may, may_remove, shown, depth_in}
-use Rattle.room_commands.specs.Sight.{view, if_reached, right_to_make, handed_by, handed_to}
+use Rattle.room_commands.specs.Sight.{LooksAlike, StayAlike, SameBelow, Sight, View, may, may_remove, depth_in}
+use Rattle.room_commands.specs.Sight.{view, handed_to}
 use Rattle.room_commands.proofs.RoomsRenamed.{rest_below, below_more}
 use Rattle.room_commands.proofs.RoomsNew.{same_or_other_path}
 use Rattle.room_commands.proofs.ChecksTell.{folder_of_kind, walk_ends_in_folder}
@@ -31,6 +29,10 @@ use Rattle.room_commands.proofs.Looks.{walk_end, walk_to_folder, way_alike, kind
 use Rattle.room_commands.proofs.BytesAlone.{Facts, facts_at, sight_with, size_with, view_with, view_by_facts}
 use Rattle.room_commands.proofs.SameParts.{right_same, prefix_same, walk_same, children_same, depth_same, Region}
 use Rattle.room_commands.proofs.SameParts.{list_in, same_in, view_in, handed_in, list_by_handed}
+use Rattle.room_commands.specs.Checks.{object_or_default}
+use Rattle.room_commands.proofs.Shorthands.{handed_by, if_reached, or_no_object, removal_refusal}
+use Rattle.std.specs.Bool.{then_some}
+use Rattle.room_commands.specs.Checks.{right_to_add}
 
 -- neither at or below the one path nor the other
 abbrev pub Off : Path → Path → Path → Type 0
@@ -144,13 +146,13 @@ module _ (r later : Room) (caller : SubjectModel) (p t : Path)
   })
 
 shown_if : {X : Type 0} (test other : Bool) (x y : X) → test ≡ other → (test ≡ true → x ≡ y)
-    → shown test x ≡ shown other y
+    → then_some test x ≡ then_some other y
 shown_if true true x y same value = ap Some (value refl)
 shown_if false false x y same value = refl
 shown_if true false x y same value = cc
 shown_if false true x y same value = cc
 
-shown_is : {X : Type 0} (test : Bool) (x : X) → is_some (shown test x) ≡ test
+shown_is : {X : Type 0} (test : Bool) (x : X) → is_some (then_some test x) ≡ test
 shown_is true x = refl
 shown_is false x = refl
 
@@ -163,17 +165,17 @@ made_after a b a' b' (inl alike) same = alike
 made_after a b a' b' (inr kept) same = kept.0 ∙ same ∙ sym kept.1
 
 full_after : (a b a' b' : Room) → Numbers a b a' b' → (test other : Bool)
-    → shown test (nat_le max_objects a.made) ≡ shown other (nat_le max_objects b.made)
-    → shown test (nat_le max_objects a'.made) ≡ shown other (nat_le max_objects b'.made)
+    → then_some test (nat_le max_objects a.made) ≡ then_some other (nat_le max_objects b.made)
+    → then_some test (nat_le max_objects a'.made) ≡ then_some other (nat_le max_objects b'.made)
 full_after a b a' b' (inl alike) test other same =
     shown_if test other (nat_le max_objects a'.made) (nat_le max_objects b'.made)
     (sym (shown_is test (nat_le max_objects a.made)) ∙ ap is_some same ∙ shown_is other (nat_le max_objects b.made))
     (λ h. ap (nat_le max_objects) alike)
 full_after a b a' b' (inr kept) test other same =
-    ap (λ n. shown test (nat_le max_objects n)) kept.0 ∙ same
-    ∙ ap (λ n. shown other (nat_le max_objects n)) (sym kept.1)
+    ap (λ n. then_some test (nat_le max_objects n)) kept.0 ∙ same
+    ∙ ap (λ n. then_some other (nat_le max_objects n)) (sym kept.1)
 
-shown_map : {X Y : Type 0} (f : X → Y) (test : Bool) (x : X) → shown test (f x) ≡ option_map f (shown test x)
+shown_map : {X Y : Type 0} (f : X → Y) (test : Bool) (x : X) → then_some test (f x) ≡ option_map f (then_some test x)
 shown_map f true x = refl
 shown_map f false x = refl
 
@@ -200,13 +202,15 @@ module _ (caller : SubjectModel) where
   }
 
   attributes_shown : (test : Bool) (names others : List (Name × Kind)) (o : Object)
-      → shown test (attributes_with names o) ≡ option_map (with_names names) (shown test (attributes_with others o))
+      → then_some test (attributes_with names o)
+      ≡ option_map (with_names names) (then_some test (attributes_with others o))
   attributes_shown test names others o =
-      ap (λ (n : ℕ). shown test (record (attributes_with names o) { size = n })) (resizes names others o.bytes o.kind)
+      ap (λ (n : ℕ). then_some test (record (attributes_with names o) { size = n }))
+      (resizes names others o.bytes o.kind)
       ∙ shown_map (with_names names) test (attributes_with others o)
 
   abbrev full_seen : Facts → Object → Bool → Option Bool
-  full_seen facts o full = shown (not (is_file o.kind) && (facts.may add_file || facts.may add_subdirectory)) full
+  full_seen facts o full = then_some (not (is_file o.kind) && (facts.may add_file || facts.may add_subdirectory)) full
 
   -- a sight where names, depth and the last number changed
   seen_changed : (fa fb : Facts) (oa ob : Object) → sight_with caller fa oa ≡ sight_with caller fb ob
@@ -481,7 +485,7 @@ module _ (a b a' b' : Room) (caller : SubjectModel) (p t : Path) (s : Step a b a
       | Below_t rest is ↦ gives_below t s.at_t rest folder is kind name walked
       | Away off ↦ gives_away folder off kind (s.before.adding folder name kind
           (way_before folder name off walked)
-          (sym (may_before folder off (right_to_make kind)) ∙ adds))
+          (sym (may_before folder off (right_to_add kind)) ∙ adds))
     ];
     moving = λ q walked removes. elim (place p t q) [
       | Below_p rest is ↦ (same_below p s.at_p rest q is).0

@@ -12,14 +12,13 @@ use Rattle.room_records.specs.Limits.{max_objects}
 use Rattle.room_records.specs.Names.{Name, Path}
 use Rattle.room_records.specs.Room.{Object, Room, IsRoom, object_at, children, parent_of}
 use Rattle.room_records.proofs.RoomsMap.{none_is_some, parent_of_end}
-use Rattle.room_commands.specs.CommandModel.{CommandModel}
+use Rattle.room_commands.specs.CommandModel.{CommandModel, paths_of}
 use Rattle.room_commands.specs.ReplyModel.{Refusal, Attributes}
 use Rattle.room_commands.specs.Lawful.{IsLawful}
 use Rattle.room_commands.specs.Checks.{walk, is_file, is_at_or_below}
-use Rattle.room_commands.specs.Effect.{effect, or_no_object}
-use Rattle.room_commands.specs.Sight.{StayAlike, SameBelow, Sight, View, view, may, may_remove, shown, depth_in}
-use Rattle.room_commands.specs.Sight.{right_to_make}
-use Rattle.room_commands.specs.Elsewhere.{paths_of, IsOutOfSight, AddsNowhere}
+use Rattle.room_commands.specs.Effect.{effect}
+use Rattle.room_commands.specs.Sight.{StayAlike, SameBelow, Sight, View, view, may, may_remove, depth_in}
+use Rattle.room_commands.specs.Elsewhere.{IsOutOfSight, AddsNowhere}
 use Rattle.room_commands.proofs.ChecksTell.{walk_ends_in_folder}
 use Rattle.room_commands.proofs.RoomsRenamed.{rest_below, one_continues}
 use Rattle.room_commands.proofs.Looks.{walk_to_folder}
@@ -29,9 +28,12 @@ use Rattle.room_commands.proofs.Staying.{Off, Below_p, Below_t, Away, place, chi
 use Rattle.room_commands.proofs.Staying.{walk_out, some_folder}
 use Rattle.room_commands.proofs.Others.{stay_itself}
 use Rattle.room_commands.proofs.Elsewhere.{Leaves, by_result, blocked, nothing_seen, fault_on, seen_behind, view_off}
+use Rattle.room_commands.proofs.Shorthands.{or_no_object}
+use Rattle.std.specs.Bool.{then_some}
+use Rattle.room_commands.specs.Checks.{right_to_add}
 
-same_or_hidden : {X : Type 0} (test : Bool) (x y : X) → (x ≡ y) ⊎ (test ≡ false) → shown test x ≡ shown test y
-same_or_hidden test x y (inl same) = ap (shown test) same
+same_or_hidden : {X : Type 0} (test : Bool) (x y : X) → (x ≡ y) ⊎ (test ≡ false) → then_some test x ≡ then_some test y
+same_or_hidden test x y (inl same) = ap (then_some test) same
 same_or_hidden true x y (inr off) = let no : true ≡ false = off in cc
 same_or_hidden false x y (inr off) = refl
 
@@ -202,7 +204,7 @@ module _ (room later : Room) (caller : SubjectModel) (p t : Path) (is_room : IsR
     | inr nowhere ↦ absurd (both_ways _ (nowhere folder o at is_folder walked) adds)
   ]
 
-  adds_kind : (folder : Path) (kind : Kind) → may room caller folder (right_to_make kind) ≡ true
+  adds_kind : (folder : Path) (kind : Kind) → may room caller folder (right_to_add kind) ≡ true
       → (may room caller folder add_file || may room caller folder add_subdirectory) ≡ true
   adds_kind folder File adds = or_left _ _ adds
   adds_kind folder Folder adds = or_right _ _ adds

@@ -13,7 +13,8 @@ use Rattle.room_records.proofs.RoomsMap.{none_is_some, found_stands}
 use Rattle.room_commands.specs.CommandModel as C
 use Rattle.room_commands.specs.ReplyModel.{Done}
 use Rattle.room_commands.specs.Effect.{effect}
-use Rattle.room_commands.specs.Sight.{StayAlike, HasNoPower, Own, Other, replies, replies_among}
+use Rattle.room_commands.specs.Sight.{StayAlike, HasNoPower, Own, Other, replies_among}
+use Rattle.room_commands.proofs.Shorthands.{replies}
 use Rattle.room_commands.specs.Elsewhere.{IsOutOfSight, AddsNowhere}
 use Rattle.room_commands.proofs.EffectIsRoom.{effect_is_room}
 use Rattle.room_commands.proofs.Unseen.{done_unseen}

@@ -1,8 +1,10 @@
 -- The checks of a command, in order. The first that fails gives the reply. Which right a command needs follows the
 -- meaning of the bits in RFC 8881, section 6.2.1.3.1; the order, the codes and the limits are our own rules.
 use Rattle.std.specs.Prelude.{ℕ, ◌+◌, ◌-◌, Bool, true, false, not, ◌&&◌, ◌||◌, List, [], ◌∷◌, map, length, Option, None}
-use Rattle.std.specs.Prelude.{Some, if◌then◌else◌, is_some, nat_lt, nat_le}
+use Rattle.std.specs.Prelude.{Some, if◌then◌else◌, is_none, is_some, nat_lt, nat_le}
+use Rattle.std.specs.Bool.{then_some}
 use Rattle.std.specs.List.{list_any, starts_with}
+use Rattle.std.specs.Option.{unwrap_or}
 use Rattle.room_acl.specs.declared.subject.Kind.{Kind}
 use Rattle.room_acl.specs.declared.subject.Kind.TheVariants.{File, Folder}
 use Rattle.room_acl.specs.declared.access.Decision.{Decision}
@@ -11,6 +13,7 @@ use Rattle.room_acl.specs.declared.inheritance.ListFault.{ListFault}
 use Rattle.room_acl.specs.declared.inheritance.ListFault.TheVariants as L
 use Rattle.room_acl.specs.Bits.{read_data, list_directory, write_data, add_file, append_data, add_subdirectory, execute}
 use Rattle.room_acl.specs.Bits.{delete_child, read_attributes, delete_object, read_acl, write_acl, write_owner}
+use Rattle.room_acl.specs.Bits.{no_list_flags}
 use Rattle.room_acl.specs.SubjectModel.{SubjectModel}
 use Rattle.room_acl.specs.Access.{decision}
 use Rattle.room_acl.specs.Inheritance.{own_entries_fault}
@@ -37,8 +40,7 @@ abbrev pub refusal_without_place : RefusalCode → Refusal
 refusal_without_place code = record { code = code; place = None }
 
 abbrev pub refuse_if : Bool → RefusalCode → Option Refusal
-refuse_if true code = Some (refusal_without_place code)
-refuse_if false code = None
+refuse_if refused code = then_some refused (refusal_without_place code)
 
 -- a refusal of a right names the path whose list was asked, and the bit
 abbrev pub denied_at : Path → Decision → Option Refusal
@@ -52,6 +54,10 @@ right_on room caller path wanted (Some o) = denied_at path (decision (list_of ro
 
 abbrev pub check_right : Room → SubjectModel → Path → ℕ → Option Refusal
 check_right room caller path wanted = right_on room caller path wanted (object_at room path)
+
+-- the caller has a right on a path
+abbrev pub may : Room → SubjectModel → Path → ℕ → Bool
+may room caller path right = is_none (check_right room caller path right)
 
 abbrev pub is_file : Kind → Bool
 is_file File = true
@@ -104,30 +110,30 @@ check_room_full room = refuse_if (nat_le max_objects room.made) RoomFull
 abbrev pub check_size : ℕ → Option Refusal
 check_size size = refuse_if (nat_lt max_document size) FBig
 
-abbrev pub bytes_of : Option Object → List ℕ
-bytes_of None = []
-bytes_of (Some o) = o.bytes
+-- an object that is not there, where one is asked for
+abbrev pub no_object : Object
+no_object = record { kind = File; owner = []; group = []; aclflag = no_list_flags; own = []; bytes = [] }
+
+abbrev pub object_or_default : Room → Path → Object
+object_or_default room path = unwrap_or (object_at room path) no_object
 
 abbrev pub bytes_at : Room → Path → List ℕ
-bytes_at room path = bytes_of (object_at room path)
+bytes_at room path = (object_or_default room path).bytes
 
 abbrev pub is_at_or_below : Path → Path → Bool
 is_at_or_below path top = starts_with name_eq path top
 
--- one of two rights is enough to remove an object; a refusal names the object and DELETE
-abbrev pub removal_refusal : Path → Option Refusal → Option Refusal → Option Refusal
-removal_refusal path None by_folder = None
-removal_refusal path (Some r) None = None
-removal_refusal path (Some r) (Some s) = Some (record { code = Access; place = Some (path, delete_object) })
-
--- DELETE on the object or DELETE_CHILD on its folder (RFC 8881, section 6.2.1.3.2, without its fallback to ADD_FILE)
+-- DELETE on the object or DELETE_CHILD on its folder (RFC 8881, section 6.2.1.3.2, without its fallback to ADD_FILE).
+-- One of them is enough to remove it; a refusal names the object and DELETE
 abbrev pub check_removal : Room → SubjectModel → Path → Option Refusal
-check_removal room caller path = removal_refusal path (check_right room caller path delete_object)
-    (check_right room caller (parent_of path) delete_child)
+check_removal room caller path =
+    if may room caller path delete_object || may room caller (parent_of path) delete_child then None
+    else denied_at path (Denied delete_object)
 
--- what adding the object to another folder needs
-abbrev pub right_to_add : Room → Path → ℕ
-right_to_add room path = if is_kind Folder (object_at room path) then add_subdirectory else add_file
+-- the right to add an object of a kind to a folder
+abbrev pub right_to_add : Kind → ℕ
+right_to_add File = add_file
+right_to_add Folder = add_subdirectory
 
 -- no object of the moved subtree would have too many names
 abbrev pub check_depth : Room → Path → Path → Option Refusal
@@ -143,10 +149,6 @@ list_fault_code L.AttrNotSupp = AttrNotSupp
 abbrev pub check_lawful : Option ListFault → Option Refusal
 check_lawful None = None
 check_lawful (Some fault) = Some (refusal_without_place (list_fault_code fault))
-
-abbrev pub kind_of : Option Object → Kind
-kind_of None = File
-kind_of (Some o) = o.kind
 
 -- the checks of each command (our own rule)
 abbrev pub checks : Room → SubjectModel → CommandModel → List (Option Refusal)
@@ -177,13 +179,14 @@ checks room caller (C.Rename path to) =
     refuse_if (is_root path || is_root to || is_at_or_below to path) Inval
     ∷ walk room caller path ∷ check_exists room path ∷ walk room caller to
     ∷ check_absent room to ∷ check_removal room caller path
-    ∷ check_right room caller (parent_of to) (right_to_add room path) ∷ check_depth room path to
+    ∷ check_right room caller (parent_of to) (right_to_add (object_or_default room path).kind)
+    ∷ check_depth room path to
     ∷ (if path_eq (parent_of path) (parent_of to) then None else check_folder_full room (parent_of to)) ∷ []
 checks room caller (C.GetList path) =
     walk room caller path ∷ check_exists room path ∷ check_right room caller path read_acl ∷ []
 checks room caller (C.SetList aclflag entries path) =
     walk room caller path ∷ check_exists room path ∷ check_right room caller path write_acl
-    ∷ check_lawful (own_entries_fault (own_entries_of_setlist path aclflag entries) (kind_of (object_at room path)))
+    ∷ check_lawful (own_entries_fault (own_entries_of_setlist path aclflag entries) (object_or_default room path).kind)
     ∷ []
 checks room caller (C.Chown group owner path) =
     walk room caller path ∷ check_exists room path ∷ check_right room caller path write_owner ∷ []

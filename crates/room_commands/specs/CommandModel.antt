@@ -35,3 +35,19 @@ command_model (C.GetList path) = GetList path
 command_model (C.SetList aclflag entries path) = SetList aclflag entries.items path
 command_model (C.Chown group owner path) = Chown group owner path
 command_model (C.Access mask path) = Access mask path
+
+-- the path that a command names, and the second one of a RENAME
+abbrev pub paths_of : CommandModel → Path × Path
+paths_of (Stat path) = (path, path)
+paths_of (ListNames path) = (path, path)
+paths_of (Mkdir path) = (path, path)
+paths_of (Create bytes path) = (path, path)
+paths_of (Read path) = (path, path)
+paths_of (Write bytes path) = (path, path)
+paths_of (Append bytes path) = (path, path)
+paths_of (Remove path) = (path, path)
+paths_of (Rename path to) = (path, to)
+paths_of (GetList path) = (path, path)
+paths_of (SetList aclflag entries path) = (path, path)
+paths_of (Chown group owner path) = (path, path)
+paths_of (Access mask path) = (path, path)

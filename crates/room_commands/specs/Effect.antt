@@ -4,32 +4,21 @@ use Rattle.std.specs.Prelude.{if◌then◌else◌, bit_and}
 use Rattle.std.specs.List.{filter}
 use Rattle.room_acl.specs.declared.subject.Kind.{Kind}
 use Rattle.room_acl.specs.declared.subject.Kind.TheVariants.{File, Folder}
-use Rattle.room_acl.specs.Bits.{no_list_flags, auto_inherit_flag}
+use Rattle.room_acl.specs.Bits.{auto_inherit_flag}
 use Rattle.room_acl.specs.SubjectModel.{SubjectModel}
 use Rattle.room_acl.specs.Access.{allowed_mask}
 use Rattle.room_records.specs.Names.{Path, path_eq}
 use Rattle.room_commands.specs.CommandModel.{CommandModel}
 use Rattle.room_commands.specs.CommandModel as C
-use Rattle.room_records.specs.Room.{Object, Room, object_at, list_of, standing_of, parent_of, children}
+use Rattle.room_records.specs.Room.{Object, Room, list_of, standing_of, parent_of, children}
 use Rattle.room_commands.specs.ReplyModel.{ReplyModel, Done, Stat, Names, Size, Bytes, Entries, Allowed, Refused}
 use Rattle.room_commands.specs.ReplyModel.{Refusal, Attributes}
 use Rattle.room_commands.specs.SetList.{own_entries_of_setlist}
-use Rattle.room_commands.specs.Checks.{first_refusal, checks, bytes_at, is_at_or_below}
+use Rattle.room_commands.specs.Checks.{first_refusal, checks, object_or_default, bytes_at, is_at_or_below}
 
 pub record Effect : Type 0 where
   pub room : Room
   pub reply : ReplyModel
-
--- an object that is not there, where one is asked for
-abbrev pub no_object : Object
-no_object = record { kind = File; owner = []; group = []; aclflag = no_list_flags; own = []; bytes = [] }
-
-abbrev pub or_no_object : Option Object → Object
-or_no_object None = no_object
-or_no_object (Some o) = o
-
-abbrev pub object_or_default : Room → Path → Object
-object_or_default room path = or_no_object (object_at room path)
 
 -- a new object follows its folder, has no own entries, and is the caller's, with the folder's group
 abbrev pub new_object : Room → SubjectModel → Path → Kind → List ℕ → Object
@@ -73,11 +62,7 @@ changed room caller (C.Rename path to) = renamed room path to
 changed room caller (C.SetList aclflag entries path) =
     with_object room path (λ o. record o { aclflag = aclflag; own = own_entries_of_setlist path aclflag entries })
 changed room caller (C.Chown group owner path) = with_object room path (λ o. record o { owner = owner; group = group })
-changed room caller (C.Stat path) = room
-changed room caller (C.ListNames path) = room
-changed room caller (C.Read path) = room
-changed room caller (C.GetList path) = room
-changed room caller (C.Access mask path) = room
+changed room caller command = room
 
 abbrev pub size_of : Room → Path → Kind → ℕ
 size_of room path File = length (bytes_at room path)
@@ -91,18 +76,14 @@ attributes_of room path o =
 abbrev pub reply : Room → SubjectModel → CommandModel → ReplyModel
 reply room caller (C.Stat path) = Stat (attributes_of room path (object_or_default room path))
 reply room caller (C.ListNames path) = Names (children room path)
-reply room caller (C.Mkdir path) = Done
 reply room caller (C.Create bytes path) = Size (length bytes)
 reply room caller (C.Read path) = Bytes (bytes_at room path)
 reply room caller (C.Write bytes path) = Size (length bytes)
 reply room caller (C.Append bytes path) = Size (length (bytes_at room path) + length bytes)
-reply room caller (C.Remove path) = Done
-reply room caller (C.Rename path to) = Done
 reply room caller (C.GetList path) = Entries (object_or_default room path).aclflag (list_of room path)
-reply room caller (C.SetList aclflag sent path) = Done
-reply room caller (C.Chown group owner path) = Done
 reply room caller (C.Access mask path) =
     Allowed (bit_and mask (allowed_mask (list_of room path) caller (standing_of (object_or_default room path))))
+reply room caller command = Done
 
 abbrev pub effect_by : Room → SubjectModel → CommandModel → Option Refusal → Effect
 effect_by room caller command (Some refusal) = record { room = room; reply = Refused refusal }

@@ -6,27 +6,9 @@ use Rattle.room_acl.specs.Bits.{list_directory, add_file, add_subdirectory, read
 use Rattle.room_acl.specs.SubjectModel.{SubjectModel}
 use Rattle.room_records.specs.Names.{Name, Path}
 use Rattle.room_records.specs.Room.{Object, Room, object_at, parent_of}
-use Rattle.room_commands.specs.CommandModel.{CommandModel}
-use Rattle.room_commands.specs.CommandModel as C
 use Rattle.room_commands.specs.ReplyModel.{Attributes}
 use Rattle.room_commands.specs.Checks.{walk, is_at_or_below}
 use Rattle.room_commands.specs.Sight.{Sight, View, may, HasNoPower}
-
--- the path that a command names, and the second one of a RENAME
-abbrev pub paths_of : CommandModel → Path × Path
-paths_of (C.Stat path) = (path, path)
-paths_of (C.ListNames path) = (path, path)
-paths_of (C.Mkdir path) = (path, path)
-paths_of (C.Create bytes path) = (path, path)
-paths_of (C.Read path) = (path, path)
-paths_of (C.Write bytes path) = (path, path)
-paths_of (C.Append bytes path) = (path, path)
-paths_of (C.Remove path) = (path, path)
-paths_of (C.Rename path to) = (path, to)
-paths_of (C.GetList path) = (path, path)
-paths_of (C.SetList aclflag entries path) = (path, path)
-paths_of (C.Chown group owner path) = (path, path)
-paths_of (C.Access mask path) = (path, path)
 
 -- a path is neither at another one nor below it, or the caller cannot reach that
 abbrev pub IsOffOne : SubjectModel → Room → Path → Path → Type 0

@@ -1,55 +1,36 @@
 -- The rights that a command needs, by the meaning of the bits in RFC 8881, section 6.2.1.3.1. Which command is which
 -- operation is our own rule.
-use Rattle.std.specs.Prelude.{ℕ, Bool, false, List, [], ◌∷◌, ◌++◌, map, Option, None, Some, is_none, IsTrue}
-use Rattle.std.specs.List.{list_any, list_all}
+use Rattle.std.specs.Prelude.{Bool, true, ◌&&◌, ◌||◌, ◌++◌, IsTrue}
+use Rattle.std.specs.List.{list_all}
 use Rattle.room_acl.specs.Bits.{read_data, list_directory, write_data, add_file, append_data, add_subdirectory, execute}
 use Rattle.room_acl.specs.Bits.{delete_child, read_attributes, delete_object, read_acl, write_acl, write_owner}
 use Rattle.room_acl.specs.SubjectModel.{SubjectModel}
-use Rattle.room_acl.specs.Access.{refused_bit}
-use Rattle.room_records.specs.Names.{Path}
-use Rattle.room_commands.specs.CommandModel.{CommandModel}
+use Rattle.room_records.specs.Room.{Room, parent_of}
+use Rattle.room_commands.specs.CommandModel.{CommandModel, paths_of}
 use Rattle.room_commands.specs.CommandModel as C
-use Rattle.room_records.specs.Room.{Object, Room, object_at, list_of, standing_of, parent_of}
-use Rattle.room_commands.specs.Checks.{proper_prefixes, right_to_add}
+use Rattle.room_commands.specs.Checks.{may, object_or_default, proper_prefixes, right_to_add}
 
-pub record Right : Type 0 where
-  pub on : Path
-  pub mask : ℕ
+-- the rights that a command needs, but for those on the way
+abbrev pub has_rights : Room → SubjectModel → CommandModel → Bool
+has_rights room caller (C.Stat path) = may room caller path read_attributes
+has_rights room caller (C.ListNames path) = may room caller path list_directory
+has_rights room caller (C.Mkdir path) = may room caller (parent_of path) add_subdirectory
+has_rights room caller (C.Create bytes path) = may room caller (parent_of path) add_file
+has_rights room caller (C.Read path) = may room caller path read_data
+has_rights room caller (C.Write bytes path) = may room caller path write_data
+has_rights room caller (C.Append bytes path) = may room caller path append_data
+has_rights room caller (C.Remove path) =
+    may room caller path delete_object || may room caller (parent_of path) delete_child
+has_rights room caller (C.Rename path to) =
+    (may room caller path delete_object || may room caller (parent_of path) delete_child)
+    && may room caller (parent_of to) (right_to_add (object_or_default room path).kind)
+has_rights room caller (C.GetList path) = may room caller path read_acl
+has_rights room caller (C.SetList aclflag entries path) = may room caller path write_acl
+has_rights room caller (C.Chown group owner path) = may room caller path write_owner
+has_rights room caller (C.Access mask path) = true
 
-abbrev pub allows_on : Room → SubjectModel → Right → Option Object → Bool
-allows_on room caller right None = false
-allows_on room caller right (Some o) = is_none (refused_bit (list_of room right.on) caller (standing_of o) right.mask)
-
-abbrev pub allows : Room → SubjectModel → Right → Bool
-allows room caller right = allows_on room caller right (object_at room right.on)
-
--- one right, which nothing else can stand in for
-abbrev pub need : Path → ℕ → List Right
-need path mask = record { on = path; mask = mask } ∷ []
-
--- EXECUTE on every folder on the way
-abbrev pub on_the_way : Path → List (List Right)
-on_the_way path = map (λ front. need front execute) (proper_prefixes path)
-
-abbrev pub to_remove : Path → List Right
-to_remove path = record { on = path; mask = delete_object } ∷ record { on = parent_of path; mask = delete_child } ∷ []
-
--- of each of these some right is needed
-abbrev pub needs : Room → CommandModel → List (List Right)
-needs room (C.Stat path) = need path read_attributes ∷ on_the_way path
-needs room (C.ListNames path) = need path list_directory ∷ on_the_way path
-needs room (C.Mkdir path) = need (parent_of path) add_subdirectory ∷ on_the_way path
-needs room (C.Create bytes path) = need (parent_of path) add_file ∷ on_the_way path
-needs room (C.Read path) = need path read_data ∷ on_the_way path
-needs room (C.Write bytes path) = need path write_data ∷ on_the_way path
-needs room (C.Append bytes path) = need path append_data ∷ on_the_way path
-needs room (C.Remove path) = to_remove path ∷ on_the_way path
-needs room (C.Rename path to) =
-    to_remove path ∷ need (parent_of to) (right_to_add room path) ∷ on_the_way path ++ on_the_way to
-needs room (C.GetList path) = need path read_acl ∷ on_the_way path
-needs room (C.SetList aclflag entries path) = need path write_acl ∷ on_the_way path
-needs room (C.Chown group owner path) = need path write_owner ∷ on_the_way path
-needs room (C.Access mask path) = on_the_way path
-
+-- and EXECUTE on every folder on the way
 abbrev pub NeedsAllowed : Room → SubjectModel → CommandModel → Type 0
-NeedsAllowed room caller command = IsTrue (list_all (list_any (allows room caller)) (needs room command))
+NeedsAllowed room caller command = IsTrue (has_rights room caller command
+    && list_all (λ front. may room caller front execute)
+    (proper_prefixes (paths_of command).0 ++ proper_prefixes (paths_of command).1))

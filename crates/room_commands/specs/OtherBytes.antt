@@ -7,12 +7,10 @@ use Rattle.room_commands.specs.CommandModel as C
 use Rattle.room_commands.specs.ReplyModel.{ReplyModel, Bytes}
 
 -- each byte of a file is another
-abbrev pub object_with : (ℕ → ℕ) → Object → Object
-object_with new o = record o { bytes = map new o.bytes }
-
 abbrev pub room_with : (ℕ → ℕ) → Room → Room
-room_with new room =
-    record room { objects = map (λ (e : Path × Object). (e.0, object_with new e.1)) room.objects }
+room_with new room = record room {
+  objects = map (λ (e : Path × Object). (e.0, record e.1 { bytes = map new e.1.bytes })) room.objects;
+}
 
 -- each byte that is to be written is another
 abbrev pub command_with : (ℕ → ℕ) → CommandModel → CommandModel

@@ -2,10 +2,11 @@
 -- the bits in RFC 8881, section 6.2.1.3.1. What shows beyond that meaning follows from our own order of checks, and is
 -- named below: `way`, that something is there, `kind`, `rights`, `size`, `depth` and `full`.
 use Rattle.std.specs.Prelude.{◌≡◌, ℕ, ◌-◌, max, Bool, true, false, not, ◌&&◌, ◌||◌, List, [], ◌∷◌, ◌++◌}
-use Rattle.std.specs.Prelude.{length, Option, None, Some, is_none, if◌then◌else◌, nat_le, ⊤}
-use Rattle.std.specs.Option.{option_map}
+use Rattle.std.specs.Prelude.{length, Option, None, is_none, if◌then◌else◌, nat_le, ⊤}
+use Rattle.std.specs.Bool.{then_some}
+use Rattle.std.specs.Option.{option_map, option_map_or}
 use Rattle.room_acl.specs.declared.subject.Kind.{Kind}
-use Rattle.room_acl.specs.declared.subject.Kind.TheVariants.{File, Folder}
+use Rattle.room_acl.specs.declared.subject.Kind.TheVariants.{Folder}
 use Rattle.room_acl.specs.Bits.{read_data, list_directory, add_file, append_data, add_subdirectory, read_attributes}
 use Rattle.room_acl.specs.Bits.{read_acl, write_acl, write_owner}
 use Rattle.room_acl.specs.SubjectModel.{SubjectModel}
@@ -19,21 +20,14 @@ use Rattle.room_commands.specs.CommandModel.{CommandModel}
 use Rattle.room_commands.specs.CommandModel as C
 use Rattle.room_commands.specs.ReplyModel.{Refusal, Attributes, ReplyModel}
 use Rattle.room_commands.specs.Lawful.{IsLawful}
-use Rattle.room_commands.specs.Checks.{check_right, check_removal, walk, is_file, is_kind, is_root, is_at_or_below}
-use Rattle.room_commands.specs.Effect.{attributes_of, effect, object_or_default}
-
--- the caller has a right on a path
-abbrev pub may : Room → SubjectModel → Path → ℕ → Bool
-may room caller path right = is_none (check_right room caller path right)
+use Rattle.room_commands.specs.Checks.{check_removal, walk, is_file, is_kind, is_root, is_at_or_below, right_to_add}
+use Rattle.room_commands.specs.Checks.{object_or_default}
+pub use Rattle.room_commands.specs.Checks.{may}
+use Rattle.room_commands.specs.Effect.{attributes_of, effect}
 
 -- the caller may remove an object, or move it: by DELETE on it, or by DELETE_CHILD on its folder
 abbrev pub may_remove : Room → SubjectModel → Path → Bool
 may_remove room caller path = not (is_root path) && is_none (check_removal room caller path)
-
--- a value, where it is shown
-abbrev pub shown : {X : Type 0} → Bool → X → Option X
-shown true x = Some x
-shown false x = None
 
 -- how many names longer than a path the longest path at or below it is
 abbrev pub depth_in : Path → List (Path × Object) → ℕ
@@ -66,13 +60,13 @@ abbrev pub sight_of : Room → SubjectModel → Path → Object → Sight
 sight_of room caller path o = record {
   kind = o.kind;
   rights = allowed_mask (list_of room path) caller (standing_of o);
-  attributes = shown (may room caller path read_attributes) (attributes_of room path o);
-  names = shown (not (is_file o.kind) && may room caller path list_directory) (children room path);
-  bytes = shown (is_file o.kind && may room caller path read_data) o.bytes;
-  entries = shown (may room caller path read_acl) (o.aclflag, list_of room path);
-  size = shown (is_file o.kind && may room caller path append_data) (length o.bytes);
-  depth = shown (may_remove room caller path) (depth_in path room.objects);
-  full = shown (not (is_file o.kind)
+  attributes = then_some (may room caller path read_attributes) (attributes_of room path o);
+  names = then_some (not (is_file o.kind) && may room caller path list_directory) (children room path);
+  bytes = then_some (is_file o.kind && may room caller path read_data) o.bytes;
+  entries = then_some (may room caller path read_acl) (o.aclflag, list_of room path);
+  size = then_some (is_file o.kind && may room caller path append_data) (length o.bytes);
+  depth = then_some (may_remove room caller path) (depth_in path room.objects);
+  full = then_some (not (is_file o.kind)
       && (may room caller path add_file || may room caller path add_subdirectory)) (nat_le max_objects room.made);
 }
 
@@ -82,15 +76,12 @@ pub record View : Type 0 where
   pub way : Option Refusal
   pub there : Option Sight
 
--- nothing is seen behind a fault on the way
-abbrev pub if_reached : Option Refusal → Option Sight → Option Sight
-if_reached None there = there
-if_reached (Some fault) there = None
-
 abbrev pub view : Room → SubjectModel → Path → View
 view room caller path = record {
   way = walk room caller path;
-  there = if_reached (walk room caller path) (option_map (sight_of room caller path) (object_at room path));
+  -- nothing is seen behind a fault on the way
+  there = if is_none (walk room caller path) then option_map (sight_of room caller path) (object_at room path)
+      else None;
 }
 
 -- two rooms of which a caller may see the same, at each path
@@ -99,42 +90,22 @@ LooksAlike caller a b = (path : Path) → view a caller path ≡ view b caller p
 
 -- the command changes nothing, or the bytes of a file alone
 abbrev pub changes_bytes_alone : CommandModel → Bool
-changes_bytes_alone (C.Stat path) = true
-changes_bytes_alone (C.ListNames path) = true
 changes_bytes_alone (C.Mkdir path) = false
 changes_bytes_alone (C.Create bytes path) = false
-changes_bytes_alone (C.Read path) = true
-changes_bytes_alone (C.Write bytes path) = true
-changes_bytes_alone (C.Append bytes path) = true
 changes_bytes_alone (C.Remove path) = false
 changes_bytes_alone (C.Rename path to) = false
-changes_bytes_alone (C.GetList path) = true
 changes_bytes_alone (C.SetList aclflag entries path) = false
 changes_bytes_alone (C.Chown group owner path) = false
-changes_bytes_alone (C.Access mask path) = true
-
--- the answers to commands of one caller, one after another
-abbrev pub replies : Room → SubjectModel → List CommandModel → List ReplyModel
-replies room caller [] = []
-replies room caller (command ∷ commands) =
-    (effect room caller command).reply ∷ replies (effect room caller command).room caller commands
+changes_bytes_alone command = true
 
 -- what stands at a path and below it is the same in both rooms
 abbrev pub SameBelow : Room → Room → Path → Type 0
 SameBelow a b path = (rest : Path) → object_at a (path ++ rest) ≡ object_at b (path ++ rest)
 
 -- what the list of its folder hands down to an object, whether or not it follows
-abbrev pub handed_by : Option Object → List EntryModel → List EntryModel
-handed_by None above = []
-handed_by (Some o) above = handed_down above o.kind
-
 abbrev pub handed_to : Room → Path → List EntryModel
-handed_to room path = handed_by (object_at room path) (list_of room (parent_of path))
-
--- the right to add an object of a kind to a folder
-abbrev pub right_to_make : Kind → ℕ
-right_to_make File = add_file
-right_to_make Folder = add_subdirectory
+handed_to room path =
+    option_map_or (λ (o : Object). handed_down (list_of room (parent_of path)) o.kind) (object_at room path) []
 
 -- two rooms that look alike to a caller, and will after each of its own commands
 pub record StayAlike (caller : SubjectModel) (a b : Room) : Type 0 where
@@ -142,7 +113,7 @@ pub record StayAlike (caller : SubjectModel) (a b : Room) : Type 0 where
   -- what it adds to a folder takes one of the numbers that are left, and it may use them up; it gets the folder's group
   -- and what its list hands down, and as the owner it may read both
   pub adding : (folder : Path) (name : Name) (kind : Kind) → walk a caller (folder ++ name ∷ []) ≡ None
-      → may a caller folder (right_to_make kind) ≡ true
+      → may a caller folder (right_to_add kind) ≡ true
       → (a.made ≡ b.made) × ((object_or_default a folder).group ≡ (object_or_default b folder).group)
       × (handed_down (list_of a folder) kind ≡ handed_down (list_of b folder) kind)
   -- what it may move it may put below a list of its own
@@ -158,12 +129,12 @@ pub data Turn : Type 0 where
   Own : CommandModel → Turn
   Other : SubjectModel → CommandModel → Turn
 
-abbrev pub own_commands : List Turn → List CommandModel
-own_commands [] = []
-own_commands (Own command ∷ turns) = command ∷ own_commands turns
-own_commands (Other other command ∷ turns) = own_commands turns
+abbrev pub own_turns : List Turn → List Turn
+own_turns [] = []
+own_turns (Own command ∷ turns) = Own command ∷ own_turns turns
+own_turns (Other other command ∷ turns) = own_turns turns
 
--- the answers to the caller's own commands, where others have their turns
+-- the answers to the caller's own commands, one after another, where others have their turns
 abbrev pub replies_among : Room → SubjectModel → List Turn → List ReplyModel
 replies_among room caller [] = []
 replies_among room caller (Own command ∷ turns) =

@@ -14,6 +14,7 @@ ghost use Rattle.room_records.specs.Names.{Name, Path, name_cmp};
 ghost use Rattle.room_records.specs.Room.{Object, Room, IsRoom, fresh_room, object_at, children, list_of, follows};
 ghost use Rattle.room_records.specs.Room.{standing_of};
 ghost use Rattle.room_commands.specs.CommandModel.{CommandModel, Read, Write, Append, Rename, GetList, SetList};
+ghost use Rattle.room_commands.specs.CommandModel.{paths_of};
 ghost use Rattle.room_commands.specs.ReplyModel.{IsRefused, Bytes, Entries, Done};
 ghost use Rattle.room_commands.specs.SetList.{own_entries_of_setlist};
 ghost use Rattle.room_commands.specs.Lawful.{IsLawful};
@@ -22,9 +23,9 @@ ghost use Rattle.room_commands.specs.Effect.{effect};
 ghost use Rattle.room_commands.specs.Needs.{NeedsAllowed};
 ghost use Rattle.room_commands.specs.Sight.{LooksAlike, StayAlike, BytesUnseen, HasNoPower, OthersUnseen, Turn, view};
 ghost use Rattle.room_commands.specs.OtherBytes.{room_with, command_with, reply_with};
-ghost use Rattle.room_commands.specs.Elsewhere.{paths_of, IsOff, HoldsNeither, IsAboveNeither, but_full, but_depth};
+ghost use Rattle.room_commands.specs.Elsewhere.{IsOff, HoldsNeither, IsAboveNeither, but_full, but_depth};
 ghost use Rattle.room_commands.specs.Elsewhere.{but_names, IsOutOfSight, AddsNowhere};
-ghost use Rattle.room_commands.specs.Sight.{may, changes_bytes_alone, own_commands, replies, replies_among};
+ghost use Rattle.room_commands.specs.Sight.{may, changes_bytes_alone, Own, own_turns, replies_among};
 
 /// A fresh room is a room.
 pub fn a_fresh_room_is_a_room()
@@ -141,7 +142,7 @@ pub fn what_may_not_be_seen_does_not_show()
         (effect a caller command).reply ≡ (effect b caller command).reply }
     ensures answers { (a b : Room) (caller : SubjectModel) (commands : List CommandModel) →
         AllByRecursion IsLawful commands → IsRoom a → IsRoom b → StayAlike caller a b →
-        replies a caller commands ≡ replies b caller commands }
+        replies_among a caller (map Own commands) ≡ replies_among b caller (map Own commands) }
 {}
 
 /// Rooms that look alike to a caller, and will after its commands, do so after each of its commands. After commands
@@ -162,7 +163,7 @@ pub fn rooms_that_look_alike_stay_alike()
 pub fn what_others_do_unseen_does_not_show()
     ensures answers { (room : Room) (caller : SubjectModel) (turns : List Turn) →
         IsRoom room → OthersUnseen caller room turns →
-        replies_among room caller turns ≡ replies room caller (own_commands turns) }
+        replies_among room caller turns ≡ replies_among room caller (own_turns turns) }
     ensures written { (room : Room) (caller other : SubjectModel) (bytes : List ℕ) (path : Path) →
         BytesUnseen caller room path → LooksAlike caller room (effect room other (Write bytes path)).room
         × (HasNoPower caller room path → StayAlike caller room (effect room other (Write bytes path)).room) }

@@ -26,10 +26,10 @@ use Rattle.room_commands.specs.CommandModel as C
 use Rattle.room_tree.specs.declared.loaded.LoadedObject.{LoadedObject}
 use Rattle.room_tree.specs.declared.planning.Outcome.{Outcome}
 use Rattle.room_commands.specs.declared.reply.RefusalCode.TheVariants.{Exist, RoomFull}
-use Rattle.room_commands.specs.Checks.{first_refusal, checks, is_root, check_size, check_room_full}
+use Rattle.room_commands.specs.Checks.{first_refusal, checks, is_root, check_size, check_room_full, object_or_default}
 use Rattle.room_acl.specs.Entries.{EntryModel}
 use Rattle.room_acl.specs.Inheritance.{handed_down}
-use Rattle.room_commands.specs.Effect.{object_or_default, with_new, new_object}
+use Rattle.room_commands.specs.Effect.{with_new, new_object}
 use Rattle.room_tree.specs.LoadedObjects.{IsLoaded, IsNewNode, node_of}
 use Rattle.room_tree.specs.Plans.{PlansEffect}
 use Rattle.room_tree.specs.Renewals.{puts_new}

@@ -18,7 +18,9 @@ use Rattle.room_records.specs.Rules.{ObjectRules}
 use Rattle.room_records.proofs.Folders.{pair_of, child_named}
 use Rattle.room_tree.specs.declared.loaded.LoadedObject.{LoadedObject}
 use Rattle.room_commands.specs.ReplyModel.{ReplyModel, Stat, Entries, Allowed}
-use Rattle.room_commands.specs.Effect.{object_or_default, attributes_of, size_of, or_no_object}
+use Rattle.room_commands.specs.Checks.{object_or_default}
+use Rattle.room_commands.specs.Effect.{attributes_of, size_of}
+use Rattle.room_commands.proofs.Shorthands.{or_no_object}
 use Rattle.room_tree.specs.LoadedObjects.{IsLoaded, node_of}
 use Rattle.room_tree.proofs.Checking.{there}
 

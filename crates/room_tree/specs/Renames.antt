@@ -7,6 +7,7 @@ use Rattle.room_records.specs.Room.{Room, parent_of}
 use Rattle.room_tree.specs.declared.moving.Move.{Move}
 use Rattle.room_commands.specs.ReplyModel.{Refusal}
 use Rattle.room_commands.specs.Checks.{walk, check_exists, check_absent, check_removal, check_right, right_to_add}
+use Rattle.room_commands.specs.Checks.{object_or_default}
 use Rattle.room_commands.specs.Checks.{check_depth, check_folder_full}
 use Rattle.room_tree.specs.LoadedObjects.{IsLoaded}
 
@@ -17,8 +18,8 @@ end_checks room caller path to =
 
 -- the rights on an object that goes to another folder
 abbrev pub move_rights : Room → SubjectModel → Path → Path → List (Option Refusal)
-move_rights room caller path to =
-    check_removal room caller path ∷ check_right room caller (parent_of to) (right_to_add room path) ∷ []
+move_rights room caller path to = check_removal room caller path
+    ∷ check_right room caller (parent_of to) (right_to_add (object_or_default room path).kind) ∷ []
 
 -- the limits that a move keeps
 abbrev pub move_limits : Room → Path → Path → List (Option Refusal)

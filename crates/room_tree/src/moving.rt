@@ -1,10 +1,9 @@
 //! RENAME.
-ghost use Rattle.std.specs.Prelude.{◌≡◌, ℕ, false, List, [], ◌∷◌, ◌++◌, ◌||◌, Some, IfOk, if◌then◌else◌};
-ghost use Rattle.room_acl.specs.Bits.{add_file, add_subdirectory};
+ghost use Rattle.std.specs.Prelude.{◌≡◌, ℕ, false, List, [], ◌∷◌, ◌++◌, ◌||◌, Some, IfOk};
 ghost use Rattle.room_records.specs.Names.{IsPath, Path as PathModel};
-ghost use Rattle.room_records.specs.Room.{Object};
 ghost use Rattle.room_records.specs.Shelf.{ShelfRead};
-ghost use Rattle.room_commands.specs.Checks.{first_refusal, refuse_if, is_root, is_kind, is_at_or_below};
+ghost use Rattle.room_commands.specs.Checks.{first_refusal, refuse_if, is_root, is_at_or_below};
+ghost use Rattle.room_commands.specs.Checks.{right_to_add as right_by_kind};
 ghost use Rattle.room_commands.specs.CommandModel as C;
 ghost use Rattle.room_tree.specs.LoadedObjects.{OfRoom};
 ghost use Rattle.room_tree.specs.Plans.{Plans};
@@ -82,8 +81,7 @@ fn ends_of_move<S: Shelf>(
 
 /// What adding an object of this kind to a folder needs.
 fn right_to_add(kind: Kind) -> Mask
-    ensures value { (o : Object) → o.kind ≡ kind
-        → result ≡ (if is_kind Kind.Folder (Some o) then add_subdirectory else add_file) }
+    ensures { result ≡ right_by_kind kind }
 {
     match kind {
         Kind::File => Mask::ADD_FILE,

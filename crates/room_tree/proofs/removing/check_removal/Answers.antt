@@ -5,7 +5,8 @@ use Rattle.room_records.specs.Names.{Path}
 use Rattle.room_records.specs.Room.{parent_of}
 use Rattle.room_commands.specs.ReplyModel.{Refusal}
 use Rattle.room_commands.specs.declared.reply.RefusalCode.TheVariants.{Access}
-use Rattle.room_commands.specs.Checks.{removal_refusal, check_right}
+use Rattle.room_commands.specs.Checks.{check_right}
+use Rattle.room_commands.proofs.Shorthands.{removal_refusal}
 use Rattle.room_tree.proofs.InTurn.{both_tell}
 use Rattle.room_tree.proofs.removing.check_removal.Goals as goal
 

@@ -6,7 +6,8 @@ use Rattle.room_commands.specs.SetList.{kept_entry, own_entries_of_setlist}
 use Rattle.room_records.proofs.Shelves.{read_then}
 use Rattle.room_tree.specs.LoadedObjects.{node_of}
 use Rattle.room_tree.specs.Renewals.{entries_of}
-use Rattle.room_commands.specs.Checks.{walk, check_exists, check_right, check_lawful, kind_of}
+use Rattle.room_commands.specs.Checks.{walk, check_exists, check_right, check_lawful, object_or_default}
+use Rattle.room_commands.proofs.Shorthands.{kind_of}
 use Rattle.room_tree.proofs.Checking.{none_passes, first_alone, there}
 use Rattle.room_tree.proofs.Relisted.{setlist_plans}
 use Rattle.room_tree.proofs.Stops.{handed_on, in_front}
@@ -21,7 +22,7 @@ returns-in_err-loaded-clause-effect g c = λ available laid_out t e room stand.
     let flag = c.args.aclflag in
     handed_on _ _ _ c.from_residual.result c.from_residual.ensures.1
     (in_front (walk room caller path ∷ check_exists room path ∷ check_right room caller path 0x40000 ∷ [])
-    ((check_lawful (own_entries_fault (own_entries_of_setlist path flag sent) (kind_of (object_at room path))))
+    ((check_lawful (own_entries_fault (own_entries_of_setlist path flag sent) (object_or_default room path).kind))
     ∷ []) _
     (c.in_err-loaded.ensures.value available laid_out t e room stand))
 
@@ -35,12 +36,12 @@ returns-in_err-check_lawful-clause-effect g c = λ available laid_out t e room s
     let reached = c.in_ok-loaded.ensures.value available laid_out t e room stand in
     let own : c.in_ok-own.own.items ≡ own_entries_of_setlist path flag sent =
     c.in_ok-own.ensures ∙ ap (λ b. filter_map (kept_entry b) sent) c.follows_at.ensures in
-    let kind : loaded.kind ≡ kind_of (object_at room path) =
+    let kind : loaded.kind ≡ (object_or_default room path).kind =
     reached.1.is_there.shows.kind ∙ sym (ap kind_of (there reached.1)) in
     let whole = none_passes (walk room caller path ∷ check_exists room path ∷ check_right room caller path 0x40000 ∷ [])
-    ((check_lawful (own_entries_fault (own_entries_of_setlist path flag sent) (kind_of (object_at room path))))
+    ((check_lawful (own_entries_fault (own_entries_of_setlist path flag sent) (object_or_default room path).kind))
     ∷ []) reached.0 ∙ first_alone
-    (check_lawful (own_entries_fault (own_entries_of_setlist path flag sent) (kind_of (object_at room path))))
+    (check_lawful (own_entries_fault (own_entries_of_setlist path flag sent) (object_or_default room path).kind))
     ∙ ap (λ k. check_lawful (own_entries_fault (own_entries_of_setlist path flag sent) k)) (sym kind)
     ∙ ap (λ es. check_lawful (own_entries_fault es loaded.kind)) (sym own)
     ∙ ap (λ es. check_lawful (own_entries_fault es loaded.kind)) (sym c.as_slice.ensures.value) in
@@ -64,12 +65,12 @@ returns-clause-effect g c = λ available laid_out t e room stand.
     let stored = told.1.1.0 path reached.1 in
     let own : c.in_ok-own.own.items ≡ own_entries_of_setlist path flag sent =
     c.in_ok-own.ensures ∙ ap (λ b. filter_map (kept_entry b) sent) c.follows_at.ensures in
-    let kind : loaded.kind ≡ kind_of (object_at room path) =
+    let kind : loaded.kind ≡ (object_or_default room path).kind =
     reached.1.is_there.shows.kind ∙ sym (ap kind_of (there reached.1)) in
     let whole = none_passes (walk room caller path ∷ check_exists room path ∷ check_right room caller path 0x40000 ∷ [])
-    ((check_lawful (own_entries_fault (own_entries_of_setlist path flag sent) (kind_of (object_at room path))))
+    ((check_lawful (own_entries_fault (own_entries_of_setlist path flag sent) (object_or_default room path).kind))
     ∷ []) reached.0 ∙ first_alone
-    (check_lawful (own_entries_fault (own_entries_of_setlist path flag sent) (kind_of (object_at room path))))
+    (check_lawful (own_entries_fault (own_entries_of_setlist path flag sent) (object_or_default room path).kind))
     ∙ ap (λ k. check_lawful (own_entries_fault (own_entries_of_setlist path flag sent) k)) (sym kind)
     ∙ ap (λ es. check_lawful (own_entries_fault es loaded.kind)) (sym own)
     ∙ ap (λ es. check_lawful (own_entries_fault es loaded.kind)) (sym c.as_slice.ensures.value) in
