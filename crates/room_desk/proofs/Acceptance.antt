@@ -12,10 +12,11 @@ use Rattle.room_records.specs.Room.{Room}
 use Rattle.room_wire.specs.Asks.EventModel.{Request, Slot}
 use Rattle.room_commands.specs.Lawful.{IsLawful}
 use Rattle.room_desk.specs.AnswerModel.{AnswerModel}
-use Rattle.room_desk.specs.History.{History, Session, session_of, with_event, is_accepted, state_after}
-use Rattle.room_desk.specs.History.{accepted, accepts, is_for, HaveLawfulCommands}
+use Rattle.room_desk.specs.History.{History, Session, session_of, is_accepted, state_after}
+use Rattle.room_desk.specs.History.{accepted, accepts, is_for}
 use Rattle.room_desk.specs.RowAnswers.{Ran, ran_row}
 use Rattle.room_desk.specs.Representation.{RepresentsHistory, session_row_of, slot_row_of}
+use Rattle.room_desk.proofs.Shorthands.{HaveLawfulCommands, with_event}
 
 -- a request ends no session
 row_after_request : (q : Request) (sid : List ℕ) (o : Option Session) → option_map (session_row_of sid) o

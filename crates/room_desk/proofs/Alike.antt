@@ -7,9 +7,10 @@ use Rattle.std.proofs.lemmas.Grind.{common_steps}
 use Rattle.room_records.specs.Records.{Records}
 use Rattle.room_records.specs.Room.{Room}
 use Rattle.room_wire.specs.Asks.EventModel.{EventModel}
-use Rattle.room_desk.specs.History.{History, session_of, accepted, commands_of, state_after, changes_rows}
+use Rattle.room_desk.specs.History.{History, session_of, accepted, state_after, changes_rows}
 use Rattle.room_desk.specs.Representation.{RepresentsHistory, session_row_of, slot_row_of, kept_after}
 use Rattle.room_desk.proofs.Idle.{state_after_idle, rows_after_idle, accepted_after_idle}
+use Rattle.room_desk.proofs.Shorthands.{commands_of}
 
 -- the rooms are one, and each session and slot shows the same
 pub record Alike (start : Room) (a b : History) : Type 0 where

@@ -15,10 +15,11 @@ use Rattle.room_wire.specs.Forms.Texts.{command_text}
 use Rattle.room_wire.proofs.Lemmas.Forms.CommandBack.{text_back}
 use Rattle.room_desk.specs.declared.requests.Found.TheVariants as F
 use Rattle.room_desk.specs.AnswerModel.{AnswerModel}
-use Rattle.room_desk.specs.History.{History, Accepted, accepted, HaveLawfulCommands, answer_to, changes_rows}
+use Rattle.room_desk.specs.History.{History, Accepted, accepted, answer_to, changes_rows}
 use Rattle.room_desk.specs.Representation.{RepresentsHistory, kept_after, slot_row_of}
 use Rattle.room_desk.specs.RowAnswers.{answer_kept, found_by}
 use Rattle.room_desk.proofs.Found.{Says, said}
+use Rattle.room_desk.proofs.Shorthands.{HaveLawfulCommands}
 
 -- the bytes are the text of a lawful command
 abbrev IsText : List ℕ → Type 0

@@ -1,3 +1,4 @@
+pub mod Shorthands
 pub mod Runs
 pub mod Acceptance
 pub mod Allowed

@@ -22,9 +22,10 @@ use Rattle.room_wire.specs.Serving.Outputs.{Outputs}
 use Rattle.room_desk.specs.AnswerModel.{AnswerModel, Refused}
 use Rattle.room_desk.specs.History.{History}
 use Rattle.room_desk.specs.Representation.{StandsFor}
-use Rattle.room_desk.specs.Serving.{AnswersOrDelays, AnswersMessage, DeskCall, Answered, AskChangesFew, IsLeftAlone}
+use Rattle.room_desk.specs.Serving.{AnswersOrDelays, AnswersMessage, DeskCall, Answered, IsLeftAlone}
 use Rattle.room_desk.specs.Serving.{MayAnswer}
 use Rattle.room_desk.proofs.Calls.{no_call, calls_then}
+use Rattle.room_desk.proofs.Shorthands.{AskChangesFew}
 
 -- what is answered otherwise than by DELAY and asks no event changes nothing
 few_unasked : (start : Room) (past : History) (ask : Result AskModel WireFault) (r : Records) (answered : AnswerModel)

@@ -23,7 +23,7 @@ use Rattle.room_wire.specs.Forms.Texts.{command_text, reply_text}
 use Rattle.room_wire.specs.declared.answers.code.Code.TheVariants.{BadSession, BadSlot, SeqMisordered, SeqFalseRetry}
 use Rattle.room_desk.specs.AnswerModel.{AnswerModel, Reply, Refused}
 use Rattle.room_desk.specs.History.{History, Accepted, session_of, is_open_for, slots_of, accepts, is_for, accepted}
-use Rattle.room_desk.specs.History.{is_accepted, state_after, original_reply, if_kept, answer_again, replay}
+use Rattle.room_desk.specs.History.{is_accepted, state_after, original_reply}
 use Rattle.room_desk.specs.History.{answer_unaccepted, answer_to}
 use Rattle.room_desk.specs.AlikePasts.{caller_of}
 use Rattle.room_desk.specs.OtherBytes.{DifferInBytes, Begin, Same, Written, TellsOfRead}
@@ -32,6 +32,8 @@ use Rattle.room_desk.proofs.Numbers.{accepted_are_numbered}
 use Rattle.room_desk.proofs.OwnRequests.{Owned, own, accepted_are_owned}
 use Rattle.room_desk.proofs.Secrets.{row_in, row_then, row_is_open_for, row_slots, open_by_row, slots_by_row}
 use Rattle.room_desk.proofs.Secrets.{open_answer, close_answer, open_answered, close_answered}
+use Rattle.room_desk.proofs.Shorthands.{answer_again, replay}
+use Rattle.std.specs.Bool.{then_some}
 
 -- replies that differ in bytes alone are the same, or bytes were read
 no_bytes : (y x : ReplyModel) → reply_with blank y ≡ x → ((bytes : List ℕ) → x ≡ Bytes bytes → ⊥) → y ≡ x
@@ -184,13 +186,13 @@ module _ (caller : SubjectModel) (a b : Room) (alike : room_with blank a ≡ roo
   again x y is like = by_keep x.request.keep refl
     where
       by_keep : (keep : Bool) → x.request.keep ≡ keep → (replay a x ≡ replay b y) ⊎ ReadOf x (replay a x)
-      by_keep false off = inl (ap (λ t. answer_again (if_kept t (original_reply a x))) off
-          ∙ ap (λ t. answer_again (if_kept t (original_reply b y))) (sym off ∙ ap (λ (r : Request). r.keep) is))
+      by_keep false off = inl (ap (λ t. answer_again (then_some t (original_reply a x))) off
+          ∙ ap (λ t. answer_again (then_some t (original_reply b y))) (sym off ∙ ap (λ (r : Request). r.keep) is))
       by_keep true on =
           let first : replay a x ≡ Reply (original_reply a x) =
-          ap (λ t. answer_again (if_kept t (original_reply a x))) on in
+          ap (λ t. answer_again (then_some t (original_reply a x))) on in
           let second : replay b y ≡ Reply (original_reply b y) =
-          ap (λ t. answer_again (if_kept t (original_reply b y))) (sym (ap (λ (r : Request). r.keep) is) ∙ on) in
+          ap (λ t. answer_again (then_some t (original_reply b y))) (sym (ap (λ (r : Request). r.keep) is) ∙ on) in
           elim (replies x.before y.before like x.request y.request is) [
             | inl one ↦ inl (first ∙ ap Reply one ∙ sym second)
             | inr read ↦ inr (read.0, read.1, read.2, first)

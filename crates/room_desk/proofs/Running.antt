@@ -22,8 +22,8 @@ use Rattle.room_tree.specs.Plans.{PlansEffect}
 use Rattle.room_tree.specs.declared.planning.Outcome.{Outcome}
 use Rattle.room_wire.specs.Asks.EventModel.{Request}
 use Rattle.room_wire.specs.Forms.Texts.{command_text, reply_text}
-use Rattle.room_desk.specs.History.{if_kept}
 use Rattle.room_desk.specs.RowAnswers.{HasSlot, RanTo, ran_row}
+use Rattle.std.specs.Bool.{then_some}
 
 objects_of_changes : (changes : List Change) (r : Records)
     → (apply_changes changes r).objects ≡ apply_all_to_objects changes r.objects
@@ -93,7 +93,7 @@ pub commits : {r from : Records} {room : Room} {p q : Request} {outcome : Outcom
     → row ≡ record {
       sid = q.sid;
       slot = q.slot;
-      kept = record { seq = q.seq; request = command_text q.command; reply = if_kept q.keep reply };
+      kept = record { seq = q.seq; request = command_text q.command; reply = then_some q.keep reply };
     }
     → changes ≡ outcome.changes.items ++ PutSlot row ∷ [] → Commits r room q from changes reply
 commits {r} {from} {room} {p} {q} {outcome} {row} {changes} asked same stand slots has planned lawful told

@@ -23,7 +23,7 @@ use Rattle.room_wire.specs.Forms.Texts.{command_text, reply_text}
 use Rattle.room_wire.specs.declared.answers.code.Code.TheVariants.{BadSession, BadSlot, SeqMisordered, SeqFalseRetry}
 use Rattle.room_desk.specs.AnswerModel.{AnswerModel, Reply, Refused}
 use Rattle.room_desk.specs.History.{History, Session, Accepted, session_of, is_open_for, slots_of, accepts, is_for}
-use Rattle.room_desk.specs.History.{accepted, is_accepted, state_after, original_reply, if_kept, answer_again, replay}
+use Rattle.room_desk.specs.History.{accepted, is_accepted, state_after, original_reply}
 use Rattle.room_desk.specs.History.{answer_unaccepted, answer_open, answer_close, answer_to}
 use Rattle.room_desk.specs.Representation.{session_row_of}
 use Rattle.room_desk.specs.RowAnswers.{is_usable, answer_open_again}
@@ -31,6 +31,8 @@ use Rattle.room_desk.specs.AlikePasts.{AlikePasts, Begin, Both, First, Second, O
 use Rattle.room_desk.specs.AlikePasts.{LeavesSessions}
 use Rattle.room_desk.proofs.Idle.{rows_after_idle, accepted_after_idle}
 use Rattle.room_desk.proofs.Numbers.{other_slots_stay}
+use Rattle.room_desk.proofs.Shorthands.{answer_again, replay}
+use Rattle.std.specs.Bool.{then_some}
 
 -- what is asked of a session, by its row
 abbrev pub row_in : History → List ℕ → Option SessionRow
@@ -263,7 +265,7 @@ module _ (caller : SubjectModel) (is_own : List ℕ → Bool) (a b : Room) where
     again_alike : (x y : Accepted) → x.request ≡ y.request → x.request.caller ≡ caller → IsLawful x.request.command
         → AlikePasts caller is_own a b x.before y.before → replay a x ≡ replay b y
     again_alike x y same is lawful alike =
-        ap (λ r. answer_again (if_kept x.request.keep r)) (replies_same x.before y.before alike x.request is lawful)
+        ap (λ r. answer_again (then_some x.request.keep r)) (replies_same x.before y.before alike x.request is lawful)
         ∙ ap (λ (q : Request). replay b (record { request = q; before = y.before })) same
 
     unaccepted_alike : (q : Request) (xs ys : List Accepted) → LikeAccepted xs ys

@@ -13,6 +13,7 @@ use Rattle.room_wire.specs.Messages.MessageModel.{MessageModel}
 use Rattle.room_wire.specs.Messages.Stream.{is_last}
 use Rattle.room_desk.specs.AnswerModel.{AnswerModel}
 use Rattle.room_desk.specs.History.{History, state_after, changes_rows}
+use Rattle.room_desk.specs.Serving.{by_event}
 use Rattle.room_desk.specs.Stops.{is_delay}
 use Rattle.room_wire.specs.Answers.AnswerModel.{answer_bytes}
 
@@ -28,9 +29,8 @@ sid_of (Close caller sid) = sid
 sid_of (Slot q) = q.sid
 
 abbrev pub asks_lawfully : EventModel → Type 0
-asks_lawfully (Open caller sid slots) = Unit {0}
-asks_lawfully (Close caller sid) = Unit {0}
 asks_lawfully (Slot q) = IsLawful q.command
+asks_lawfully event = Unit {0}
 
 -- an event is another's, and leaves the caller's sessions alone: it uses another session name, or changes nothing that
 -- is kept, as where it is refused because the name is taken
@@ -66,22 +66,18 @@ is_own caller is_own_name event = bytes_eq caller.name (caller_of event).name &&
 
 -- and so is the event that a message asks, if it asks one
 abbrev pub asks_own : SubjectModel → (List ℕ → Bool) → Result AskModel WireFault → Bool
-asks_own caller is_own_name (Ok (Check question)) = false
-asks_own caller is_own_name (Ok (Event event)) = is_own caller is_own_name event
-asks_own caller is_own_name (Err fault) = false
+asks_own caller is_own_name ask = by_event (is_own caller is_own_name) false ask
 
 -- the answers to those of some events, or messages, that are the caller's own. DELAY is left out: what is answered so
 -- has not joined the history, and tells nothing
 abbrev pub told : {X : Type 0} → (is_its_own : X → Bool) → List X → List AnswerModel → List AnswerModel
-told is_its_own [] answers = []
-told is_its_own (x ∷ xs) [] = []
 told is_its_own (x ∷ xs) (answered ∷ answers) = if is_its_own x && not (is_delay answered)
     then answered ∷ told is_its_own xs answers else told is_its_own xs answers
+told is_its_own xs answers = []
 
 -- the output is that of these answers, one for each message
 abbrev pub Writes : List MessageModel → List AnswerModel → (out : List ℕ) → Type 0
 Writes [] [] out = out ≡ []
 Writes (m ∷ ms) (answered ∷ answers) out =
     (later : List ℕ) × (out ≡ answer_bytes answered (is_last m) ++ later) × Writes ms answers later
-Writes [] (answered ∷ answers) out = ⊥
-Writes (m ∷ ms) [] out = ⊥
+Writes ms answers out = ⊥

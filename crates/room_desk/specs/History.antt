@@ -4,6 +4,8 @@
 use Rattle.std.specs.Prelude.{ℕ, ◌%◌, ◌^◌, Bool, true, false, not, ◌&&◌, ◌==◌, List, [], ◌∷◌, length, map, Option}
 use Rattle.std.specs.Prelude.{None, Some, if◌then◌else◌, nat_lt, is_some}
 use Rattle.std.specs.List.{AllByRecursion, list_any}
+use Rattle.std.specs.Bool.{then_some}
+use Rattle.std.specs.Option.{option_map, option_map_or, option_or}
 use Rattle.std.specs.Str.{bytes_eq}
 use Rattle.room_acl.specs.SubjectModel.{SubjectModel}
 use Rattle.room_slots.specs.Slots.{next_number}
@@ -31,23 +33,19 @@ pub record Session : Type 0 where
 -- the session that an event would open, if the name was never opened
 abbrev pub opened_by : List ℕ → EventModel → Option Session
 opened_by sid (Open caller name slots) =
-    if bytes_eq sid name then Some (record { owner = caller.name; slots = slots; since = [] }) else None
-opened_by sid (Close caller name) = None
-opened_by sid (Slot request) = None
-
-abbrev pub with_event : Option Session → Option Session → EventModel → Option Session
-with_event None opening event = opening
-with_event (Some session) opening event = Some (record session { since = event ∷ session.since })
+    then_some (bytes_eq sid name) (record { owner = caller.name; slots = slots; since = [] })
+opened_by sid event = None
 
 -- whose a session name is: its first OPEN decides for good (our own rule)
 abbrev pub session_of : History → List ℕ → Option Session
 session_of [] sid = None
-session_of (event ∷ past) sid = with_event (session_of past sid) (opened_by sid event) event
+session_of (event ∷ past) sid =
+    option_or (option_map (λ (session : Session). record session { since = event ∷ session.since })
+    (session_of past sid)) (opened_by sid event)
 
 abbrev pub closes : List ℕ → List ℕ → EventModel → Bool
 closes sid owner (Close caller name) = bytes_eq sid name && bytes_eq owner caller.name
-closes sid owner (Open caller name slots) = false
-closes sid owner (Slot request) = false
+closes sid owner event = false
 
 -- it is open until a CLOSE by its owner, and never afterwards (our own rule)
 abbrev pub is_open : List ℕ → Session → Bool
@@ -58,8 +56,7 @@ is_open_for sid caller None = false
 is_open_for sid caller (Some session) = bytes_eq session.owner caller.name && is_open sid session
 
 abbrev pub slots_of : Option Session → ℕ
-slots_of None = 0
-slots_of (Some session) = session.slots
+slots_of session = option_map_or (λ (s : Session). s.slots) session 0
 
 pub record Accepted : Type 0 where
   pub request : Request
@@ -78,12 +75,11 @@ is_for sid slot q = bytes_eq sid q.sid && (slot == q.slot)
 -- the accepted requests of a slot, the latest first
 abbrev pub accepted : History → List ℕ → ℕ → List Accepted
 accepted [] sid slot = []
-accepted (Open caller name slots ∷ past) sid slot = accepted past sid slot
-accepted (Close caller name ∷ past) sid slot = accepted past sid slot
 accepted (Slot q ∷ past) sid slot =
     if is_for sid slot q && accepts past (length (accepted past sid slot)) q
     then record { request = q; before = past } ∷ accepted past sid slot
     else accepted past sid slot
+accepted (event ∷ past) sid slot = accepted past sid slot
 
 abbrev pub is_accepted : History → Request → Bool
 is_accepted past q = accepts past (length (accepted past q.sid q.slot)) q
@@ -91,55 +87,32 @@ is_accepted past q = accepts past (length (accepted past q.sid q.slot)) q
 -- what the room that it began with becomes by the accepted requests of all slots, in their order
 abbrev pub state_after : Room → History → Room
 state_after start [] = start
-state_after start (Open caller name slots ∷ past) = state_after start past
-state_after start (Close caller name ∷ past) = state_after start past
 state_after start (Slot q ∷ past) = if is_accepted past q
     then (effect (state_after start past) q.caller q.command).room else state_after start past
-
--- the number of the last of a slot's accepted requests: their count, modulo 2^32
-abbrev pub last_number : List Accepted → ℕ
-last_number requests = length requests % 2 ^ 32
-
-abbrev pub commands_of : List Accepted → List CommandModel
-commands_of requests = map (λ (a : Accepted). a.request.command) requests
-
-abbrev pub HaveLawfulCommands : List Accepted → Type 0
-HaveLawfulCommands requests = AllByRecursion IsLawful (commands_of requests)
+state_after start (event ∷ past) = state_after start past
 
 -- the commands that a history accepts, in any slot, are lawful
 abbrev pub AcceptsLawful : History → Type 0
-AcceptsLawful past = (sid : List ℕ) (slot : ℕ) → HaveLawfulCommands (accepted past sid slot)
+AcceptsLawful past = (sid : List ℕ) (slot : ℕ)
+    → AllByRecursion IsLawful (map (λ (a : Accepted). a.request.command) (accepted past sid slot))
 
 -- the reply of an accepted request: that of its command on the room that stood before it
 abbrev pub original_reply : Room → Accepted → List ℕ
 original_reply start a = reply_text (effect (state_after start a.before) a.request.caller a.request.command).reply
 
--- a reply, where it is to be kept for a repeat
-abbrev pub if_kept : Bool → List ℕ → Option (List ℕ)
-if_kept true reply = Some reply
-if_kept false reply = None
-
 -- the reply of an accepted request, where the request asked that it be kept
 abbrev pub kept_reply : Room → Accepted → Option (List ℕ)
-kept_reply start a = if_kept a.request.keep (original_reply start a)
+kept_reply start a = then_some a.request.keep (original_reply start a)
 
--- a repeat by the reply that is kept: where none is, it is refused (RFC 8881, section 2.10.6.1.3)
-abbrev pub answer_again : Option (List ℕ) → AnswerModel
-answer_again None = Refused RetryUncached
-answer_again (Some reply) = Reply reply
-
--- what a repeat of an accepted request is answered: its original reply, where that is kept (RFC 8881, section 2.10.6.1)
-abbrev pub replay : Room → Accepted → AnswerModel
-replay start a = answer_again (kept_reply start a)
-
--- a request that is not accepted, in a session that its caller may use:
--- a repeat, a false retry (RFC 8881, section 2.10.6.1.3.1) or misordered
+-- a request that is not accepted, in a session that its caller may use: a repeat, a false retry (RFC 8881, section
+-- 2.10.6.1.3.1) or misordered. The number of the last request is the count of all, modulo 2^32. A repeat is answered by
+-- the original reply where that is kept (section 2.10.6.1), and else refused (section 2.10.6.1.3)
 abbrev pub answer_unaccepted : Room → Request → List Accepted → AnswerModel
 answer_unaccepted start q [] = Refused SeqMisordered
 answer_unaccepted start q (last ∷ earlier) =
-    if q.seq == last_number (last ∷ earlier)
+    if q.seq == length (last ∷ earlier) % 2 ^ 32
     then (if bytes_eq (command_text q.command) (command_text last.request.command)
-    then replay start last else Refused SeqFalseRetry)
+    then option_map_or Reply (kept_reply start last) (Refused RetryUncached) else Refused SeqFalseRetry)
     else Refused SeqMisordered
 
 -- an OPEN of an unused name, or of an open one of the caller with the same slots, succeeds (our own rule)
@@ -175,6 +148,5 @@ changes_rows past (Slot q) = is_accepted past q
 
 -- the event leaves no reply for a repeat: it is a request that is accepted and asks so
 abbrev pub leaves_no_reply : History → EventModel → Bool
-leaves_no_reply past (Open caller sid slots) = false
-leaves_no_reply past (Close caller sid) = false
 leaves_no_reply past (Slot q) = is_accepted past q && not q.keep
+leaves_no_reply past event = false

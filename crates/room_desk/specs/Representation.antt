@@ -1,7 +1,7 @@
 -- Rows that stand for a history, and runs (our own rules).
-use Rattle.std.specs.Prelude.{◌≡◌, ◌⊎◌, ℕ, Bool, true, false, List, [], ◌∷◌, Option}
+use Rattle.std.specs.Prelude.{◌≡◌, ◌⊎◌, ℕ, ◌%◌, ◌^◌, length, Bool, true, false, List, [], ◌∷◌, Option}
 use Rattle.std.specs.Prelude.{None, Some, if◌then◌else◌}
-use Rattle.std.specs.Option.{option_map}
+use Rattle.std.specs.Option.{option_map, option_map_or}
 use Rattle.room_slots.specs.KeptModel.{KeptModel}
 use Rattle.room_records.specs.declared.session.SessionRow.{SessionRow}
 use Rattle.room_records.specs.Records.{Records}
@@ -17,22 +17,17 @@ use Rattle.room_wire.specs.Asks.EventModel.{EventModel, Open, Close, Slot}
 use Rattle.room_wire.specs.Forms.Texts.{command_text}
 use Rattle.room_desk.specs.AnswerModel.{AnswerModel, Refused}
 use Rattle.room_desk.specs.History.{History, Session, session_of, is_open, Accepted, accepted, is_accepted, state_after}
-use Rattle.room_desk.specs.History.{AcceptsLawful, last_number, kept_reply, answer_to, changes_rows}
+use Rattle.room_desk.specs.History.{AcceptsLawful, kept_reply, answer_to, changes_rows}
 
 abbrev pub session_row_of : List ℕ → Session → SessionRow
 session_row_of sid session =
     record { sid = sid; owner = session.owner; slots = session.slots; is_open = is_open sid session }
 
--- the name was opened and not closed since
-abbrev pub is_open_session : List ℕ → Option Session → Bool
-is_open_session sid None = false
-is_open_session sid (Some session) = is_open sid session
-
 -- what a slot keeps: the count of its accepted requests, the last one, and its reply where that one asked so
 abbrev pub kept_after : Room → List Accepted → Option KeptModel
 kept_after start [] = None
 kept_after start (last ∷ earlier) = Some (record {
-  seq = last_number (last ∷ earlier);
+  seq = length (last ∷ earlier) % 2 ^ 32;
   request = command_text last.request.command;
   reply = kept_reply start last;
 })
@@ -40,7 +35,7 @@ kept_after start (last ∷ earlier) = Some (record {
 -- a slot row is kept while its session is open, once a request was accepted
 abbrev pub slot_row_of : Room → History → List ℕ → ℕ → Option KeptModel
 slot_row_of start past sid slot =
-    if is_open_session sid (session_of past sid) then kept_after start (accepted past sid slot) else None
+    if option_map_or (is_open sid) (session_of past sid) false then kept_after start (accepted past sid slot) else None
 
 -- the rows stand for a history that began with this room, and the commands that it accepted are lawful
 pub record RepresentsHistory (start : Room) (r : Records) (past : History) : Type 0 where
@@ -70,8 +65,7 @@ abbrev pub InTurn : {S : Type 0} → (S → EventModel → AnswerModel → S →
 InTurn answers before [] [] after = after ≡ before
 InTurn {S} answers before (event ∷ events) (answered ∷ later) after =
     (next : S) × answers before event answered next × InTurn answers next events later after
-InTurn answers before [] (answered ∷ later) after = ⊥
-InTurn answers before (event ∷ events) [] after = ⊥
+InTurn answers before events later after = ⊥
 
 -- a run of a history: one step after another
 abbrev pub Run : Room → History → List EventModel → List AnswerModel → History → Type 0
@@ -79,8 +73,7 @@ Run start past events answers next = InTurn (Step start) past events answers nex
 
 -- an accepted request that is not refused had every right that its command needs, by the lists then
 abbrev pub WasAllowed : Room → History → EventModel → Type 0
-WasAllowed start past (Open caller sid slots) = Unit {0}
-WasAllowed start past (Close caller sid) = Unit {0}
 WasAllowed start past (Slot q) =
     is_accepted past q ≡ true → (IsRefused (effect (state_after start past) q.caller q.command).reply → ⊥)
     → NeedsAllowed (state_after start past) q.caller q.command
+WasAllowed start past event = Unit {0}

@@ -2,6 +2,8 @@
 use Rattle.std.specs.Prelude.{◌≡◌, ◌<◌, ℕ, List, [], ◌∷◌, ◌++◌, Bool, true, not, ◌==◌}
 use Rattle.std.specs.Prelude.{◌&&◌, nat_lt, Option, None, Some, if◌then◌else◌}
 use Rattle.std.specs.List.{AllByRecursion}
+use Rattle.std.specs.Bool.{then_some}
+use Rattle.std.specs.Option.{option_map_or}
 use Rattle.std.specs.Str.{bytes_eq}
 use Rattle.room_acl.specs.SubjectModel.{SubjectModel}
 use Rattle.room_slots.specs.KeptModel.{KeptModel}
@@ -29,7 +31,7 @@ use Rattle.room_wire.specs.Forms.Texts.{command_text, reply_text}
 use Rattle.room_desk.specs.declared.requests.Found.{Found}
 use Rattle.room_desk.specs.declared.requests.Found.TheVariants as F
 use Rattle.room_desk.specs.AnswerModel.{AnswerModel, Reply, Refused}
-use Rattle.room_desk.specs.History.{History, is_accepted, state_after, if_kept, answer_again}
+use Rattle.room_desk.specs.History.{History, is_accepted, state_after}
 
 -- an OPEN of a name that was opened before
 abbrev pub answer_open_again : SubjectModel → ℕ → SessionRow → AnswerModel
@@ -56,7 +58,7 @@ ran_row room q = record {
   kept = record {
     seq = q.seq;
     request = command_text q.command;
-    reply = if_kept q.keep (reply_text (effect room q.caller q.command).reply);
+    reply = then_some q.keep (reply_text (effect room q.caller q.command).reply);
   };
 }
 
@@ -71,9 +73,8 @@ pub record ChangesFew (r : Records) (room : Room) (q : Request) (new : Records) 
 
 -- an event changes so few rows, where it is an accepted request; an OPEN and a CLOSE change no row of an object
 abbrev pub EventChangesFew : Room → History → EventModel → (old new : Records) → Type 0
-EventChangesFew start past (Open caller sid slots) old new = new.objects ≡ old.objects
-EventChangesFew start past (Close caller sid) old new = new.objects ≡ old.objects
 EventChangesFew start past (Slot q) old new = is_accepted past q ≡ true → ChangesFew old (state_after start past) q new
+EventChangesFew start past event old new = new.objects ≡ old.objects
 
 -- a command was run: its reply, and the records after its changes and its slot row
 pub record Ran (r : Records) (room : Room) (q : Request) (answered : AnswerModel) (new : Records) : Type 0 where
@@ -94,7 +95,7 @@ RanTo r room q new = Ran r room q (Reply (reply_text (effect room q.caller q.com
 -- what a request is answered that is not new to its slot, by what it is to the slot. Two cases never come: a repeat
 -- where nothing is kept, and a request that is new
 abbrev pub answer_by_verdict : Verdict → Option KeptModel → AnswerModel
-answer_by_verdict Repeat (Some kept) = answer_again kept.reply
+answer_by_verdict Repeat (Some kept) = option_map_or Reply kept.reply (Refused RetryUncached)
 answer_by_verdict Repeat None = Refused SeqMisordered
 answer_by_verdict Uncached kept = Refused RetryUncached
 answer_by_verdict FalseRetry kept = Refused SeqFalseRetry

@@ -7,7 +7,7 @@ use Rattle.room_records.specs.Room.{Room}
 use Rattle.room_records.specs.Shelf.{View, LeavesOldOrNew}
 use Rattle.room_wire.specs.declared.answers.code.Code.TheVariants.{Delay}
 use Rattle.room_wire.specs.declared.fault.WireFault.{WireFault}
-use Rattle.room_wire.specs.declared.fault.WireFault.TheVariants.{BadRoute, UnknownUser, BadRequest, Memory}
+use Rattle.room_wire.specs.declared.fault.WireFault.TheVariants.{BadRoute, UnknownUser}
 use Rattle.room_wire.specs.Asks.EventModel.{EventModel}
 use Rattle.room_wire.specs.Asks.AskOf.{AskModel, Check, Event, ask_of}
 use Rattle.room_wire.specs.Questions.CheckAnswers.{answer_text}
@@ -37,17 +37,10 @@ AnswersMessage users start past m answered next = AnswersOrDelays start past (as
 abbrev pub IsRun : List SubjectModel → Room → History → List MessageModel → (out : List ℕ) → History → Type 0
 IsRun users start past ms out next = Outputs (AnswersMessage users start) past ms out next
 
--- what is asked changes what is kept: an event may, a question and a refusal do not
-abbrev pub ask_changes_rows : History → Result AskModel WireFault → Bool
-ask_changes_rows past (Ok (Check question)) = false
-ask_changes_rows past (Ok (Event event)) = changes_rows past event
-ask_changes_rows past (Err fault) = false
-
--- the rows stand for the history with the event that was asked, which changes what is kept
-abbrev pub StandsWithAsked : Room → History → Result AskModel WireFault → Records → Type 0
-StandsWithAsked start past (Ok (Check question)) r = ⊥
-StandsWithAsked start past (Ok (Event event)) r = StandsWith start past event r
-StandsWithAsked start past (Err fault) r = ⊥
+-- what holds of the event that is asked; of a question and a refusal, something else
+abbrev pub by_event {ℓ} : {X : Type ℓ} → (EventModel → X) → X → Result AskModel WireFault → X
+by_event of_event other (Ok (Event event)) = of_event event
+by_event of_event other ask = other
 
 -- the frame of a desk's calls, one or many: the store is no better than it was, what it is laid out for stays, and the
 -- count of failures never falls
@@ -57,20 +50,13 @@ pub record DeskCall (old new : View) : Type 0 where
   pub laid_out : new.is_available → old.is_laid_out → new.is_laid_out
   pub never_falls : old.failures ≤ new.failures
 
-abbrev pub AskChangesFew : Room → History → Result AskModel WireFault → (old new : Records) → Type 0
-AskChangesFew start past (Ok (Check question)) old new = Unit {0}
-AskChangesFew start past (Ok (Event event)) old new = EventChangesFew start past event old new
-AskChangesFew start past (Err fault) old new = Unit {0}
-
 -- what is asked may ask for rows: an event does, and so may a request of a user that is refused for what it asks. A
 -- question does not, nor a message that is refused for its route or its user
 abbrev pub may_ask_shelf : Result AskModel WireFault → Bool
 may_ask_shelf (Ok (Check question)) = false
-may_ask_shelf (Ok (Event event)) = true
 may_ask_shelf (Err BadRoute) = false
 may_ask_shelf (Err UnknownUser) = false
-may_ask_shelf (Err BadRequest) = true
-may_ask_shelf (Err Memory) = true
+may_ask_shelf ask = true
 
 -- all that contracts see of the shelf is as it was
 pub record IsLeftAlone (old new : View) : Type 0 where
@@ -99,12 +85,14 @@ pub record Answered (ask : Result AskModel WireFault) (before : View)
   pub refused : after.is_available → before.is_laid_out → IsTurnedAway answered → after.records ≡ before.records
   pub idle : after.is_available → before.is_laid_out → (start : Room) (past : History)
       → RepresentsHistory start before.records past →
-      ask_changes_rows past ask ≡ false → after.records ≡ before.records
+      by_event (changes_rows past) false ask ≡ false → after.records ≡ before.records
   pub few : after.is_available → before.is_laid_out → (start : Room) (past : History)
       → RepresentsHistory start before.records past →
-      answered ≢ Refused Delay → AskChangesFew start past ask before.records after.records
+      answered ≢ Refused Delay
+      → by_event (λ event. EventChangesFew start past event before.records after.records) (Unit {0}) ask
   pub crash : after.is_intact → (start : Room) (past : History) → StandsFor start past before →
-      LeavesOldOrNew before after (λ left. before.is_available × StandsWithAsked start past ask left)
+      LeavesOldOrNew before after (λ left. before.is_available
+      × by_event (λ event. StandsWith start past event left) ⊥ ask)
   pub stays_laid_out : after.is_intact → (start : Room) (past : History) → StandsFor start past before →
       before.leaves_laid_out → after.leaves_laid_out
   pub alone : may_ask_shelf ask ≡ false → IsLeftAlone before after

@@ -25,9 +25,8 @@ AreDelayed answers = AllByRecursion (λ answered. answered ≡ Refused Delay) an
 -- what is in doubt once a message was answered: an event that was answered DELAY is too, and nothing is after another
 -- answer to an event. A question and a refusal leave it as it is
 abbrev pub doubt_after : (doubted : List EventModel) → Result AskModel WireFault → AnswerModel → List EventModel
-doubt_after doubted (Ok (Check question)) answered = doubted
 doubt_after doubted (Ok (Event event)) answered = if is_delay answered then event ∷ doubted else []
-doubt_after doubted (Err fault) answered = doubted
+doubt_after doubted ask answered = doubted
 
 -- the events in doubt after these answers, where some were in doubt before them: those answered DELAY since the last
 -- that was answered otherwise

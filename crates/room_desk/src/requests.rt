@@ -1,5 +1,7 @@
 //! Requests in a slot.
 ghost use Rattle.std.specs.Prelude.{◌≡◌, IfOk, OnOk, option_map};
+ghost use Rattle.std.specs.Bool.{then_some};
+ghost use Rattle.std.specs.Option.{option_map_or};
 ghost use Rattle.room_records.specs.Rules.{SlotRules};
 ghost use Rattle.room_records.specs.Room.{Room};
 ghost use Rattle.room_records.specs.Representation.{RepresentsRoom};
@@ -7,8 +9,9 @@ ghost use Rattle.room_records.specs.Shelf.{ShelfCall, ShelfRead, Tells, fault_in
 ghost use Rattle.room_commands.specs.Lawful.{IsLawful};
 ghost use Rattle.room_wire.specs.Asks.EventModel.{Slot};
 ghost use Rattle.room_wire.specs.Forms.Texts.{command_text};
-ghost use Rattle.room_desk.specs.AnswerModel.{answer_model, IsTurnedAway};
-ghost use Rattle.room_desk.specs.History.{History, if_kept, answer_again};
+ghost use Rattle.room_wire.specs.declared.answers.code.Code.TheVariants.{RetryUncached};
+ghost use Rattle.room_desk.specs.AnswerModel.{answer_model, Reply, Refused, IsTurnedAway};
+ghost use Rattle.room_desk.specs.History.{History};
 ghost use Rattle.room_desk.specs.Representation.{RepresentsHistory};
 ghost use Rattle.room_desk.specs.RowAnswers.{HasSlot, Ran, RanTo, answer_kept, found_by, found_for};
 ghost use Rattle.room_desk.specs.Trying.{EventTried, JoinsHistory};
@@ -64,7 +67,7 @@ fn slot_row(alloc: Global, asked: &SlotRequest, reply: &Vec<u8>) -> Result<SlotR
       kept = record {
         seq = asked.now.seq;
         request = command_text asked.now.command;
-        reply = if_kept asked.now.keep reply.now.items;
+        reply = then_some asked.now.keep reply.now.items;
       };
     }) }
     ensures lawful { IfOk result (λ _. IsLawful asked.now.command) }
@@ -119,7 +122,7 @@ fn run_new<S: Shelf>(
 
 /// What a repeat is answered by the reply that is kept: where none is, it is refused.
 fn answer_again(reply: Option<Vec<u8>>) -> Answer
-    ensures { answer_model result ≡ answer_again (option_map (λ r. r.items) reply) }
+    ensures { answer_model result ≡ option_map_or Reply (option_map (λ r. r.items) reply) (Refused RetryUncached) }
 {
     match reply {
         Some(reply) => Answer::Reply(reply),
