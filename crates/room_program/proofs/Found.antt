@@ -1,7 +1,6 @@
 -- A room that is served over the files that held it, and what the files hold then.
 use Rattle.std.proofs.Common.{◌≡◌, ◌∙◌, ℕ, zero, suc, List, [], ◌∷◌, Bool, true, false, Option, None, Some}
 use Rattle.std.proofs.Common.{Result, Ok, Err, IsTrue, OnOk, inl, inr, refl, sym, ap, subst, true≢false, ◌⊎◌, arith}
-use Rattle.std.specs.Prelude.{IfOk, IfErr, string_bytes}
 use Rattle.std.specs.List.{AllZip}
 use Rattle.std.proofs.Math.Logic.{∥∥₁_map, ∥∥₁_elim}
 use Rattle.sqlite_disk.specs.declared.Disk.{Ghosts}
@@ -45,11 +44,7 @@ use Rattle.room_desk.specs.Representation.{RepresentsHistory, StandsFor}
 use Rattle.room_desk.proofs.Beginnings.{stand_at_first}
 use Rattle.room_report.specs.declared.reports.ReportFault.{ReportFault}
 use Rattle.room_report.specs.declared.reports.ReportFault.TheVariants as report
-use Rattle.clap.specs.Words.{Text}
-use Rattle.room_words.specs.declared.fault.WordsFault.{WordsFault}
 use Rattle.room_words.specs.declared.job.ReportKind.{ReportKind}
-use Rattle.room_words.specs.declared.job.Job.{Job}
-use Rattle.room_words.specs.declared.job.Job.TheVariants.{Check, Init, Replay, Serve, Report, Selftest}
 use Rattle.std.specs.Io.KnownBytes.{Appends}
 use Rattle.room_program.specs.declared.fault.Fault.{Fault}
 use Rattle.room_program.specs.declared.fault.Fault.TheVariants as fault
@@ -63,13 +58,11 @@ use Rattle.room_program.specs.Files.{TakesRoster, OpensStore, TakesRoom, IsUnope
 use Rattle.room_program.specs.Faults.{done_of_report}
 use Rattle.room_program.specs.Ends.{InitEnds, IsAnswered, SelftestEnds, first_sent, second_sent, due_answers}
 use Rattle.room_program.specs.Replays.{Replays}
-use Rattle.room_program.specs.Rooms.{ServesRoom, Listens, Reports, WritesReport, report_text, FailsRoom}
+use Rattle.room_program.specs.Rooms.{Listens, WritesReport, report_text}
 use Rattle.room_program.specs.Found.{IsOpenedOver, Holds, HoldsRoom, HoldsNothing, MayBeLeft, IsLeftBy}
-use Rattle.room_program.specs.Found.{Closes, LetsGo, ActsOn, StayUnopened, IsSparedIn, SparesFound, SparesRoom}
-use Rattle.room_program.specs.Found.{ServesFound, ReportsFound, MakesFound, JobFound, RunFound}
+use Rattle.room_program.specs.Found.{Closes, LetsGo, ActsOn, StayUnopened, IsSparedIn, SparesRoom}
 use Rattle.room_program.specs.Halts.{IsTakenOut}
-use Rattle.room_program.specs.Runs.{Means, Streams, Ends, Runs, RunsJob, RunsRead, means}
-use Rattle.room_program.specs.Streams.{ServesSome}
+use Rattle.room_program.specs.Streams.{GoesOn, ServesSome}
 use Rattle.room_program.proofs.Streams.{serves_none, serves_all}
 use Rattle.room_program.proofs.Unopened.{may_hold, stay_unopened}
 
@@ -156,10 +149,6 @@ no_change s = record {
   closes = λ clean is_open. inl is_open;
   crash = λ clean db may. inl may;
 }
-
-end_so : {P Q : Result (Unit {0}) Fault → Type 0} → ((done : Result (Unit {0}) Fault) → P done → Q done)
-    → (old new : Option (List ℕ)) (status : ℕ) → Ends P old new status → Ends Q old new status
-end_so so old new status (done, p, ends) = (done, so done p, ends)
 
 module _ {D : Type 0} (g : Ghosts D) where
   -- a room that is found in a store, and is taken, is on the shelf
@@ -371,9 +360,10 @@ module _ {D M : Type 0} (g : Ghosts D) (image : Image) (does : M → Call (Held 
   abbrev shown : Taken → View
   shown = cached_view (sql_view over_files)
 
-  abbrev program : (accepts : M → Exchange → M → Type 0) (fails : M → M → Type 0) → Means M File Taken
-  program accepts fails =
-      means does accepts fails takes (λ taken. taken.0.conn) (Made over_files) (Unmade over_files) shown
+  -- one was let go so
+  abbrev pub SparesFound : (begun later : M) → Type 0
+  SparesFound begun later =
+      (let_go : File) × does begun (leaves let_go) later × IsSparedIn image let_go (left later)
 
   -- a store that was let go holds what the files held
   spared : (opened let_go : File) (begun later : M) → IsOpenedOver image opened → does begun (leaves let_go) later
@@ -405,7 +395,7 @@ module _ {D M : Type 0} (g : Ghosts D) (image : Image) (does : M → Call (Held 
 
   -- as it was opened
   spared_at_once : (path : List ℕ) (old begun later : M) (opened : File) → does old (opens path (Ok opened)) begun
-      → does begun (leaves opened) later → SparesFound does left image begun later
+      → does begun (leaves opened) later → SparesFound begun later
   spared_at_once path old begun later opened did gone =
       let is = (tells old begun (opens path (Ok opened)) did).0 in (
         opened,
@@ -453,19 +443,14 @@ module _ {D M : Type 0} (g : Ghosts D) (image : Image) (does : M → Call (Held 
   spares path old new why (inl (begun, looked, none)) = inl (tells old new (looks path begun) looked)
   spares path old new why (inr (seen, looked, inl (same, is, opened))) =
       subst (λ l. (left new ≡ l) ⊎ (StayUnopened image (left new)
-      ⊎ ((begun : M) × SparesFound does left image begun new)))
+      ⊎ ((begun : M) × SparesFound begun new)))
       (tells old seen (looks path (Some true)) looked) (unopened_left path seen new same opened)
   spares path old new why (inr (seen, looked, inr (opened, begun, is, (let_go, none, gone)))) =
       let found = (tells seen begun (opens path (Ok opened)) is).0 in
       inr (inr (begun, (let_go, gone, untaken opened let_go begun new why found gone none)))
 
-  fails_room : (path : List ℕ) (old new : M) (done : Result (Unit {0}) Fault)
-      → FailsRoom does takes path old new done
-      → FailsRoom does takes path old new done × SparesRoom does left image old new
-  fails_room path old new done (why, is, took) = ((why, is, took), spares path old new why took)
-
   -- a roster's file is only read
-  roster_left : (path : List ℕ) (old new : M) (taken : Result (List SubjectModel) Fault)
+  pub roster_left : (path : List ℕ) (old new : M) (taken : Result (List SubjectModel) Fault)
       → TakesRoster does path old new taken → left new ≡ left old
   roster_left path old new taken (text, read, gives) = tells old new (reads path text) read
 
@@ -477,46 +462,31 @@ module _ {D M : Type 0} (g : Ghosts D) (image : Image) (does : M → Call (Held 
     taken_stands path old new taken (inr (seen, looked, inr (opened, begun, is, (adopted, same)))) =
         stands g image start past held opened taken (tells seen begun (opens path (Ok opened)) is).0 adopted
 
-    pub serves_found : (accepts : M → Exchange → M → Type 0) (fails : M → M → Type 0) (db roster : List ℕ)
-        (port count : ℕ) (before later : M) (done : Result (Unit {0}) Fault)
-        → ServesRoom does accepts fails takes (λ taken. taken.0.conn) shown db roster port count before later done
-        → ServesFound (program accepts fails) left image db roster port count start past before later done
-    serves_found accepts fails db roster port count before later done (inl (why, is, none)) =
-        inl ((why, is, none), roster_left roster before later (Err why) none)
-    serves_found accepts fails db roster port count before later done (inr (users, read, took, inl none)) =
-        inr (users, read, took, inl (fails_room db read later done none))
-    serves_found accepts fails db roster port count before later done
-        (inr (users, read, took, inr (shelf, last, taken, over, room, listens, closed))) =
+    -- a `serve` over it goes on with its history
+    pub served_on : (accepts : M → Exchange → M → Type 0) (fails : M → M → Type 0) (db : List ℕ)
+        (users : List SubjectModel) (port count : ℕ) (read taken over later : M) (shelf last : Taken)
+        (done : Result (Unit {0}) Fault) → TakesRoom does takes db read taken (Ok shelf)
+        → Listens does accepts fails shown users port count taken over shelf last done
+        → does over (closes last.0.conn) later → HasCleanDisk (file_state last.0.conn)
+        → (next : History) × GoesOn users start past next × (IsTrue (file_state last.0.conn).is_open
+        → RepresentsHistory start (records_of (file_state last.0.conn).now.trees) next
+        × ((one : Image) → IsLeftBy image (left later) one → HoldsRoom one start next))
+    served_on accepts fails db users port count read taken over later shelf last done room listens closed clean =
         let some = served does shown accepts fails users port count taken over shelf last done listens in
-        inr (
-          users,
-          read,
-          took,
-          inr (
-            shelf,
-            last,
-            taken,
-            over,
-            room,
-            listens,
-            closed,
-            λ clean.
-                let gone = some.run clean start past (taken_stands db read taken shelf room) in (
-                  gone.0,
-                  gone.1,
-                  λ is_open.
-                      let (laid_out, rows) = gone.2 (clean, is_open) in (
-                        rows,
-                        λ one at. record {
-                          db = (file_state last.0.conn).now;
-                          held = closed_holds g stays last.0.conn (left later) image one
-                              (tells over later (closes last.0.conn) closed) is_open (last.0.rests is_open) at;
-                          room = inl laid_out.0.0;
-                          rows = rows;
-                        },
-                      ),
-                ),
-          ),
+        let gone = some.run clean start past (taken_stands db read taken shelf room) in (
+          gone.0,
+          gone.1,
+          λ is_open.
+              let (laid_out, rows) = gone.2 (clean, is_open) in (
+                rows,
+                λ one at. record {
+                  db = (file_state last.0.conn).now;
+                  held = closed_holds g stays last.0.conn (left later) image one
+                      (tells over later (closes last.0.conn) closed) is_open (last.0.rests is_open) at;
+                  room = inl laid_out.0.0;
+                  rows = rows;
+                },
+              ),
         )
 
     -- and its store is there, where its disk has returned what was written
@@ -527,47 +497,31 @@ module _ {D M : Type 0} (g : Ghosts D) (image : Image) (does : M → Call (Held 
     taken_open path old new taken (inr (seen, looked, inr (opened, begun, is, (adopted, same)))) clean =
         (adopted.1 clean).0
 
-    pub reports_found : (accepts : M → Exchange → M → Type 0) (fails : M → M → Type 0) (db roster : List ℕ)
-        (kind : ReportKind) (before later : M) (old new : Option (List ℕ)) (done : Result (Unit {0}) Fault)
-        → Reports does takes (λ taken. taken.0.conn) shown db roster kind before later old new done
-        → ReportsFound (program accepts fails) left image db roster kind start past before later old new done
-    reports_found accepts fails db roster kind before later old new done (inl ((why, is, none), same)) =
-        inl ((why, is, none), roster_left roster before later (Err why) none, same)
-    reports_found accepts fails db roster kind before later old new done (inr (users, read, took, inl (none, same))) =
-        let (fails_so, spares_so) = fails_room db read later done none in
-        inr (users, read, took, inl (fails_so, spares_so, same))
-    reports_found accepts fails db roster kind before later old new done
-        (inr (users, read, took, inr (taken, last, seen, room, writes, gone))) =
-        inr (
-          users,
-          read,
-          took,
-          inr (
-            taken,
-            last,
-            seen,
-            room,
-            writes,
-            gone,
-            λ clean.
-                let was = writes.read.call.was_intact clean in
-                let stood = taken_stands db read seen taken room in
-                let stand = stood (was, taken_open db read seen taken room was) in (
-                  subst (λ d. OnOk d (Appends old new (report_text kind (state_after start past) users)))
-                      (sym writes.ends) (done_of_written writes.written _
-                      (writes.reported.ok clean stand.0 (state_after start past) stand.1.room)),
-                  λ is_open one at.
-                      let (laid_out, rows) = read_stands shown kind users taken last old new done writes start past
-                      stood (clean, is_open) in
-                      record {
-                        db = (file_state last.0.conn).now;
-                        held = left_holds g stays last.0.conn (left later) image one
-                            (tells seen later (leaves last.0.conn) gone) is_open (last.0.rests is_open) at;
-                        room = inl laid_out.0.0;
-                        rows = rows;
-                      },
-                ),
-          ),
+    -- a report of it is that of its room, and leaves it
+    pub reported_on : (db : List ℕ) (kind : ReportKind) (users : List SubjectModel) (read seen later : M)
+        (taken last : Taken) (old new : Option (List ℕ)) (done : Result (Unit {0}) Fault)
+        → TakesRoom does takes db read seen (Ok taken) → WritesReport shown kind users taken last old new done
+        → does seen (leaves last.0.conn) later → HasCleanDisk (file_state last.0.conn)
+        → OnOk done (Appends old new (report_text kind (state_after start past) users))
+        × (IsTrue (file_state last.0.conn).is_open → (one : Image) → IsLeftBy image (left later) one
+        → HoldsRoom one start past)
+    reported_on db kind users read seen later taken last old new done room writes gone clean =
+        let was = writes.read.call.was_intact clean in
+        let stood = taken_stands db read seen taken room in
+        let stand = stood (was, taken_open db read seen taken room was) in (
+          subst (λ d. OnOk d (Appends old new (report_text kind (state_after start past) users)))
+              (sym writes.ends) (done_of_written writes.written _
+              (writes.reported.ok clean stand.0 (state_after start past) stand.1.room)),
+          λ is_open one at.
+              let (laid_out, rows) = read_stands shown kind users taken last old new done writes start past
+              stood (clean, is_open) in
+              record {
+                db = (file_state last.0.conn).now;
+                held = left_holds g stays last.0.conn (left later) image one
+                    (tells seen later (leaves last.0.conn) gone) is_open (last.0.rests is_open) at;
+                room = inl laid_out.0.0;
+                rows = rows;
+              },
         )
 
   -- and where no room was made in it
@@ -593,112 +547,81 @@ module _ {D M : Type 0} (g : Ghosts D) (image : Image) (does : M → Call (Held 
   unmade owner group opened let_go begun later fault.WriteFailed is gone none = absurd none
   unmade owner group opened let_go begun later fault.SelftestFailed is gone none = absurd none
 
-  pub makes_found : (db owner group : List ℕ) (before later : M) (done : Result (Unit {0}) Fault)
-      → InitEnds does (Made over_files owner group) (Unmade over_files owner group) db owner group before later done
-      → MakesFound does left image db owner group before later done
-  makes_found db owner group before later done (inl (why, is, names, same)) =
-      subst (MakesFound does left image db owner group before later) (sym is) (inl (names, same))
-  makes_found db owner group before later done (inr (principals, inl (why, is, none))) =
-      subst (MakesFound does left image db owner group before later) (sym is)
-      (inr (inl (none, unopened_left db before later why none)))
-  makes_found db owner group before later (Err why)
-      (inr (principals, inr (opened, begun, is, (let_go, none, gone)))) =
+  -- then the files are spared
+  pub not_made : (db owner group : List ℕ) (before later : M) (why : Fault)
+      → InitEnds does (Made over_files owner group) (Unmade over_files owner group) db owner group before later
+      (Err why) → SparesRoom does left image before later
+  not_made db owner group before later why (inl (fault, is, names, same)) = inl (ap left same)
+  not_made db owner group before later why (inr (principals, inl (fault, is, none))) =
+      unopened_left db before later fault none
+  not_made db owner group before later why (inr (principals, inr (opened, begun, is, (let_go, none, gone)))) =
       inr (inr (
-        opened,
         begun,
-        is,
         (
           let_go,
           gone,
           unmade owner group opened let_go begun later why (tells before begun (opens db (Ok opened)) is).0 gone none,
         ),
       ))
-  makes_found db owner group before later (Ok done)
-      (inr (principals, inr (opened, begun, is, (closed, made, did)))) = (
-        begun,
-        closed,
-        did,
-        λ clean.
-            let was = was_clean made.3 clean in
-            let over = (tells before begun (opens db (Ok opened)) is).0 in (
-              λ start past held. has_none g image start past held opened over made.0 was,
-              λ empty.
-                  let (is_open, made_fresh) = made.2 clean in
-                  let fresh = made_fresh (found_nothing g image empty opened over was) in
-                  λ one at. record {
-                    db = (file_state closed).now;
-                    held = closed_holds g stays closed (left later) image one
-                        (tells begun later (closes closed) did) is_open (made.1 is_open) at;
-                    room = inl fresh.0.room;
-                    rows = stand_at_first (fresh_room owner group) _ fresh.1.room fresh.1.sessions fresh.1.slots;
-                  },
-            ),
+
+  -- a room is made only where none was, and where there was nothing, the files hold the fresh one
+  pub made_on : (db owner group : List ℕ) (before begun later : M) (opened closed : File)
+      → does before (opens db (Ok opened)) begun → Made over_files owner group opened closed
+      → does begun (closes closed) later → HasCleanDisk (file_state closed)
+      → ((start : Room) (past : History) → ¬ HoldsRoom image start past)
+      × (HoldsNothing image → (one : Image) → IsLeftBy image (left later) one
+      → HoldsRoom one (fresh_room owner group) [])
+  made_on db owner group before begun later opened closed is made did clean =
+      let was = was_clean made.3 clean in
+      let over = (tells before begun (opens db (Ok opened)) is).0 in (
+        λ start past held. has_none g image start past held opened over made.0 was,
+        λ empty.
+            let (is_open, made_fresh) = made.2 clean in
+            let fresh = made_fresh (found_nothing g image empty opened over was) in
+            λ one at. record {
+              db = (file_state closed).now;
+              held = closed_holds g stays closed (left later) image one
+                  (tells begun later (closes closed) did) is_open (made.1 is_open) at;
+              room = inl fresh.0.room;
+              rows = stand_at_first (fresh_room owner group) _ fresh.1.room fresh.1.sessions fresh.1.slots;
+            },
       )
 
-  -- what a run of the program's words does, said of the files
+  -- runs of other jobs leave them as they are
+  pub replay_left : (roster owner group : List ℕ) (before later : M) (input rest output written : Option (List ℕ))
+      (done : Result (Unit {0}) Fault)
+      → Replays does roster owner group before later input rest output written done → left later ≡ left before
+  replay_left roster owner group before later input rest output written done
+      (inl (inl (why, is, names, same), unread, unwritten)) = ap left same
+  replay_left roster owner group before later input rest output written done
+      (inl (inr (names, inl (why, is, none)), unread, unwritten)) = roster_left roster before later (Err why) none
+  replay_left roster owner group before later input rest output written done
+      (inl (inr (names, inr (is, users, took)), unread, unwritten)) = roster_left roster before later (Ok users) took
+  replay_left roster owner group before later input rest output written done
+      (inr (names, users, took, why, count, next, is, all)) = roster_left roster before later (Ok users) took
+
   module _ (accepts : M → Exchange → M → Type 0) (fails : M → M → Type 0)
       (accepts_so : (old new : M) (e : Exchange) → accepts old e new → left new ≡ left old)
-      (fails_so : (old new : M) → fails old new → left new ≡ left old)
-      (before later : M) (old new : Streams) (status : ℕ) where
+      (fails_so : (old new : M) → fails old new → left new ≡ left old) where
     accepted_left : (n : ℕ) (from to : M) → AcceptsEach accepts n from to → left to ≡ left from
     accepted_left zero from to (same, none) = ap left same
     accepted_left (suc n) from to (last, between, each, (e, took, one)) =
         accepts_so last to e took ∙ accepted_left n from last each
 
-    replay_left : (roster owner group : List ℕ) (input rest output written : Option (List ℕ))
-        (done : Result (Unit {0}) Fault)
-        → Replays does roster owner group before later input rest output written done → left later ≡ left before
-    replay_left roster owner group input rest output written done
-        (inl (inl (why, is, names, same), unread, unwritten)) =
-        ap left same
-    replay_left roster owner group input rest output written done
-        (inl (inr (names, inl (why, is, none)), unread, unwritten)) = roster_left roster before later (Err why) none
-    replay_left roster owner group input rest output written done
-        (inl (inr (names, inr (is, users, took)), unread, unwritten)) = roster_left roster before later (Ok users) took
-    replay_left roster owner group input rest output written done
-        (inr (names, users, took, why, count, next, is, all)) = roster_left roster before later (Ok users) took
-
-    heard_left : (served : M) (done : Result (Unit {0}) Fault) → IsAnswered does served later done
+    heard_left : (served later : M) (done : Result (Unit {0}) Fault) → IsAnswered does served later done
         → left later ≡ left served
-    heard_left served (Ok done) heard = tells served later (hears (Some due_answers)) heard
-    heard_left served (Err why) (is, answers, other, heard) = tells served later (hears answers) heard
+    heard_left served later (Ok done) heard = tells served later (hears (Some due_answers)) heard
+    heard_left served later (Err why) (is, answers, other, heard) = tells served later (hears answers) heard
 
-    selftest_left : (done : Result (Unit {0}) Fault) → SelftestEnds does accepts fails before later done
-        → left later ≡ left before
-    selftest_left done (inl (why, is, fault, same)) = ap left same
-    selftest_left done (inr (inl (is, asked))) = tells before later (asks first_sent false) asked
-    selftest_left done (inr (inr (first, asked, inl (is, again)))) =
+    pub selftest_left : (before later : M) (done : Result (Unit {0}) Fault)
+        → SelftestEnds does accepts fails before later done → left later ≡ left before
+    selftest_left before later done (inl (why, is, fault, same)) = ap left same
+    selftest_left before later done (inr (inl (is, asked))) = tells before later (asks first_sent false) asked
+    selftest_left before later done (inr (inr (first, asked, inl (is, again)))) =
         tells first later (asks second_sent false) again ∙ tells before first (asks first_sent true) asked
-    selftest_left done (inr (inr (first, asked, inr (second, again, inl (is, fewer))))) =
+    selftest_left before later done (inr (inr (first, asked, inr (second, again, inl (is, fewer))))) =
         fails_so fewer.2 later fewer.4 ∙ accepted_left fewer.0 second fewer.2 fewer.3
         ∙ tells first second (asks second_sent true) again ∙ tells before first (asks first_sent true) asked
-    selftest_left done (inr (inr (first, asked, inr (second, again, inr (served, took, heard))))) =
-        heard_left served done heard ∙ accepted_left 2 second served took
+    selftest_left before later done (inr (inr (first, asked, inr (second, again, inr (served, took, heard))))) =
+        heard_left served later done heard ∙ accepted_left 2 second served took
         ∙ tells first second (asks second_sent true) again ∙ tells before first (asks first_sent true) asked
-
-    job_found : (job : Job) → RunsJob (program accepts fails) before later job old new status
-        → JobFound (program accepts fails) left image before later job old new status
-    job_found (Init db owner group) (input, output, ends) =
-        end_so (makes_found (string_bytes db) (string_bytes owner) (string_bytes group) before later)
-        old.errors new.errors status ends
-    job_found (Serve db roster port count) (input, output, ends) = λ start past held.
-        end_so (serves_found start past held accepts fails (string_bytes db) (string_bytes roster) port count
-        before later) old.errors new.errors status ends
-    job_found (Report db roster kind) (input, ends) = λ start past held.
-        end_so (reports_found start past held accepts fails (string_bytes db) (string_bytes roster) kind before later
-        old.output new.output) old.errors new.errors status ends
-    job_found Check (same, ran) = ap left same
-    job_found (Replay roster owner group) (done, ran, ends) =
-        replay_left (string_bytes roster) (string_bytes owner) (string_bytes group) _ _ _ _ done ran
-    job_found Selftest (input, inl (ends, told)) = selftest_left (Ok tt) ends
-    job_found Selftest (input, inr (output, why, ends, told)) = selftest_left (Err why) ends
-
-    read_found : (read : Result Job WordsFault) → RunsRead (program accepts fails) before later read old new status
-        → IfOk read (λ job. JobFound (program accepts fails) left image before later job old new status)
-        × IfErr read (λ why. left later ≡ left before)
-    read_found (Ok job) ran = (job_found job ran, tt)
-    read_found (Err why) (same, unread, told) = (tt, ap left same)
-
-    pub run_found : (words : List Text) → Runs (program accepts fails) before later words old new status
-        → RunFound (program accepts fails) left image before later words old new status
-    run_found words (read, is, ran) = let (job, refused) = read_found read ran in (read, is, job, refused)

@@ -4,6 +4,7 @@ mod Found
 mod Stopped
 mod Again
 mod Restarts
+mod Keeps
 mod Jobs
 mod Streams
 mod Faults

@@ -49,7 +49,7 @@ use Rattle.room_program.specs.Restarts.{ActsOnce, Steps, KeepsRoom, KeepsRoomOrM
 use Rattle.room_program.specs.Restarts.{GoesOnOrMore, AnswersOrMore}
 use Rattle.room_program.proofs.Found.{stands, closed_holds, closed_in, kept_in, unopened, served, read_stands}
 use Rattle.room_program.proofs.Streams.{stays, connections_answered}
-use Rattle.room_program.proofs.Found.{spares, makes_found, one_database, found_database}
+use Rattle.room_program.proofs.Found.{spares, not_made, one_database, found_database}
 use Rattle.room_program.proofs.Unopened.{may_hold}
 
 module _ {D : Type 0} (g : Ghosts D) where
@@ -311,11 +311,11 @@ module _ {D M : Type 0} (g : Ghosts D) (image : Image) (does : M → Call (Held 
       kept.quiet.outcomes numbered may
 
   -- no file was opened, so they are as they were found
-  unopened_still : (from to : M) (one : Image) → left from ≡ Nothing → left to ≡ left from
+  pub unopened_still : (from to : M) (one : Image) → left from ≡ Nothing → left to ≡ left from
       → IsLeftBy image (left to) one → one ≡ image
   unopened_still from to one none same at = subst (λ (l : Left D g). IsLeftBy image l one) (same ∙ none) at
 
-  as_found : (one : Image) → one ≡ image → HoldsStill image one
+  pub as_found : (one : Image) → one ≡ image → HoldsStill image one
   as_found one same start past held = ∣ subst (λ i. HoldsRoom i start past) (sym same) held ∣₁
 
   spared_run : (read later : M) (one : Image) → left read ≡ Nothing → SeesSums image (left later)
@@ -368,11 +368,8 @@ module _ {D M : Type 0} (g : Ghosts D) (image : Image) (does : M → Call (Held 
       (Err why)
       → left before ≡ Nothing → SeesSums image (left later) → IsLeftBy image (left later) one → HoldsStill image one
   unmade_run db owner group before later why one ends none sees at =
-      elim (makes_found g image does left stays tells db owner group before later (Err why) ends) [
-        | inl (names, same) ↦ as_found one (unopened_still before later one none (ap left same) at)
-        | inr (inl (unopened, so)) ↦ spared_run before later one none sees at so
-        | inr (inr (opened, begun, is, so)) ↦ spared_run before later one none sees at (inr (inr (begun, so)))
-      ]
+      spared_run before later one none sees at
+      (not_made g image does left stays tells db owner group before later why ends)
 
 -- the next run finds a room with records that the crash may leave of a store that a fault had shut
 pub found_records : {D E : Type 0} (g : Ghosts D) (h : Ghosts E) (was : SqlShelf (FileStore D g) over_files)

@@ -21,18 +21,13 @@ pub record IsUnknown (e : Exchange) : Type 0 where
   pub output : e.output ≡ None
   pub written : e.written ≡ None
 
--- one connection was accepted, and what was served is what went over it
-abbrev pub ServesOne : {L S : Type 0} → (accepts : L → Exchange → L → Type 0) → (serves : S → Exchange → S → Type 0)
-    → (old new : L) → (before after : S) → Type 0
-ServesOne accepts serves old new before after = (e : Exchange) × accepts old e new × serves before e after
-
--- so many were, one after another
+-- so many connections were accepted, one after another, and what was served is what went over them
 abbrev pub ServesEach : {L S : Type 0} → (accepts : L → Exchange → L → Type 0) → (serves : S → Exchange → S → Type 0)
     → ℕ → (old new : L) → (before after : S) → Type 0
 ServesEach accepts serves zero old new before after = (new ≡ old) × (after ≡ before)
 ServesEach {L} {S} accepts serves (suc n) old new before after =
     (last : L) × (between : S) × ServesEach accepts serves n old last before between
-    × ServesOne accepts serves last new between after
+    × ((e : Exchange) × accepts last e new × serves between e after)
 
 -- so many were accepted, whatever served them
 abbrev pub AcceptsEach : {L : Type 0} → (accepts : L → Exchange → L → Type 0) → ℕ → L → L → Type 0

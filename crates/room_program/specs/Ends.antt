@@ -2,7 +2,7 @@
 use Rattle.std.specs.Prelude.{◌≡◌, ◌⊎◌, ℕ, List, ◌++◌, codes, true, false, Option, Some, Result, Ok, Err}
 use Rattle.room_acl.specs.Principals.{IsPrincipal}
 use Rattle.room_program.specs.declared.fault.Fault.{Fault}
-use Rattle.room_program.specs.declared.fault.Fault.TheVariants.{BadName, Memory, NetworkFailed, SelftestFailed}
+use Rattle.room_program.specs.declared.fault.Fault.TheVariants.{BadName, Memory, SelftestFailed}
 use Rattle.room_program.specs.Machines.{Call}
 use Rattle.room_program.specs.Machines.Call.{asks, hears}
 use Rattle.room_program.specs.Files.{MakesAt}
@@ -14,11 +14,8 @@ IsNameFault name BadName = ¬ IsPrincipal name
 IsNameFault name Memory = Unit {0}
 IsNameFault name other = ⊥
 
-abbrev pub ArePrincipals : (owner group : List ℕ) → Type 0
-ArePrincipals owner group = IsPrincipal owner × IsPrincipal group
-
 abbrev pub IsNamesFault : (owner group : List ℕ) → Fault → Type 0
-IsNamesFault owner group BadName = ¬ ArePrincipals owner group
+IsNamesFault owner group BadName = ¬ (IsPrincipal owner × IsPrincipal group)
 IsNamesFault owner group Memory = Unit {0}
 IsNamesFault owner group other = ⊥
 
@@ -29,12 +26,7 @@ abbrev pub InitEnds : {M C : Type 0} → (does : M → Call C → M → Type 0) 
     → Result (Unit {0}) Fault → Type 0
 InitEnds does made unmade db owner group old new done =
     ((fault : Fault) × (done ≡ Err fault) × IsNamesFault owner group fault × (new ≡ old))
-    ⊎ (ArePrincipals owner group × MakesAt does made unmade db old new done)
-
-abbrev pub ServeEnds : Result (Unit {0}) Fault → Type 0
-ServeEnds (Ok done) = Unit {0}
-ServeEnds (Err NetworkFailed) = Unit {0}
-ServeEnds (Err other) = ⊥
+    ⊎ ((IsPrincipal owner × IsPrincipal group) × MakesAt does made unmade db old new done)
 
 abbrev pub IsSelftestFault : Fault → Type 0
 IsSelftestFault Memory = Unit {0}

@@ -98,16 +98,10 @@ IsSpared g opened let_go commits =
     → (state g let_go).now ≡ (state g opened).now)
     × Survives (state g opened) (state g let_go) commits
 
-abbrev pub IsTakeFault : Fault → Type 0
-IsTakeFault NotARoom = Unit {0}
-IsTakeFault StoreFailed = Unit {0}
-IsTakeFault Memory = Unit {0}
-IsTakeFault other = ⊥
-
 -- why no room is taken of a store that was opened, and what is let go: no more was tried than to make one of version 1
 -- one of version 2; and it is no room only where nothing was tried, and the version of one is not there
 pub record Untaken {S : Type 0} (g : Ghosts S) (opened let_go : Held S) (why : Fault) : Type 0 where
-  pub fault : IsTakeFault why
+  pub fault : (why ≡ NotARoom) ⊎ ((why ≡ StoreFailed) ⊎ (why ≡ Memory))
   pub spared : IsSpared g opened let_go (adoption.MayBeTaken (state g opened))
   pub no_room : why ≡ NotARoom → adoption.IsAsBefore (state g opened) (state g let_go)
       × (HasCleanDisk (state g let_go) → adoption.HasAnotherVersion (state g opened))

@@ -1,7 +1,5 @@
 -- What a run finds in files that held something as they were opened, and what it leaves in them.
-use Rattle.std.specs.Prelude.{◌≡◌, ◌⊎◌, ℕ, List, [], false, Option, Result, Ok, Err, OnOk, IfOk, IfErr, IsTrue}
-use Rattle.std.specs.Prelude.{string_bytes}
-use Rattle.std.specs.Io.KnownBytes.{Appends}
+use Rattle.std.specs.Prelude.{◌≡◌, ◌⊎◌, [], false, Ok, Err, IsTrue}
 use Rattle.sqlite_disk.specs.declared.Disk.{Ghosts}
 use Rattle.sqlite_disk.specs.declared.Files.{Files}
 use Rattle.sqlite_trees.specs.Tree.{Trees}
@@ -25,28 +23,15 @@ use Rattle.sqlite.specs.declared.error.ErrorCode.TheVariants.{CannotOpen, OutOfM
 use Rattle.sqlite.specs.declared.Leftover.{Leftover}
 use Rattle.sqlite.specs.declared.Leftover.TheVariants as leftover
 use Rattle.sqlite.specs.Start.{FindsIn}
-use Rattle.clap.specs.Words.{Text}
-use Rattle.room_acl.specs.SubjectModel.{SubjectModel}
-use Rattle.room_records.specs.Room.{Room, fresh_room}
+use Rattle.room_records.specs.Room.{Room}
 use Rattle.room_tables.specs.Layout.{IsRoomOfVersion1, IsRoomOfVersion2}
 use Rattle.room_tables.specs.Rows.{records_of}
-use Rattle.room_desk.specs.History.{History, state_after}
+use Rattle.room_desk.specs.History.{History}
 use Rattle.room_desk.specs.Representation.{RepresentsHistory}
-use Rattle.room_words.specs.declared.fault.WordsFault.{WordsFault}
-use Rattle.room_words.specs.declared.job.ReportKind.{ReportKind}
-use Rattle.room_words.specs.declared.job.Job.{Job}
-use Rattle.room_words.specs.declared.job.Job.TheVariants.{Check, Init, Replay, Serve, Report, Selftest}
-use Rattle.room_words.specs.CommandLine.{ReadsJob}
-use Rattle.room_program.specs.declared.fault.Fault.{Fault}
 use Rattle.room_program.specs.declared.left.Left.{Left}
 use Rattle.room_program.specs.declared.left.Left.TheVariants.{Nothing, Unopened, Copied, Uncopied, Kept}
 use Rattle.room_program.specs.Machines.{Call}
 use Rattle.room_program.specs.Machines.Call.{opens, closes, leaves}
-use Rattle.room_program.specs.Files.{TakesRoster, TakesRoom, OpensStore}
-use Rattle.room_program.specs.Ends.{IsNamesFault}
-use Rattle.room_program.specs.Rooms.{FailsRoster, FailsRoom, Listens, WritesReport, report_text}
-use Rattle.room_program.specs.Runs.{Means, Streams, Ends}
-use Rattle.room_program.specs.Streams.{GoesOn}
 
 -- ---- what the calls of the system say of files
 
@@ -152,21 +137,6 @@ SeesSums found (Unopened (leftover.Unopened files)) = (trees : Trees) (held : Ho
     → IsTrue (is_summed held.0) → IsTrue (is_summed (state_of files).page_size)
 SeesSums found other = Unit {0}
 
--- then they hold a room with this history
-abbrev pub LeavesRoom : {D : Type 0} {g : Ghosts D} → (found : Image) → Left D g → Room → History → Type 0
-LeavesRoom found left start past = (image : Image) → IsLeftBy found left image → HoldsRoom image start past
-
--- ---- what a job does over files
-
--- the history went on by messages of these users, while the disk returns what was written, and the rows of the store
--- stand for it, where no fault has shut it; once the store is closed, so do the files
-abbrev pub GoesOnIn : {D : Type 0} {g : Ghosts D} → (found : Image) → List SubjectModel → Room → History
-    → Held (FileStore D g) → Left D g → Type 0
-GoesOnIn found users start past closed left =
-    HasCleanDisk (file_state closed) → (next : History) × GoesOn users start past next
-    × (IsTrue (file_state closed).is_open → RepresentsHistory start (records_of (file_state closed).now.trees) next
-    × LeavesRoom found left start next)
-
 -- no store was to be had in the files, and they hold what they held
 abbrev pub StayUnopened : {D : Type 0} {g : Ghosts D} → Image → Left D g → Type 0
 StayUnopened image left = SeesSums image left → (db : Database) → Holds image db
@@ -181,85 +151,10 @@ pub record IsSparedIn {D : Type 0} {g : Ghosts D} (image : Image) (let_go : Held
   pub room : (start : Room) (past : History) → HoldsRoom image start past → (after : Image) → IsLeftBy image left after
       → ∥ HoldsRoom after start past ∥₁
 
-abbrev pub SparesFound : {M D : Type 0} {g : Ghosts D} → (does : M → Call (Held (FileStore D g)) → M → Type 0)
-    → (left : M → Left D g) → Image → (begun later : M) → Type 0
-SparesFound {M} {D} {g} does left image begun later =
-    (let_go : Held (FileStore D g)) × does begun (leaves let_go) later × IsSparedIn image let_go (left later)
-
 -- no file was opened, or no store was to be had in them, or one was let go so
 abbrev pub SparesRoom : {M D : Type 0} {g : Ghosts D} → (does : M → Call (Held (FileStore D g)) → M → Type 0)
     → (left : M → Left D g) → Image → (read later : M) → Type 0
-SparesRoom {M} does left image read later =
+SparesRoom {M} {D} {g} does left image read later =
     (left later ≡ left read) ⊎ (StayUnopened image (left later)
-    ⊎ ((begun : M) × SparesFound does left image begun later))
-
--- `serve` over files that held a room, as it ends with `closed`: the roster or the room could not be had, and the room
--- is spared; or the store that is closed is the one that the connections left, and with its files it holds the room and
--- its history as they went on
-abbrev pub ServesFound : {M D Shelf : Type 0} {g : Ghosts D} → Means M (Held (FileStore D g)) Shelf
-    → (left : M → Left D g) → Image → (db roster : List ℕ) → (port count : ℕ) → Room → History
-    → (before later : M) → Result (Unit {0}) Fault → Type 0
-ServesFound {M} {D} {Shelf} {g} m left image db roster port count start past before later done =
-    (FailsRoster m.does roster before later done × (left later ≡ left before))
-    ⊎ ((users : List SubjectModel) × (read : M) × TakesRoster m.does roster before read (Ok users)
-    × ((FailsRoom m.does m.takes db read later done × SparesRoom m.does left image read later)
-    ⊎ ((shelf last : Shelf) × (taken over : M) × TakesRoom m.does m.takes db read taken (Ok shelf)
-    × Listens m.does m.accepts m.fails m.view users port count taken over shelf last done
-    × m.does over (closes (m.store last)) later × GoesOnIn image users start past (m.store last) (left later))))
-
--- `report` over files that held a room: the roster or the room could not be had, nothing is written, and the room is
--- spared; or where the report is done, and the disk has returned what was written, it is that of this room, and where
--- no fault has shut the store, which is the one that it was written of, the files hold the room with its history then
-abbrev pub ReportsFound : {M D Shelf : Type 0} {g : Ghosts D} → Means M (Held (FileStore D g)) Shelf
-    → (left : M → Left D g) → Image → (db roster : List ℕ) → ReportKind → Room → History
-    → (before later : M) → (old new : Option (List ℕ)) → Result (Unit {0}) Fault → Type 0
-ReportsFound {M} {D} {Shelf} {g} m left image db roster kind start past before later old new done =
-    (FailsRoster m.does roster before later done × (left later ≡ left before) × (new ≡ old))
-    ⊎ ((users : List SubjectModel) × (read : M) × TakesRoster m.does roster before read (Ok users)
-    × ((FailsRoom m.does m.takes db read later done × SparesRoom m.does left image read later × (new ≡ old))
-    ⊎ ((taken last : Shelf) × (seen : M) × TakesRoom m.does m.takes db read seen (Ok taken)
-    × WritesReport m.view kind users taken last old new done × m.does seen (leaves (m.store last)) later
-    × (HasCleanDisk (file_state (m.store last))
-    → OnOk done (Appends old new (report_text kind (state_after start past) users))
-    × (IsTrue (file_state (m.store last)).is_open → LeavesRoom image (left later) start past)))))
-
--- `init` over files: it made a room only where they held none, and where they held nothing, they hold the fresh one
--- then. Else nothing was asked of them, or they were spared
-abbrev pub MakesFound : {M D : Type 0} {g : Ghosts D} → (does : M → Call (Held (FileStore D g)) → M → Type 0)
-    → (left : M → Left D g) → Image → (db owner group : List ℕ)
-    → (before later : M) → Result (Unit {0}) Fault → Type 0
-MakesFound {M} {D} {g} does left image db owner group before later (Ok done) =
-    (over : M) × (closed : Held (FileStore D g)) × does over (closes closed) later
-    × (HasCleanDisk (file_state closed) → ((start : Room) (past : History) → ¬ HoldsRoom image start past)
-    × (HoldsNothing image → LeavesRoom image (left later) (fresh_room owner group) []))
-MakesFound {M} {D} {g} does left image db owner group before later (Err fault) =
-    (IsNamesFault owner group fault × (later ≡ before))
-    ⊎ ((OpensStore does db before later (Err fault) × SparesRoom does left image before later)
-    ⊎ ((opened : Held (FileStore D g)) × (begun : M) × OpensStore does db before begun (Ok opened)
-    × SparesFound does left image begun later))
-
--- what a job does over files that held this image as it began; only `init`, `serve` and `report` give a store up
-abbrev pub JobFound : {M D Shelf : Type 0} {g : Ghosts D} → Means M (Held (FileStore D g)) Shelf
-    → (left : M → Left D g) → Image → (before later : M) → Job → Streams → Streams → ℕ → Type 0
-JobFound m left image before later (Init db owner group) old new status =
-    Ends (MakesFound m.does left image (string_bytes db) (string_bytes owner) (string_bytes group) before later)
-    old.errors new.errors status
-JobFound m left image before later (Serve db roster port count) old new status =
-    (start : Room) (past : History) → HoldsRoom image start past
-    → Ends (ServesFound m left image (string_bytes db) (string_bytes roster) port count start past before later)
-    old.errors new.errors status
-JobFound m left image before later (Report db roster kind) old new status =
-    (start : Room) (past : History) → HoldsRoom image start past
-    → Ends (ReportsFound m left image (string_bytes db) (string_bytes roster) kind start past
-    before later old.output new.output) old.errors new.errors status
-JobFound m left image before later Check old new status = left later ≡ left before
-JobFound m left image before later (Replay roster owner group) old new status = left later ≡ left before
-JobFound m left image before later Selftest old new status = left later ≡ left before
-
--- and what the words ask, if anything
-abbrev pub RunFound : {M D Shelf : Type 0} {g : Ghosts D} → Means M (Held (FileStore D g)) Shelf
-    → (left : M → Left D g) → Image → (before later : M) → List Text → Streams → Streams → ℕ → Type 0
-RunFound m left image before later words old new status =
-    (read : Result Job WordsFault) × ReadsJob words read
-    × IfOk read (λ job. JobFound m left image before later job old new status)
-    × IfErr read (λ fault. left later ≡ left before)
+    ⊎ ((begun : M) × ((let_go : Held (FileStore D g)) × does begun (leaves let_go) later
+    × IsSparedIn image let_go (left later))))

@@ -1,5 +1,5 @@
 -- What is done with the room in a file.
-use Rattle.std.specs.Prelude.{◌≡◌, ◌⊎◌, ℕ, List, true, false, Option, Result, Ok, Err, OnOk, OnErr}
+use Rattle.std.specs.Prelude.{◌≡◌, ◌⊎◌, ℕ, List, true, false, Option, Result, Ok, Err, OnOk, OnErr, IfErr}
 use Rattle.room_acl.specs.SubjectModel.{SubjectModel}
 use Rattle.room_records.specs.Room.{Room}
 use Rattle.room_records.specs.Shelf.{View, ShelfRead}
@@ -12,7 +12,6 @@ use Rattle.room_words.specs.declared.job.ReportKind.TheVariants.{Access, Lists}
 use Rattle.room_program.specs.declared.fault.Fault.{Fault}
 use Rattle.room_program.specs.declared.fault.Fault.TheVariants.{NetworkFailed}
 use Rattle.room_program.specs.Calls.{Exchange, ServesEach, ServesFewer}
-use Rattle.room_program.specs.Ends.{ServeEnds}
 use Rattle.room_program.specs.Faults.{done_of_report}
 use Rattle.room_program.specs.Files.{TakesRoster, TakesRoom}
 use Rattle.room_program.specs.Machines.{Call}
@@ -60,7 +59,7 @@ pub record ServesAll {M Shelf : Type 0} (accepts : M → Exchange → M → Type
     (bound later : M) (before after : Shelf) (done : Result (Unit {0}) Fault) : Type 0 where
   pub served : OnOk done (ServesEach accepts (Served view users) count bound later before after)
   pub fewer : OnErr done (ServesFewer accepts fails (Served view users) count bound later before after)
-  pub ends : ServeEnds done
+  pub ends : IfErr done (λ why. why ≡ NetworkFailed)
 
 abbrev pub Listens : {M C Shelf : Type 0} → (does : M → Call C → M → Type 0)
     → (accepts : M → Exchange → M → Type 0) → (fails : M → M → Type 0) → (view : Shelf → View)

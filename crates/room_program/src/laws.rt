@@ -1,5 +1,6 @@
 //! Laws from one run to the next, over the files that the one before it left. Each function here does nothing.
-ghost use Rattle.std.specs.Prelude.{◌≡◌, ◌⊎◌, ℕ, List, ◌∷◌, Option, Result, false, Ok, Err, IsTrue};
+ghost use Rattle.std.specs.Prelude.{◌≡◌, ◌⊎◌, ℕ, List, [], ◌∷◌, Option, Result, false, Ok, Err, OnOk, IsTrue};
+ghost use Rattle.std.specs.Io.KnownBytes.{Appends};
 ghost use Rattle.sqlite.specs.WalFiles.{image_at};
 ghost use Rattle.std.specs.List.{AllByRecursion};
 ghost use Rattle.sqlite.specs.Effect.{Database};
@@ -9,24 +10,27 @@ ghost use Rattle.sqlite.specs.View.{IsClean};
 ghost use Rattle.sqlite.specs.State.{HasCleanDisk};
 ghost use Rattle.sqlite.specs.Files.{file_state};
 ghost use Rattle.room_acl.specs.SubjectModel.{SubjectModel};
-ghost use Rattle.room_records.specs.Room.{Room};
+ghost use Rattle.room_records.specs.Room.{Room, fresh_room};
 ghost use Rattle.room_tables.specs.Layout.{IsRoomOfVersion2};
 ghost use Rattle.room_tables.specs.Rows.{records_of};
 ghost use Rattle.room_wire.specs.Asks.EventModel.{EventModel};
 ghost use Rattle.room_wire.specs.Messages.MessageModel.{MessageModel, IsMessage};
 ghost use Rattle.room_wire.specs.Serving.Outputs.{Outputs};
 ghost use Rattle.room_desk.specs.AnswerModel.{AnswerModel};
-ghost use Rattle.room_desk.specs.History.{History, leaves_no_reply};
+ghost use Rattle.room_desk.specs.History.{History, leaves_no_reply, state_after};
+ghost use Rattle.room_desk.specs.Representation.{RepresentsHistory};
 ghost use Rattle.room_desk.specs.Serving.{EventAnswered, MayAnswer};
 ghost use Rattle.room_program.specs.declared.fault.Fault.{Fault};
 ghost use Rattle.room_program.specs.Calls.{ServesEach};
-ghost use Rattle.room_program.specs.Ends.{InitEnds};
-ghost use Rattle.room_program.specs.Files.{Adopted, Made, Takes, TakesRoom, Unmade, Untaken};
-ghost use Rattle.room_program.specs.Machines.Call.{closes, leaves};
-ghost use Rattle.room_program.specs.Rooms.{Listens, WritesReport};
+ghost use Rattle.room_program.specs.Ends.{InitEnds, SelftestEnds};
+ghost use Rattle.room_program.specs.Files.{Adopted, Made, Takes, TakesRoom, TakesRoster, Unmade, Untaken};
+ghost use Rattle.room_program.specs.Machines.Call.{opens, closes, leaves};
+ghost use Rattle.room_program.specs.Replays.{Replays};
+ghost use Rattle.room_program.specs.Rooms.{Listens, WritesReport, report_text};
 ghost use Rattle.room_words.specs.declared.job.ReportKind.{ReportKind};
 ghost use Rattle.room_program.specs.Streams.{GoesOn, Served};
-ghost use Rattle.room_program.specs.Found.{Holds, HoldsRoom, IsOpenedOver, IsLeftBy, MayBeLeft, SeesSums};
+ghost use Rattle.room_program.specs.Found.{Holds, HoldsNothing, HoldsRoom, IsOpenedOver, IsLeftBy, MayBeLeft};
+ghost use Rattle.room_program.specs.Found.{SeesSums, SparesRoom};
 ghost use Rattle.room_program.specs.Restarts.{ActsOnce, AnswersOrMore};
 ghost use Rattle.room_program.specs.Restarts.{Steps, KeepsRoom, KeepsRoomOrMore, HoldsStill};
 ghost use Rattle.room_program.specs.Restarts.{GoesOnOrMore};
@@ -59,6 +63,71 @@ pub fn a_room_outlives_its_runs()
         KeepsRoom users found left → KeepsRoomOrMore users found left }
     ensures still { (users : List SubjectModel) (found left : Image) →
         HoldsStill found left → KeepsRoomOrMore users found left }
+{}
+
+/// What a run does to the files, where they held what `S` stands for as they were opened: said of the calls that
+/// `run_program` tells of (`runs`), while the disk returns what was written. A `serve` that took a room with a history
+/// goes on with it: the rows of the store that it closes stand for that history followed by events that messages of
+/// users of the roster ask, where no fault has shut the store, and the files then hold the room with it (`serve`). A
+/// `report` that is done wrote that of this room, and leaves it (`report`). `init` makes a room only where there was
+/// none, and where there was no file, the files hold the fresh room then (`init`). Where no room was taken or made, the
+/// files are spared (`untaken`, `unmade`). Whatever else a run asks leaves them as they are (`roster`, `replay`,
+/// `selftest`).
+pub fn a_run_does_so_to_its_files<S: Start>()
+    ensures serve { (db : List ℕ) (users : List SubjectModel) (port count : ℕ) (read taken over later : _)
+        (shelf last : _) (done : Result (Unit {0}) Fault) (start : Room) (past : History) →
+        TakesRoom ⟦<Host<'static, S> as Machine<FileConnection<S>>>⟧.does
+        (λ opened taken. Takes ⟦<FileStore<FileFrom<S>> as Store>⟧ opened taken) db read taken (Ok shelf) →
+        Listens ⟦<Host<'static, S> as Machine<FileConnection<S>>>⟧.does
+        ⟦<Host<'static, S> as Listener>⟧.accepts ⟦<Host<'static, S> as Listener>⟧.fails
+        ⟦<CachedShelf<SqlShelf<FileStore<FileFrom<S>>>> as Shelf>⟧.view users port count taken over shelf last done →
+        ⟦<Host<'static, S> as Machine<FileConnection<S>>>⟧.does over (closes last.0.conn) later →
+        HasCleanDisk (file_state last.0.conn) → HoldsRoom (image_at S.Start) start past
+        → (next : History) × GoesOn users start past next × (IsTrue (file_state last.0.conn).is_open
+        → RepresentsHistory start (records_of (file_state last.0.conn).now.trees) next
+        × ((left : Image) → IsLeftBy (image_at S.Start) later.left left → HoldsRoom left start next)) }
+    ensures report { (db : List ℕ) (kind : ReportKind) (users : List SubjectModel) (read seen later : _)
+        (taken last : _) (old new : Option (List ℕ)) (done : Result (Unit {0}) Fault) (start : Room)
+        (past : History) →
+        TakesRoom ⟦<Host<'static, S> as Machine<FileConnection<S>>>⟧.does
+        (λ opened taken. Takes ⟦<FileStore<FileFrom<S>> as Store>⟧ opened taken) db read seen (Ok taken) →
+        WritesReport ⟦<CachedShelf<SqlShelf<FileStore<FileFrom<S>>>> as Shelf>⟧.view
+        kind users taken last old new done →
+        ⟦<Host<'static, S> as Machine<FileConnection<S>>>⟧.does seen (leaves last.0.conn) later →
+        HasCleanDisk (file_state last.0.conn) → HoldsRoom (image_at S.Start) start past
+        → OnOk done (Appends old new (report_text kind (state_after start past) users))
+        × (IsTrue (file_state last.0.conn).is_open → (left : Image) → IsLeftBy (image_at S.Start) later.left left
+        → HoldsRoom left start past) }
+    ensures init { (db owner group : List ℕ) (before begun later : _) (opened closed : _) →
+        ⟦<Host<'static, S> as Machine<FileConnection<S>>>⟧.does before (opens db (Ok opened)) begun →
+        Made ⟦<FileStore<FileFrom<S>> as Store>⟧ owner group opened closed →
+        ⟦<Host<'static, S> as Machine<FileConnection<S>>>⟧.does begun (closes closed) later →
+        HasCleanDisk (file_state closed)
+        → ((start : Room) (past : History) → ¬ HoldsRoom (image_at S.Start) start past)
+        × (HoldsNothing (image_at S.Start) → (left : Image) → IsLeftBy (image_at S.Start) later.left left
+        → HoldsRoom left (fresh_room owner group) []) }
+    ensures untaken { (db : List ℕ) (read later : _) (why : Fault) →
+        TakesRoom ⟦<Host<'static, S> as Machine<FileConnection<S>>>⟧.does
+        (λ opened taken. Takes ⟦<FileStore<FileFrom<S>> as Store>⟧ opened taken) db read later (Err why) →
+        SparesRoom ⟦<Host<'static, S> as Machine<FileConnection<S>>>⟧.does
+        (λ host. host.left) (image_at S.Start) read later }
+    ensures unmade { (db owner group : List ℕ) (before later : _) (why : Fault) →
+        InitEnds ⟦<Host<'static, S> as Machine<FileConnection<S>>>⟧.does
+        (Made ⟦<FileStore<FileFrom<S>> as Store>⟧ owner group)
+        (Unmade ⟦<FileStore<FileFrom<S>> as Store>⟧ owner group) db owner group before later (Err why) →
+        SparesRoom ⟦<Host<'static, S> as Machine<FileConnection<S>>>⟧.does
+        (λ host. host.left) (image_at S.Start) before later }
+    ensures roster { (path : List ℕ) (before later : _) (taken : Result (List SubjectModel) Fault) →
+        TakesRoster ⟦<Host<'static, S> as Machine<FileConnection<S>>>⟧.does path before later taken
+        → later.left ≡ before.left }
+    ensures replay { (roster owner group : List ℕ) (before later : _) (input rest old new : Option (List ℕ))
+        (done : Result (Unit {0}) Fault) →
+        Replays ⟦<Host<'static, S> as Machine<FileConnection<S>>>⟧.does roster owner group before later
+        input rest old new done → later.left ≡ before.left }
+    ensures selftest { (before later : _) (done : Result (Unit {0}) Fault) →
+        SelftestEnds ⟦<Host<'static, S> as Machine<FileConnection<S>>>⟧.does
+        ⟦<Host<'static, S> as Listener>⟧.accepts ⟦<Host<'static, S> as Listener>⟧.fails before later done
+        → later.left ≡ before.left }
 {}
 
 /// A run that ends keeps the room: a `serve` that took it and closed it (`serve`), and where a fault had shut its

@@ -1,7 +1,7 @@
 //! Where connections come from, and what serves them.
 ghost use Rattle.std.specs.Prelude.{◌≡◌, List, OnOk, OnErr};
 ghost use Rattle.room_acl.specs.SubjectModel.{SubjectModel};
-ghost use Rattle.room_program.specs.Calls.{Exchange, ServesOne, exchange};
+ghost use Rattle.room_program.specs.Calls.{Exchange, exchange};
 
 use room_desk::Desk;
 use room_records::{Roster, Shelf};
@@ -52,7 +52,8 @@ pub trait Listener {
     /// Waits for the next connection, has it served, however that ends, and closes it. Err where none can be accepted;
     /// then nothing is served.
     fn serve_next<V: Server>(&mut self, server: &mut V, roster: &Roster) -> io::Result<()>
-        ensures ok { OnOk result (ServesOne accepts (V.serves roster.now) self.old self.new server.old server.new) }
+        ensures ok { OnOk result ((e : Exchange) × accepts self.old e self.new
+            × V.serves roster.now server.old e server.new) }
         ensures err { OnErr result (fails self.old self.new) }
         ensures unserved { OnErr result (server.new ≡ server.old) };
 }

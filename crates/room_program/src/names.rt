@@ -1,7 +1,7 @@
 //! The owner and the group of a room to be.
 ghost use Rattle.std.specs.Prelude.{◌≡◌, IfOk, IfErr};
 ghost use Rattle.room_acl.specs.Principals.{IsPrincipal};
-ghost use Rattle.room_program.specs.Ends.{IsNameFault, ArePrincipals, IsNamesFault};
+ghost use Rattle.room_program.specs.Ends.{IsNameFault, IsNamesFault};
 
 use crate::fault::Fault;
 use room_acl::{Principal, Standing};
@@ -17,7 +17,8 @@ fn principal(alloc: Global, name: &str) -> Result<Principal, Fault>
 
 /// The owner and the group of these names.
 pub(crate) fn standing(alloc: Global, owner: &str, group: &str) -> Result<Standing, Fault>
-    ensures ok { IfOk result (λ s. (s.owner ≡ owner.now) × (s.group ≡ group.now) × ArePrincipals owner.now group.now) }
+    ensures ok { IfOk result (λ s. (s.owner ≡ owner.now) × (s.group ≡ group.now)
+        × (IsPrincipal owner.now × IsPrincipal group.now)) }
     ensures fault { IfErr result (IsNamesFault owner.now group.now) }
 {
     let owner = principal(alloc, owner)?;

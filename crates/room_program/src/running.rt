@@ -1,16 +1,21 @@
 //! A run of the program, from its words to its exit status.
+ghost use Rattle.std.specs.Prelude.{◌≡◌, ◌⊎◌, ℕ, List, Ok};
 ghost use Rattle.sqlite.specs.WalFiles.{image_at};
+ghost use Rattle.sqlite.specs.Recovery.{Image};
+ghost use Rattle.room_acl.specs.SubjectModel.{SubjectModel};
 ghost use Rattle.room_words.specs.CommandLine.{texts_of};
 ghost use Rattle.room_program.specs.Ends.{InitEnds};
-ghost use Rattle.room_program.specs.Files.{Made, Takes, Unmade};
-ghost use Rattle.room_program.specs.Found.{RunFound};
+ghost use Rattle.room_program.specs.Files.{Made, Takes, TakesRoster, Unmade};
+ghost use Rattle.room_program.specs.Found.{IsLeftBy, SeesSums};
 ghost use Rattle.room_program.specs.Replays.{Replays};
+ghost use Rattle.room_program.specs.Restarts.{HoldsStill, KeepsRoomOrMore};
 ghost use Rattle.room_program.specs.Rooms.{Reports, ServesRoom};
 ghost use Rattle.room_program.specs.Runs.{Checks, Ends, EndsWith, RefusesWords, Runs, RunsJob, WritesText};
 ghost use Rattle.room_program.specs.Runs.{Tries, means, streams};
 
 use crate::fault::{Fault, done_of};
 use crate::host::{FileConnection, Host};
+use crate::left::Left;
 use crate::listening::Listener;
 use crate::machine::Machine;
 use crate::making::init;
@@ -290,11 +295,9 @@ pub fn run_machine<
 ///
 /// It holds for any `S`, which stands for what the files of the store held as they were opened; `main` passes
 /// `Unknown`, which supposes of a write that a crash cuts that each byte is the old or the new one, as `Host` asks.
-/// What the run does to these files it says by the words
-/// (`files`). `serve`: where they held a room whose rows stand for a history, they stand then for that history followed
-/// by events that messages of users of the roster ask, and so do those in the files once the store is closed. `report`
-/// writes the report of the room of that history. `init` makes a room only where there was none, and where there was no
-/// file, the files hold the fresh room then. All of it while the disk returns what was written.
+/// Whatever the words are, and however the run ends, a room that these files held is in them then, with its history; or
+/// its history went on by what messages of users of the roster asked (`files`). What each job does to them follows from
+/// what it asks of the host (`a_run_does_so_to_its_files`, `a_run_that_ends_keeps_the_room`).
 pub fn run_program<'a, S: Start, R: Read, W: Write, E: Write>(
     alloc: Global,
     host: &mut Host<'a, S>,
@@ -312,15 +315,11 @@ pub fn run_program<'a, S: Start, R: Read, W: Write, E: Write>(
         host.old host.new (texts_of words.now)
         (streams (R.remaining input.old) (W.contents output.old) (E.contents errors.old))
         (streams (R.remaining input.new) (W.contents output.new) (E.contents errors.new)) result }
-    ensures files { RunFound (means ⟦<Host<'static, S> as Machine<FileConnection<S>>>⟧.does
-        ⟦<Host<'static, S> as Listener>⟧.accepts ⟦<Host<'static, S> as Listener>⟧.fails
-        (λ opened taken. Takes ⟦<FileStore<FileFrom<S>> as Store>⟧ opened taken)
-        (λ shelf. shelf.0.conn) (Made ⟦<FileStore<FileFrom<S>> as Store>⟧)
-        (Unmade ⟦<FileStore<FileFrom<S>> as Store>⟧)
-        ⟦<CachedShelf<SqlShelf<FileStore<FileFrom<S>>>> as Shelf>⟧.view)
-        (λ host. host.left) (image_at S.Start) host.old host.new (texts_of words.now)
-        (streams (R.remaining input.old) (W.contents output.old) (E.contents errors.old))
-        (streams (R.remaining input.new) (W.contents output.new) (E.contents errors.new)) result }
+    ensures files { (left : Image) → host.old.left ≡ Left.Nothing → SeesSums (image_at S.Start) host.new.left
+        → IsLeftBy (image_at S.Start) host.new.left left → HoldsStill (image_at S.Start) left
+        ⊎ ((roster : List ℕ) × (users : List SubjectModel) × (read : _)
+        × TakesRoster ⟦<Host<'static, S> as Machine<FileConnection<S>>>⟧.does roster host.old read (Ok users)
+        × KeepsRoomOrMore users (image_at S.Start) left) }
 {
     run_machine(alloc, host, words, input, output, errors)
 }

@@ -1,4 +1,4 @@
-use Rattle.std.proofs.Common.{inr, refl}
+use Rattle.std.proofs.Common.{inl, inr, refl}
 use Rattle.room_program.proofs.Again.{adopted_as}
 use Rattle.room_program.proofs.opening.adopt.Goals as goal
 
@@ -16,7 +16,7 @@ returns-in-Err-NotARoom-default g c =
     let gone = c.let_go.ensures in (
       e.connection,
       record {
-        fault = tt;
+        fault = inl refl;
         spared = (gone.rests, e.ensures.unchanged, e.ensures.refused);
         no_room = λ is. (e.ensures.left (inr e.field-0-0-is), e.ensures.no_version e.field-0-0-is);
       },
@@ -29,7 +29,7 @@ returns-in-Err-Memory-default g c =
     let gone = c.let_go-in-Err-Memory-default.ensures in (
       e.connection,
       record {
-        fault = tt;
+        fault = inr (inr refl);
         spared = (gone.rests, e.ensures.unchanged, e.ensures.refused);
         no_room = λ is. absurd cc;
       },
@@ -42,7 +42,7 @@ returns-in-Err g c =
     let gone = c.let_go-in-Err.ensures in (
       e.connection,
       record {
-        fault = tt;
+        fault = inr (inl refl);
         spared = (gone.rests, e.ensures.unchanged, e.ensures.refused);
         no_room = λ is. absurd cc;
       },

@@ -1,0 +1,129 @@
+-- A run, whatever it is asked: a room that the files held is in those that it leaves.
+use Rattle.std.proofs.Common.{◌≡◌, ◌∙◌, ◌⊎◌, ℕ, List, Option, Result, Ok, Err, ap, inl, inr}
+use Rattle.std.specs.Prelude.{string_bytes}
+use Rattle.sqlite_disk.specs.declared.Disk.{Ghosts}
+use Rattle.sqlite.specs.Recovery.{Image}
+use Rattle.sqlite.specs.declared.FileStore.{FileStore}
+use Rattle.sqlite.specs.Held.{Held}
+use Rattle.sqlite.specs.Files.{over_files}
+use Rattle.clap.specs.Words.{Text}
+use Rattle.room_acl.specs.SubjectModel.{SubjectModel}
+use Rattle.room_records.specs.Shelf.{View}
+use Rattle.room_cache.specs.declared.known.Known.{Known}
+use Rattle.room_cache.specs.Cached.{cached_view}
+use Rattle.room_sql.specs.declared.sql_shelf.SqlShelf.{SqlShelf}
+use Rattle.room_sql.specs.SqlView.{sql_view}
+use Rattle.room_words.specs.declared.job.Job.{Job}
+use Rattle.room_words.specs.declared.job.Job.TheVariants.{Check, Init, Replay, Serve, Report, Selftest}
+use Rattle.room_words.specs.declared.job.ReportKind.{ReportKind}
+use Rattle.room_program.specs.declared.fault.Fault.{Fault}
+use Rattle.room_program.specs.declared.left.Left.{Left}
+use Rattle.room_program.specs.declared.left.Left.TheVariants.{Nothing}
+use Rattle.room_program.specs.Calls.{Exchange}
+use Rattle.room_program.specs.Machines.{Call}
+use Rattle.room_program.specs.Machines.Call.{closes}
+use Rattle.room_program.specs.Ends.{InitEnds}
+use Rattle.room_program.specs.Files.{Takes, TakesRoster, Made, Unmade}
+use Rattle.room_program.specs.Rooms.{Reports, ServesRoom}
+use Rattle.room_program.specs.Found.{IsLeftBy, ActsOn, SeesSums}
+use Rattle.room_program.specs.Restarts.{KeepsRoomOrMore, HoldsStill}
+use Rattle.room_program.specs.Runs.{Means, Streams, Runs, RunsJob, means}
+use Rattle.room_program.proofs.Found.{closed_in, made_on, roster_left, replay_left, selftest_left}
+use Rattle.room_program.proofs.Restarts.{as_found, unopened_still, served_shut, reported_run, untaken_run, unmade_run}
+
+module _ {D M : Type 0} (g : Ghosts D) (image : Image) (does : M → Call (Held (FileStore D g)) → M → Type 0)
+    (left : M → Left D g) (stays : (file : D) → g.may_leave file (g.seen file))
+    (tells : (old new : M) (call : Call (Held (FileStore D g))) → does old call new
+    → ActsOn image call (left old) (left new))
+    (accepts : M → Exchange → M → Type 0) (fails : M → M → Type 0)
+    (accepts_so : (old new : M) (e : Exchange) → accepts old e new → left new ≡ left old)
+    (fails_so : (old new : M) → fails old new → left new ≡ left old)
+    (before later : M) (one : Image) (none : left before ≡ Nothing) (sees : SeesSums image (left later))
+    (at : IsLeftBy image (left later) one) where
+  abbrev File : Type 0
+  File = Held (FileStore D g)
+
+  abbrev Taken : Type 0
+  Taken = SqlShelf (FileStore D g) over_files × Known
+
+  abbrev takes : File → Result Taken (Fault × File) → Type 0
+  takes opened taken = Takes over_files opened taken
+
+  abbrev shown : Taken → View
+  shown = cached_view (sql_view over_files)
+
+  abbrev program : Means M File Taken
+  program = means does accepts fails takes (λ taken. taken.0.conn) (Made over_files) (Unmade over_files) shown
+
+  abbrev Keeps : Type 0
+  Keeps = HoldsStill image one ⊎ ((roster : List ℕ) × (users : List SubjectModel) × (read : M)
+      × TakesRoster does roster before read (Ok users) × KeepsRoomOrMore users image one)
+
+  as_it_was : left later ≡ left before → Keeps
+  as_it_was same = inl (as_found g image does left stays tells one
+      (unopened_still g image does left stays tells before later one none same at))
+
+  init_keeps : (db owner group : List ℕ) (done : Result (Unit {0}) Fault)
+      → InitEnds does (Made over_files owner group) (Unmade over_files owner group) db owner group before later done
+      → Keeps
+  init_keeps db owner group (Err why) ends =
+      inl (unmade_run g image does left stays tells db owner group before later why one ends none sees at)
+  init_keeps db owner group (Ok done) (inl (why, is, names, same)) = absurd (let e = is in cc)
+  init_keeps db owner group (Ok done) (inr (principals, inl (why, is, unopened))) = absurd (let e = is in cc)
+  init_keeps db owner group (Ok done) (inr (principals, inr (opened, begun, is, (closed, made, did)))) =
+      let clean = (closed_in g closed (left later) image one (tells begun later (closes closed) did) at).0 in
+      let never = (made_on g image does left stays tells db owner group before begun later opened closed is made did
+      clean).0 in
+      inl (λ start past held. absurd (never start past held))
+
+  serve_keeps : (db roster : List ℕ) (port count : ℕ) (done : Result (Unit {0}) Fault)
+      → ServesRoom does accepts fails takes (λ taken. taken.0.conn) shown db roster port count before later done → Keeps
+  serve_keeps db roster port count done (inl (why, is, untook)) =
+      as_it_was (roster_left g image does left stays tells roster before later (Err why) untook)
+  serve_keeps db roster port count done (inr (users, read, took, inl (why, is, untook))) =
+      inl (untaken_run g image does left stays tells db read later why one untook
+      (roster_left g image does left stays tells roster before read (Ok users) took ∙ none) sees at)
+  serve_keeps db roster port count done
+      (inr (users, read, took, inr (shelf, last, taken, over, room, listens, closed))) =
+      inr (
+        roster,
+        users,
+        read,
+        took,
+        served_shut g image does left stays tells accepts fails db users port count read
+            taken over later shelf last done one room listens closed at,
+      )
+
+  report_keeps : (db roster : List ℕ) (kind : ReportKind) (old new : Option (List ℕ)) (done : Result (Unit {0}) Fault)
+      → Reports does takes (λ taken. taken.0.conn) shown db roster kind before later old new done → Keeps
+  report_keeps db roster kind old new done (inl ((why, is, untook), same)) =
+      as_it_was (roster_left g image does left stays tells roster before later (Err why) untook)
+  report_keeps db roster kind old new done (inr (users, read, took, inl ((why, is, untook), same))) =
+      inl (untaken_run g image does left stays tells db read later why one untook
+      (roster_left g image does left stays tells roster before read (Ok users) took ∙ none) sees at)
+  report_keeps db roster kind old new done (inr (users, read, took, inr (taken, last, seen, room, writes, gone))) =
+      inl (reported_run g image does left stays tells db kind users read seen later taken last old new done one room
+      writes gone at)
+
+  job_keeps : (job : Job) (old new : Streams) (status : ℕ) → RunsJob program before later job old new status → Keeps
+  job_keeps (Init db owner group) old new status (input, output, (done, ends, told)) =
+      init_keeps (string_bytes db) (string_bytes owner) (string_bytes group) done ends
+  job_keeps (Serve db roster port count) old new status (input, output, (done, ends, told)) =
+      serve_keeps (string_bytes db) (string_bytes roster) port count done ends
+  job_keeps (Report db roster kind) old new status (input, (done, ends, told)) =
+      report_keeps (string_bytes db) (string_bytes roster) kind old.output new.output done ends
+  job_keeps Check old new status (same, ran) = as_it_was (ap left same)
+  job_keeps (Replay roster owner group) old new status (done, ran, told) =
+      as_it_was (replay_left g image does left stays tells (string_bytes roster) (string_bytes owner)
+      (string_bytes group) before later old.input new.input old.output new.output done ran)
+  job_keeps Selftest old new status (input, inl (ends, told)) =
+      as_it_was (selftest_left g image does left stays tells accepts fails accepts_so fails_so before later (Ok tt)
+      ends)
+  job_keeps Selftest old new status (input, inr (output, why, ends, told)) =
+      as_it_was (selftest_left g image does left stays tells accepts fails accepts_so fails_so before later (Err why)
+      ends)
+
+  pub run_keeps : (words : List Text) (old new : Streams) (status : ℕ)
+      → Runs program before later words old new status → Keeps
+  run_keeps words old new status (Ok job, is, ran) = job_keeps job old new status ran
+  run_keeps words old new status (Err why, is, (same, unread, told)) = as_it_was (ap left same)
