@@ -13,6 +13,7 @@ import unittest
 from dataclasses import dataclass
 from urllib.parse import quote
 
+from between import Between
 from nginx import Front, login
 from room_client import Room, Settings
 from served import HERE, WAIT, Room as Served, end_with_parent, started_here
@@ -147,29 +148,22 @@ def wait_for_socket(path, server):
     raise RuntimeError("the gateway does not listen")
 
 
-class Loser:
-    """Hands on what comes to a socket, and loses requests and answers, or cuts answers, by a seed."""
+class Loser(Between):
+    """Loses requests and answers, or cuts answers, by a seed."""
 
     def __init__(self, at, to, seed=1):
-        self.to, self.random, self.lock = to, random.Random(seed), threading.Lock()
+        self.random, self.lock = random.Random(seed), threading.Lock()
         self.lost, self.share = dict.fromkeys(("request", "answer", "cut"), 0), 0.0
         self.count = 0  # of requests that came
         self.meanwhile = None  # (which request, what happens before it is handed on)
-        self.listener = socket.socket(socket.AF_UNIX)
-        self.listener.bind(at)
-        self.listener.listen(256)
-        threading.Thread(target=self._serve, daemon=True).start()
+        listener = socket.socket(socket.AF_UNIX)
+        listener.bind(at)
+        listener.listen(256)
+        super().__init__(listener, to)
 
-    def end(self):
-        self.listener.close()
-
-    def _serve(self):
-        with contextlib.suppress(OSError):
-            while True:
-                peer, _ = self.listener.accept()
-                threading.Thread(target=self._hand_on, args=(peer,), daemon=True).start()
-
-    def _fate(self):
+    def fate(self, message):
+        self.count += 1
+        self._let_happen(message)
         with self.lock:
             draw = self.random.random()
             kind = next((kind for at, kind in enumerate(self.lost) if draw < self.share * (at + 1) / 3), "none")
@@ -184,39 +178,3 @@ class Loser:
                 return
             self.meanwhile = None
         does()
-
-    def _hand_on(self, peer):
-        with contextlib.suppress(OSError), peer, socket.socket(socket.AF_UNIX) as front:
-            front.connect(self.to)
-            while message := read_message(peer):
-                self.count += 1
-                self._let_happen(message)
-                fate = self._fate()
-                if fate == "request":
-                    return
-                front.sendall(message)
-                answer = read_message(front)
-                if fate == "answer" or not answer:
-                    return
-                peer.sendall(answer[:-1] if fate == "cut" else answer)
-                if fate == "cut":
-                    return
-
-
-def read_message(sock):
-    """One message with its length, or nothing at the end."""
-    data = b""
-    while b"\r\n\r\n" not in data:
-        more = sock.recv(65536)
-        if not more:
-            return b""
-        data += more
-    head, _, body = data.partition(b"\r\n\r\n")
-    told = re.search(rb"(?i)\r\ncontent-length: *([0-9]+)", head)
-    left = int(told[1]) - len(body) if told else 0
-    while left > 0:
-        more = sock.recv(65536)
-        if not more:
-            return b""
-        data, left = data + more, left - len(more)
-    return data

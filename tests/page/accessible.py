@@ -53,9 +53,8 @@ def nameless(browser):
     return lacking, [role for role, _ in told]
 
 
-def perceived(club, differs):
+def perceived(club, browser, differs):
     """In each view, light and dark: names, roles, contrast, sizes of what is pressed, and 320 pixels' width."""
-    browser = club.browser
     club.holds({"cmd": "MKDIR", "path": TOP})
     club.holds({"cmd": "CREATE", "path": f"{TOP}/a.txt", "data": "YQ=="})
     for words, place in PLACES.items():
@@ -75,9 +74,8 @@ def perceived(club, differs):
         browser.devtools("Emulation.clearDeviceMetricsOverride")
 
 
-def told(club, differs):
+def told(club, browser, differs):
     """The table is a grid whose heads tell the order; what was done is told aloud; the page has a language."""
-    browser = club.browser
     club.go(f"#open/club{TOP}")
     _, roles = nameless(browser)
     differs("a grid", [it in roles for it in ("grid", "columnheader", "rowheader", "gridcell")], [True] * 4)
@@ -91,9 +89,8 @@ def told(club, differs):
     browser.script("document.documentElement.style.removeProperty('--soft')")
 
 
-def wished(club, differs):
+def wished(club, browser, differs):
     """Who wishes no motion sees none; with forced colours what is chosen has an outline."""
-    browser = club.browser
     club.go(f"#open/club{TOP}")
     browser.script("document.querySelector('main').setAttribute('aria-busy', 'true')")
     moves = "return parseFloat(getComputedStyle(document.querySelector('main')).transitionDuration) > 0"
@@ -108,9 +105,8 @@ def wished(club, differs):
     browser.press("Choose none")
 
 
-def in_a_dialog(club, differs):
+def in_a_dialog(club, browser, differs):
     """The fields of a dialog have borders and words that can be seen."""
-    browser = club.browser
     club.go(f"#open/club{TOP}/a.txt")
     browser.press("Append")
     browser.sees("on a line of its own", "dialog")
@@ -122,9 +118,8 @@ def in_a_dialog(club, differs):
     browser.keys("escape")
 
 
-def on_input(club, differs):
+def on_input(club, browser, differs):
     """Rooms stand in a menu: nothing is left before one of them is chosen. The name of a language is in that one."""
-    browser = club.browser
     club.go(f"#open/club{TOP}")
     place = "return document.querySelector('main').dataset.place"
     browser.act("//header//button[@aria-label='Room: club']", "click")
@@ -141,9 +136,8 @@ def on_input(club, differs):
     browser.keys("escape")
 
 
-def not_hidden(club, differs):
+def not_hidden(club, browser, differs):
     """What has the focus is behind nothing: not in a long list below notices, not beside the names of the matrix."""
-    browser = club.browser
     club.holds({"cmd": "MKDIR", "path": f"{TOP}/long"})
     for count in range(60):
         club.holds({"cmd": "CREATE", "path": f"{TOP}/long/{count}.txt", "data": ""})

@@ -45,9 +45,8 @@ MOVING = {"a.gif": gif(0, 1), "b.png": apng(), "c.webp": webp()}
 STILL = {"d.gif": gif(0), "e.png": png(1, 1, 2, [RED])}
 
 
-def pictures(club, differs):
+def pictures(club, browser, differs):
     """Of a picture that moves the first one is shown, in the list, and where it is opened until Play is pressed."""
-    browser = club.browser
     club.holds({"cmd": "MKDIR", "path": TOP})
     for name, data in {**MOVING, **STILL}.items():
         club.holds({"cmd": "CREATE", "path": f"{TOP}/{name}", "data": club.base64(data)})
@@ -68,9 +67,8 @@ def pictures(club, differs):
             differs(f"{name} after {words}", browser.script(SHOWN).lower(), kind)
 
 
-def lists(club, differs):
+def lists(club, browser, differs):
     """A folder is looked at again by itself, but not for who turned that off."""
-    browser = club.browser
     club.go(f"#open/club{TOP}")
     comes_back = "dispatchEvent(new Event('focus')); fetch('/whoami').then(() => arguments[0]())"
     for words, name, is_shown in ("Do not refresh by itself", "one.txt", False), ("Refresh by itself", "two.txt", True):

@@ -4,11 +4,9 @@ import json
 import os
 import random
 import re
-import subprocess
 
-from browser import WAIT
-from club import choose, make_trash
-from served import HERE
+import cases
+from club import choose
 from typed import ASKED
 
 NAME, PIECE, MIB = ".room-file", 65536, 1 << 20
@@ -19,23 +17,10 @@ def names_at(club, path):
     return dict(club.holds({"cmd": "LIST", "path": path}).get("names", []))
 
 
-def bytes_at(club, path):
-    return club.bytes(path)
-
-
 def held(club, path):
     """The bytes of a file, read by the form that docs/FILES.md has and by nothing of the page's."""
-    if NAME not in names_at(club, path):
-        return bytes_at(club, path)
-    text = bytes_at(club, f"{path}/{NAME}")
-    its = json.loads(text)
-    pieces = [bytes_at(club, f"{path}/{its['folder']}/{it}") for it in its["pieces"]]
-    data = b"".join(pieces)
-    form = {"folder": its["folder"], "form": 1, "pieces": [f"{it:03}" for it in range(len(pieces))],
-            "sha256": hashlib.sha256(data).hexdigest(), "size": len(data)}
-    if text != json.dumps(form, separators=(",", ":")).encode() or {len(it) for it in pieces[:-1]} - {PIECE}:
-        return f"another form: {text}"
-    return data
+    with cases.Judge(club.room.port) as room:
+        return cases.Laid(room, 0, {}).held(path)
 
 
 def beside(name):
@@ -74,26 +59,13 @@ def row(browser, name):
     return browser.script(cells, name)
 
 
-def sizes(club, differs):
-    """Files of all sizes go up at once, and come back; what is too large is told before anything is sent."""
-    browser = club.browser
-    browser.devtools("Browser.setDownloadBehavior", behavior="allow", downloadPath=os.path.join(club.folder, "back"))
+def sizes(club, browser, differs):
+    """Files go up at once; what is too large is told before anything is sent. (Sizes themselves: kept.py.)"""
     club.holds({"cmd": "MKDIR", "path": "/big"})
-    data = {f"of {size}": dice.randbytes(size) for size in (0, 1, PIECE, PIECE + 1, 3 * PIECE)}
-    put(club, "/big", *(on_disk(club, name, it) for name, it in data.items()))
-    browser.sees("5 files uploaded")
-    for name, it in data.items():
-        differs(name, held(club, f"/big/{name}") == it, True)
-    differs("kinds", [kind for _, kind in sorted(names_at(club, "/big").items())],
-            ["file", "file", "folder", "file", "folder"])
-    for name, size in ("of 196608", "192 KiB"), ("of 65537", "64 KiB"):
-        browser.until(f"the size of {name}", lambda: size in row(browser, name))
-    differs("sizes are shown", [row(browser, f"of {it}").split("\n")[1] for it in (0, PIECE, PIECE + 1)],
-            ["0 bytes", "64 KiB", "64 KiB"])
-    browser.follow("of 65537")
-    browser.sees("64 KiB, owner ann")
-    browser.press("Download")
-    differs("what comes back", saved(club, "of 65537") == data["of 65537"], True)
+    put(club, "/big", *(on_disk(club, f"of {size}", dice.randbytes(size)) for size in (PIECE + 1, 3 * PIECE)))
+    browser.sees("2 files uploaded")
+    browser.follow("of 196608")
+    browser.sees("192 KiB, owner ann", "main")
     sent = len(club.lossy.bodies)
     put(club, "/big", on_disk(club, "too large", bytes(16 * MIB + 1)))
     most = "too large has 16.1 MiB, and 16 MiB is the most."
@@ -114,9 +86,8 @@ def sizes(club, differs):
     club.holds({"cmd": "REMOVE", "path": "/big/fits"})
 
 
-def largest(club, differs):
+def largest(club, browser, differs):
     """16 MiB up and down through the front, with nothing else between, and how fast."""
-    browser = club.browser
     club.port = club.lossy.front
     club.log_in("ann")
     data = dice.randbytes(16 * MIB)
@@ -149,41 +120,26 @@ def replace(browser, path, words="Replace"):
     browser.press(words, "//dialog[@open]")
 
 
-def versions(club, differs):
-    """New versions: of a large file, of a small one that becomes large, and small again; two writers at once."""
-    browser = club.browser
-    path, old = "/big/of 65537", b""
-    for name, size, words in ("v2", 4 * PIECE + 5, "Replace"), ("v3", 10, "Keep both"):
-        data = dice.randbytes(size)
+def versions(club, browser, differs):
+    """A new version in the place of the old one, and one beside it: of a file that is shown, and in its folder."""
+    path = "/big/of 65537"
+    old, new = dice.randbytes(4 * PIECE + 5), b"ten bytes."
+    for data, words, became in (old, "Replace", "not kept"), (new, "Keep both", "kept as of 65537 (before "):
         club.go(f"#open/club{path.replace(' ', '%20')}")
-        replace(browser, on_disk(club, name, data), words)
-        became = "not kept" if name == "v2" else "kept as of 65537 (before "
+        replace(browser, on_disk(club, words, data), words)
         browser.sees(f"of 65537 took the place of what was there, which is {became}", "#notices")
-        differs(f"{name} is there", held(club, path) == data, True)
-        differs(f"{name} alone", len(names_at(club, path)), 2)
-        kept = [it for it in names_at(club, "/big") if it.startswith("of 65537 (before ")]
-        differs("the old one", [held(club, f"/big/{it}") == old for it in kept], [] if name == "v2" else [True])
-        old = data
-    club.holds({"cmd": "CREATE", "path": "/big/grows", "data": "aGk="})
-    club.holds({"cmd": "SETLIST", "path": "/big/grows", "aclflag": 1, "entries": [
-        {"type": 0, "flag": 0, "mask": 1, "who": "bob"}]})
-    data = dice.randbytes(2 * PIECE)
-    put(club, "/big", on_disk(club, "grows", data))
-    browser.press("Replace", "//dialog[@open]")
-    browser.sees("1 file uploaded", "#notices")
-    differs("it has grown", held(club, "/big/grows") == data, True)
-    list_ = club.holds({"cmd": "GETLIST", "path": "/big/grows"})["entries"][0]
-    differs("its list", (list_["who"], list_["mask"], list_["flag"]), ("bob", 0x21, 3))
-    differs("nothing is beside it", [it for it in names_at(club, "/big") if it.startswith(".room")], [])
-    put(club, "/big", on_disk(club, "grows", b"both"))
+        differs(f"{words}: it is there", held(club, path) == data, True)
+    kept = [held(club, f"/big/{it}") for it in names_at(club, "/big") if it.startswith("of 65537 (before ")]
+    differs("the old one", kept == [old], True)
+    put(club, "/big", on_disk(club, "of 65537", b"both"))
     browser.press("Keep both")
     browser.sees("1 file uploaded", "#notices")
-    differs("both are there", [held(club, "/big/grows (2)"), held(club, "/big/grows") == data], [b"both", True])
+    differs("both are there", [held(club, f"/big/{it}") for it in ("of 65537 (2)", "of 65537")], [b"both", new])
 
 
-def overtaken(club, differs):
+def overtaken(club, browser, differs):
     """Somebody else writes a version while one's own is under way: the user is asked."""
-    browser, lossy = club.browser, club.lossy
+    lossy = club.lossy
     path = "/big/of 196608"
     data = dice.randbytes(2 * PIECE + 1)
     for words, is_mine in ("Replace", True), ("Keep mine as a copy", False):
@@ -192,14 +148,14 @@ def overtaken(club, differs):
         lossy.hold(".room-pieces-", '"RENAME"')
         replace(browser, on_disk(club, "mine", data))
         browser.until("it waits", lambda: lossy.held)
-        theirs = json.dumps({**json.loads(bytes_at(club, f"{path}/{NAME}")), "sha256": "0" * 64}, separators=(",", ":"))
+        theirs = json.dumps({**json.loads(club.bytes(f"{path}/{NAME}")), "sha256": "0" * 64}, separators=(",", ":"))
         club.holds({"cmd": "WRITE", "path": f"{path}/{NAME}", "data": club.base64(theirs.encode())})
         lossy.go_on()
         browser.sees("Somebody else wrote of 196608 meanwhile", "dialog")
         differs("whose", browser.sees("What is in it belongs to ann.", "dialog"), True)
         browser.press(words)
         browser.sees("1 file uploaded", "#notices")
-        differs(f"{words}: the file", bytes_at(club, f"{path}/{NAME}") == theirs.encode(), not is_mine)
+        differs(f"{words}: the file", club.bytes(f"{path}/{NAME}") == theirs.encode(), not is_mine)
         at = path if is_mine else "/big/of 196608 (copy of ann)"
         differs(f"{words}: mine", held(club, at) == data, True)
     club.go(f"#open/club{path.replace(' ', '%20')}")
@@ -208,9 +164,9 @@ def overtaken(club, differs):
     differs("and not given out", "of 196608" in os.listdir(os.path.join(club.folder, "back")), False)
 
 
-def stopped(club, differs):
+def stopped(club, browser, differs):
     """An upload that a crash or the user ends: each request acts once, it is shown, and the next one clears it."""
-    browser, lossy = club.browser, club.lossy
+    lossy = club.lossy
     data = dice.randbytes(3 * MIB)
     file = on_disk(club, "stopped", data)
     lossy.lose('"CREATE"', 10_000)
@@ -229,7 +185,7 @@ def stopped(club, differs):
     pieces = names_at(club, f"/big/stopped/{writing}")
     numbers = sorted(map(int, pieces))
     differs("pieces of the first requests", [len(pieces) >= 2, numbers == list(range(len(numbers)))], [True, True])
-    differs("each as it was", all(bytes_at(club, f"/big/stopped/{writing}/{it}") ==
+    differs("each as it was", all(club.bytes(f"/big/stopped/{writing}/{it}") ==
                                   data[PIECE * int(it):PIECE * (int(it) + 1)] for it in pieces), True)
     choose(browser, "Upload a new version", file)
     browser.sees("What a stopped upload of stopped left is cleared.", "#notices")
@@ -247,9 +203,9 @@ def stopped(club, differs):
     differs("nothing of it is left", "cancelled" in names_at(club, "/big"), False)
 
 
-def late(club, differs):
+def late(club, browser, differs):
     """The manifest of an upload that was stopped does not come late, behind somebody else's new version."""
-    browser, lossy = club.browser, club.lossy
+    lossy = club.lossy
     club.go("#open/club/big/stopped")
     browser.sees("Upload a new version")
     lossy.lose('"cmd":"WRITE"', 10_000, passes=False)
@@ -258,17 +214,16 @@ def late(club, differs):
     browser.go("about:blank")
     lossy.lose("")
     path = f"/big/stopped/{NAME}"
-    theirs = bytes_at(club, path).replace(b'"form":1', b'"form":2')
+    theirs = club.bytes(path).replace(b'"form":1', b'"form":2')
     club.holds({"cmd": "WRITE", "path": path, "data": club.base64(theirs)})
     club.go("#open/club/big")
     browser.sees("was under way as the page ended, and is not whole", "#notices")
-    differs("theirs stands", bytes_at(club, path) == theirs, True)
+    differs("theirs stands", club.bytes(path) == theirs, True)
     club.holds({"cmd": "WRITE", "path": path, "data": club.base64(theirs.replace(b'"form":2', b'"form":1'))})
 
 
-def left_beside(club, differs):
+def left_beside(club, browser, differs):
     """A document's replacement that was stopped between its two renames is told, and the next upload goes on."""
-    browser = club.browser
     gone, new = beside("between")
     club.holds({"cmd": "CREATE", "path": f"/big/{gone}", "data": "b2xk"})
     club.holds({"cmd": "MKDIR", "path": f"/big/{new}"})
@@ -287,9 +242,8 @@ def left_beside(club, differs):
     differs("nothing is left", [it for it in names_at(club, "/big") if it.startswith(".room")], [])
 
 
-def drops(club, differs):
+def drops(club, browser, differs):
     """A folder with folders and files is dropped, and one is chosen."""
-    browser = club.browser
     files = {"tree/a.txt": b"a", "tree/deep/b.bin": dice.randbytes(PIECE + 9), "tree/deep/er/c.txt": b"c"}
     for name, data in files.items():
         on_disk(club, name, data)
@@ -315,10 +269,9 @@ def drops(club, differs):
         differs(f"chosen: {name}", held(club, f"/chosen/{name}") == it, True)
 
 
-def too_many(club, differs):
+def too_many(club, browser, differs):
     """More than a folder holds is told before anything is sent; as much goes as fits and the rest is told in one line,
     or goes into another folder of the same list."""
-    browser = club.browser
     for count in range(250):
         on_disk(club, f"many/{count}", b"")
     club.holds({"cmd": "MKDIR", "path": "/full"})
@@ -347,38 +300,4 @@ def too_many(club, differs):
                          if not it["flag"] & 0x80], own)
 
 
-def both_ways(club, differs):
-    """What the page wrote the command `room` reads, and the other way round; trash and names too."""
-    browser = club.browser
-    mine, theirs = dice.randbytes(2 * PIECE + 1), dice.randbytes(3 * PIECE)
-    put(club, "/big", on_disk(club, "by the page", mine))
-    browser.sees("1 file uploaded", "#notices")
-    differs("the command gets what the page put", room(club, "get", "/big/by the page") == mine, True)
-    room(club, "put", on_disk(club, "by the page", theirs), "/big/")
-    differs("a new version of the command's", held(club, "/big/by the page") == theirs, True)
-    club.go("#open/club")
-    club.go("#open/club/big")
-    browser.follow("by the page")
-    browser.sees("192 KiB, owner ann", "main")
-    browser.press("Download")
-    differs("the page gets it", saved(club, "by the page") == theirs, True)
-    make_trash(club)
-    browser.press("Remove")
-    browser.press("Remove", "//dialog[@open]")
-    browser.sees("is in the trash", "#notices")
-    room(club, "trash", "restore", *names_at(club, "/trash/ann"))
-    differs("the command puts back what the page removed", held(club, "/big/by the page") == theirs, True)
-    for path in "/trash/ann", "/trash":
-        club.holds({"cmd": "REMOVE", "path": path})
-
-
-def room(club, *words):
-    """What the command writes, as ann straight at the room."""
-    command = [os.path.join(HERE, "..", "client", "room"), "--url", f"http://127.0.0.1:{club.room.port}", "--room-user",
-               "ann", "--state", os.path.join(club.folder, "state"), "--config", os.devnull]
-    done = subprocess.run([*command, *words], capture_output=True, timeout=WAIT, check=False)
-    assert done.returncode == 0, (words, done.stderr)
-    return done.stdout
-
-
-SCENES = [sizes, largest, versions, overtaken, stopped, late, left_beside, drops, too_many, both_ways]
+SCENES = [sizes, largest, versions, overtaken, stopped, late, left_beside, drops, too_many]

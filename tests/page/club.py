@@ -11,6 +11,7 @@ from served import HERE, Line, Room, session, slot
 
 PAGE = os.path.join(HERE, "..", "page")
 A_MINUTE = 60  # seconds
+BUTTONS = "return [...document.querySelectorAll('main > .tools button')].map((it) => it.textContent)"
 USERS = {"ann": ["eng"], "bob": ["eng", "staff"], "eve": []}
 
 
@@ -36,6 +37,9 @@ class Club:
         self.lossy = Lossy(start_front(os.path.join(folder, "front"), self.room, users))
         self.port = self.lossy.port
         self.browser = Browser(folder)
+        back = os.path.join(folder, "back")
+        os.mkdir(back)
+        self.browser.devtools("Browser.setDownloadBehavior", behavior="allow", downloadPath=back)
 
     def address(self, place="", user=None):
         login = f"{user}:{user}-word@" if user else ""

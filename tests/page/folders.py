@@ -7,7 +7,7 @@ from urllib.parse import quote
 
 import manifests
 from carried import NAME, PIECE, dice, held, names_at, on_disk, put, row, saved
-from club import MENU, USERS, by_menu, list_of_trash, make_trash, of_folder, offers, set_list, to_folder
+from club import BUTTONS, MENU, USERS, by_menu, list_of_trash, make_trash, of_folder, offers, set_list, to_folder
 from room_client import trash
 from room_client.manifest import read_manifest
 
@@ -51,9 +51,8 @@ def below(club, path):
     return found
 
 
-def wholes(club, differs):
+def wholes(club, browser, differs):
     """Copy, zip, search, move and removal of a folder with a large file in it."""
-    browser = club.browser
     large = make_tree(club)
     tree = {**TREE, "/t/sub/": None, "/t/sub/deep/": None, "/t/sub/large.bin": large}
     differs("the tree", below(club, "/t") == tree, True)
@@ -65,14 +64,13 @@ def wholes(club, differs):
     browser.sees("/t is copied to /other/t.", "#notices")
     copied = {f"/other{path}": data for path, data in tree.items()}
     differs("the copy", below(club, "/other/t") == copied, True)
-    zipped(club, differs, tree)
-    search(club, differs)
-    moved(club, differs, large)
-    removed(club, differs)
+    zipped(club, browser, differs, tree)
+    search(club, browser, differs)
+    moved(club, browser, differs, large)
+    removed(club, browser, differs)
 
 
-def zipped(club, differs, tree):
-    browser = club.browser
+def zipped(club, browser, differs, tree):
     club.go("#open/club/t")
     of_folder(browser, "Download as zip")
     browser.sees("t.zip is made", "#notices")
@@ -89,8 +87,7 @@ def zipped(club, differs, tree):
             [zlib.crc32(b""), zlib.crc32(b"123456789")])
 
 
-def search(club, differs):
-    browser = club.browser
+def search(club, browser, differs):
     club.go("#open/club/t")
     browser.act("//header//input[@type='search']", "value", {"text": "LARGE"})
     browser.keys("enter")
@@ -105,8 +102,7 @@ def search(club, differs):
     differs("who comes back finds it", browser.script(found), ["/t/sub/large.bin"])
 
 
-def moved(club, differs, large):
-    browser = club.browser
+def moved(club, browser, differs, large):
     club.go("#open/club/t/sub")
     browser.until("its size", lambda: "128 KiB" in row(browser, "large.bin"))
     by_menu(browser, "large.bin", "Move")
@@ -132,9 +128,8 @@ def make_trashes(club):
         club.holds({"cmd": "CHOWN", "path": path, "owner": who, "group": "eng"})
 
 
-def removed(club, differs):
+def removed(club, browser, differs):
     """For good where there is no trash; else to the trash, by a name that tells where it came from."""
-    browser = club.browser
     club.go("#open/club/t")
     of_folder(browser, "Remove")
     browser.sees("It cannot be brought back.", "dialog")
@@ -176,9 +171,9 @@ FOCUSED = "return document.activeElement.textContent"
 ACTIONS = "return [...document.querySelectorAll('dialog .actions button')].map((it) => [it.textContent, it.className])"
 
 
-def trashed(club, differs):
+def trashed(club, browser, differs):
     """One is used where its owner is the caller alone; else what cannot be undone is not the button at hand."""
-    browser, path = club.browser, "/other/thrown.txt"
+    path = "/other/thrown.txt"
     club.holds({"cmd": "CREATE", "path": path, "data": ""})
     club.go(f"#open/club{path}")
     own = "The list of the trash /trash/ann does not keep others out, who could read what you remove: ask who runs"
@@ -227,9 +222,9 @@ def trashed(club, differs):
     differs("for eve's trash", "Remove" in offers(browser), False)
 
 
-def elsewhere(club, differs):
+def elsewhere(club, browser, differs):
     """What cannot go back to where it was goes where the user says, by its own name."""
-    browser, stamp, trash = club.browser, "20261126214307", TRASH
+    stamp, trash = "20261126214307", TRASH
     wide = "\u00e4" * 15
     thrown = {"taken.txt": f"taken.txt~other~{stamp}", "gone.txt": f"gone.txt~left~{stamp}",
               f"{wide}.txt": f"{wide}.txt~…~{stamp}"}
@@ -261,9 +256,9 @@ def elsewhere(club, differs):
             club.holds({"cmd": "REMOVE", "path": f"/other/{name}"})
 
 
-def full(club, differs):
+def full(club, browser, differs):
     """Where the trash is full, or would be too deep, it is said what to do, and nothing is lost."""
-    browser, trash, path = club.browser, TRASH, "/other/kept.txt"
+    trash, path = TRASH, "/other/kept.txt"
     for count in range(256):
         club.holds({"cmd": "CREATE", "path": f"{trash}/{count}", "data": ""})
     club.holds({"cmd": "CREATE", "path": path, "data": "aGk="})
@@ -293,10 +288,10 @@ def full(club, differs):
         club.holds({"cmd": "REMOVE", "path": deep[:2 * count]})
 
 
-def in_order(club, differs):
+def in_order(club, browser, differs):
     """Names stand as people look for them, large files among the others: in a folder, where one chooses one, in the
     matrix, and where they were found."""
-    browser, order = club.browser, ["apple", "Bread 2", "bread 10", "\u00c4pfel", "Zebra", "\u00f6l"]
+    order = ["apple", "Bread 2", "bread 10", "\u00c4pfel", "Zebra", "\u00f6l"]
     wanted = ["\u00c4pfel", "apple", "Bread 2", "bread 10", "\u00f6l", "Zebra"]
     for top, command in ("/order", {"cmd": "MKDIR"}), ("/order/f", {"cmd": "CREATE", "data": ""}):
         club.holds({"cmd": "MKDIR", "path": top})
@@ -327,9 +322,8 @@ def in_order(club, differs):
     differs("found", browser.script(names, ".found li"), [f"/order/f/{it}" for it in files])
 
 
-def small_pictures(club, differs):
+def small_pictures(club, browser, differs):
     """Pictures in a folder are shown small, also of large files, by what their bytes are, and up to a size."""
-    browser = club.browser
     for name, data in ("dot.png", PNG), ("not.png", SVG):
         club.holds({"cmd": "CREATE", "path": f"/other/{name}", "data": club.base64(data)})
     put(club, "/other", on_disk(club, "large.png", PNG + bytes(PIECE)), on_disk(club, "huge.png", PNG + bytes(1 << 20)))
@@ -345,9 +339,8 @@ def small_pictures(club, differs):
     differs("nothing is read of what is too large", asked, [])
 
 
-def previews(club, differs):
+def previews(club, browser, differs):
     """Pictures are shown by how they begin; an SVG never is, and runs nothing."""
-    browser = club.browser
     shown = "const it = document.querySelector('.picture img'); return it && [it.complete, it.naturalWidth]"
     for name, data in ("dot.txt", PNG), ("picture.svg", SVG), ("never.png", SVG):
         club.holds({"cmd": "CREATE", "path": f"/other/{name}", "data": club.base64(data)})
@@ -359,9 +352,8 @@ def previews(club, differs):
             differs(f"{name} runs nothing", browser.script("return window.ran ?? null"), None)
 
 
-def pdfs(club, differs):
+def pdfs(club, browser, differs):
     """A PDF is shown by one click, by the browser's viewer, and in a tab of its own, and never as a page."""
-    browser = club.browser
     club.holds({"cmd": "CREATE", "path": "/other/minutes.pdf", "data": club.base64(PDF)})
     put(club, "/other", on_disk(club, "scan.pdf", PDF + bytes(PIECE)))
     browser.sees("1 file uploaded", "#notices")
@@ -385,9 +377,9 @@ def entry(who, mask, flag=3):
     return {"type": 0, "flag": flag, "mask": mask, "who": who}
 
 
-def one_document(club, differs):
+def one_document(club, browser, differs):
     """A large file is one document in the matrix and in the words of its list, with what it lets its pieces have."""
-    browser, top, path = club.browser, "/whole", "/whole/large"
+    top, path = "/whole", "/whole/large"
     club.holds({"cmd": "MKDIR", "path": top})
     club.holds({"cmd": "SETLIST", "path": top, "aclflag": 2, "entries": [
         entry("OWNER@", ALL), entry("bob", VIEW), entry("eve", EDIT)]})
@@ -407,11 +399,10 @@ def one_document(club, differs):
     differs("what its pieces have not", browser.script(rows)[1], ["large", "all", "some", "view"])
     browser.act("//main//tbody/tr[2]/td[2]/button", "click")
     browser.sees(f"The list of {path} lets bob see its owner and size and see its list.", ".detail")
-    its_list(club, differs, path, own)
+    its_list(club, browser, differs, path, own)
 
 
-def its_list(club, differs, path, own):
-    browser = club.browser
+def its_list(club, browser, differs, path, own):
     club.go(f"#access/club{path}")
     browser.sees("One must also pass through each folder above.", "main")
     told = "return [...document.querySelectorAll('.entries > li > details > summary')].map((it) => it.textContent)"
@@ -428,15 +419,13 @@ def its_list(club, differs, path, own):
     differs("bob reads it", club.holds({"cmd": "READ", "path": f"{path}/{NAME}"}, "bob")["code"], 0)
 
 
-def offered(club, differs):
+def offered(club, browser, differs):
     """What one's rights refuse is not offered: in a folder, in a row, and of a document."""
-    browser = club.browser
     entries = [{"type": 0, "flag": 3, "mask": mask, "who": who} for who, mask in (("ann", ALL), ("eve", 0x1200A9))]
     club.holds({"cmd": "SETLIST", "path": "/other", "aclflag": 2, "entries": entries})
     club.log_in("eve")
     club.go("#open/club/other")
     browser.sees("dot.txt", ".things")
-    buttons = "return [...document.querySelectorAll('main > .tools button')].map((it) => it.textContent)"
     browser.act("//main//h1/button", "click")
     differs("of a folder", offers(browser), ["Download as zip", "Copy", "Copy the link"])
     browser.keys("escape")
@@ -444,27 +433,27 @@ def offered(club, differs):
     differs("in a row", offers(browser), ["Download", "Copy", "Copy the link"])
     club.log_in("ann")
     club.go("#open/club/other/picture.svg")
-    differs("of an own document", browser.script(buttons),
+    differs("of an own document", browser.script(BUTTONS),
             ["Append", "Edit", "Download", "Upload a new version", "Rename", "Move", "Copy", "Remove"])
 
 
-def odd_manifests(club, differs):
+def odd_manifests(club, browser, differs):
     """Which texts the page takes for manifests: those that the client takes (tests/client/test_manifest.py)."""
     reads = ("const [texts, at] = arguments, bytes = (it) => Uint8Array.from(atob(it), (one) => one.charCodeAt(0));"
              "return import(at).then(({ readManifest }) => texts.map((it) => readManifest(bytes(it)) !== null))")
-    taken = lambda texts: club.browser.script(reads, list(map(club.base64, texts)), club.address("manifest.js"))
+    taken = lambda texts: browser.script(reads, list(map(club.base64, texts)), club.address("manifest.js"))
     differs("lawful manifests", set(taken(manifests.TAKEN)), {True})
     differs("odd ones", set(taken(manifests.REFUSED)), {False})
     mangled = list(manifests.mangled(seed=1, count=400))
     differs("mangled ones", taken(mangled), [read_manifest(it) is not None for it in mangled])
 
 
-def no_way_up(club, differs):
+def no_way_up(club, browser, differs):
     """A folder in the trash whose name tells of one called `..` is called by its own name, and no zip leads up."""
     says = ("const [at] = arguments; return Promise.all(['trash.js', 'names.js'].map((it) => import(at + it)))"
             ".then(([trash, names]) => [trash.nameAt('/trash/ann/..~…~20260101000000'), ...['..', '.', 'a..', '..b']"
             ".map(names.forDisk)])")
-    differs("names on the disk", club.browser.script(says, club.address()),
+    differs("names on the disk", browser.script(says, club.address()),
             ["..~…~20260101000000", "_", "_", "a._", "..b"])
 
 

@@ -42,9 +42,8 @@ def on_screen(browser, width, height):
     browser.devtools("Emulation.setDeviceMetricsOverride", **size)
 
 
-def seen_first(club, differs):
+def seen_first(club, browser, differs):
     """The first row is near the top, three Tabs away, and a button skips to it; search is at hand everywhere."""
-    browser = club.browser
     fill(club)
     for width, height, most in (1280, 707, 200), (360, 740, 260):
         on_screen(browser, width, height)
@@ -73,9 +72,8 @@ def seen_first(club, differs):
     differs("icons", browser.script(icons), ["folder", "folder", "pdf", "writing", "table", "text"])
 
 
-def sorted_by(club, differs):
+def sorted_by(club, browser, differs):
     """The heads sort, tell it, and it is kept."""
-    browser = club.browser
     club.go(f"#open/club{TOP}")
     names = ["attic", "cellar", "bill.pdf", "letter.docx", "list.xlsx", "notes.txt"]
     differs("by name", [browser.script(ROWS), browser.script(SORTS)], [names, ["ascending", "none", "none"]])
@@ -93,9 +91,8 @@ def sorted_by(club, differs):
     browser.press("Name")
 
 
-def by_keys(club, differs):
+def by_keys(club, browser, differs):
     """Arrows, Home, End, letters, F2, Delete, Space, Ctrl+A and Escape."""
-    browser = club.browser
     club.go("#open/club")
     club.go(f"#open/club{TOP}")
     browser.keys("tab", "tab", "tab")
@@ -139,9 +136,8 @@ def click(browser, name, **how):
                    "{bubbles: true, cancelable: true, ...arguments[1]}))", name, how)
 
 
-def several(club, differs):
+def several(club, browser, differs):
     """Rows are chosen by ticks and clicks; what is chosen is moved, brought back, downloaded and removed at once."""
-    browser = club.browser
     make_trash(club)
     club.go("#open/club")
     club.go(f"#open/club{TOP}")
@@ -196,9 +192,9 @@ def choose_both(club):
         club.browser.act(f"//tr[.//bdi='{name}']//input", "click")
 
 
-def stay(club, differs):
+def stay(club, browser, differs):
     """Rows stay where they are while it becomes known what they are: a click opens what it was for."""
-    browser, top = club.browser, "/stay"
+    top = "/stay"
     for name in "", "/alpha", "/omega", "/zeta":
         club.holds({"cmd": "MKDIR", "path": top + name})
     put(club, top, *(on_disk(club, name, bytes(PIECE + 1)) for name in ("middle", "report.pdf")))
@@ -228,9 +224,8 @@ def press_here(browser):
     browser.ask("POST", "/actions", {"actions": [{"type": "pointer", "id": "mouse", "actions": moves}]})
 
 
-def dragged(club, differs):
+def dragged(club, browser, differs):
     """A row is dragged onto a folder, and what is chosen onto the way above; nothing goes into itself."""
-    browser = club.browser
     tr = "//tr[.//bdi='{}']".format
     club.go("#open/club")
     club.go(f"#open/club{TOP}")
@@ -250,10 +245,10 @@ def dragged(club, differs):
     browser.sees("2 things are there again", "#notices")
 
 
-def by_clipboard(club, differs):
+def by_clipboard(club, browser, differs):
     """Ctrl+X, Ctrl+C and Ctrl+V: what is chosen is moved, with Undo, or copied, also from tab to tab and under a free
     name; a text that is marked is copied as such, and what others put into the clipboard moves nothing."""
-    browser, cellar = club.browser, f"{TOP}/cellar"
+    cellar = f"{TOP}/cellar"
     choose_both(club)
     hold(browser, CTRL, "x")
     browser.sees("2 things are cut: Ctrl V puts them into the folder that is shown.", "#notices")
@@ -308,9 +303,8 @@ def right_click(browser):
     return None
 
 
-def menus(club, differs):
+def menus(club, browser, differs):
     """A row's menu is one: by right click and by keys; on a phone a sheet from below."""
-    browser = club.browser
     club.go(f"#open/club{TOP}")
     browser.until("a menu", lambda: right_click(browser))
     browser.until("it has the focus", lambda: browser.script("return document.activeElement.role") == "menuitem")
@@ -330,9 +324,8 @@ def menus(club, differs):
     browser.devtools("Emulation.clearDeviceMetricsOverride")
 
 
-def by_itself(club, differs):
+def by_itself(club, browser, differs):
     """A pasted picture goes into the folder; others' changes are seen; pictures turn; what cannot be shown is given."""
-    browser = club.browser
     club.go(f"#open/club{TOP}")
     for count, name in enumerate(("screenshot.png", "screenshot (2).png"), 1):
         browser.script(PASTE, [*PNG])
@@ -354,7 +347,7 @@ def by_itself(club, differs):
     club.go(f"#open/club{TOP}")
     browser.follow("letter.docx")
     differs("one click downloads", len(saved(club, "letter.docx")), 45)
-    each_minute(club)
+    each_minute(club, browser)
     for name in list(names_at(club, TOP)):
         if name.startswith(("screenshot", "of eve")):
             club.holds({"cmd": "REMOVE", "path": f"{TOP}/{name}"})
@@ -362,9 +355,9 @@ def by_itself(club, differs):
     club.holds({"cmd": "REMOVE", "path": "/trash"})
 
 
-def each_minute(club):
+def each_minute(club, browser):
     """Others' changes are seen by who does nothing at all, here after a second in the place of a minute."""
-    browser, quick = club.browser, "const slow = setInterval; setInterval = (task, time) => slow(task, time / 60);"
+    quick = "const slow = setInterval; setInterval = (task, time) => slow(task, time / 60);"
     added = browser.ask("POST", "/goog/cdp/execute", {"cmd": "Page.addScriptToEvaluateOnNewDocument",
                                                       "params": {"source": quick}})
     club.log_in("ann")

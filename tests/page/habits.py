@@ -35,10 +35,9 @@ def fill(club):
     club.browser.sees("1 file uploaded", "#notices")
 
 
-def by_mouse(club, differs):
+def by_mouse(club, browser, differs):
     """A right click on the ground offers what can be made; files go into the folder on whose row they are dropped; a
     large file takes nothing that is dragged; a second click of a double click is none."""
-    browser = club.browser
     fill(club)
     browser.sees("large", ".things")
     browser.script(MENU_AT, ".drops")
@@ -58,9 +57,8 @@ def by_mouse(club, differs):
     differs("the second click leads nowhere", browser.script(twice), False)
 
 
-def by_keys(club, differs):
+def by_keys(club, browser, differs):
     """The keys that hold for the whole page, wherever the focus is."""
-    browser = club.browser
     club.go(f"#open/club{TOP}")
     to_search = "return document.activeElement.closest('#search') !== null"
     browser.script(AWAY)
@@ -91,9 +89,8 @@ def by_keys(club, differs):
     browser.until("the folder above", lambda: browser.script(place) == "#open/club")
 
 
-def in_dialogs(club, differs):
+def in_dialogs(club, browser, differs):
     """All but the ending of a name is marked, and Ctrl+S ends what is written."""
-    browser = club.browser
     club.go(f"#open/club{TOP}/b.txt")
     browser.press("Rename")
     browser.until("the name", lambda: browser.find("//dialog[@open]//input"))
@@ -107,9 +104,8 @@ def in_dialogs(club, differs):
     differs("it is written", club.text(f"{TOP}/b.txt"), "written\n")
 
 
-def link(club, differs):
+def link(club, browser, differs):
     """The link of a thing is copied from its menu."""
-    browser = club.browser
     browser.devtools("Browser.grantPermissions", permissions=["clipboardReadWrite", "clipboardSanitizedWrite"])
     club.go(f"#open/club{TOP}")
     by_menu(browser, "b.txt", "Copy the link")

@@ -1,18 +1,16 @@
 """Scenes of the page: the cases of docs/FILES.md."""
-import os
 import re
 from urllib.parse import quote
 
 import cases
 from cases import No
 from carried import on_disk, saved
-from club import by_menu, choose
+from club import BUTTONS, by_menu, choose
 
 TOLD = ("const it = document.querySelector('dialog[open] form'); return [it && !it.inert ? it.innerText : '', "
         "...['notices', 'transfers'].map((its) => document.getElementById(its).innerText)]")
 ROWS = ("return [...document.querySelectorAll('.things tbody tr')].map((it) => [it.querySelector('bdi').textContent, "
         "...['.size', '.kind'].map((its) => it.querySelector(its).innerText)])")
-BUTTONS = "return [...document.querySelectorAll('main > .tools button')].map((it) => it.textContent)"
 FAULT = "return document.querySelector('dialog[open] p.fault[role=alert]')?.textContent ?? ''"
 TALL = {"width": 1000, "height": 12_000, "deviceScaleFactor": 1, "mobile": False}
 
@@ -22,8 +20,6 @@ class Page:
 
     def __init__(self, club):
         self.club, self.browser, self.wait = club, club.browser, club.lossy.wait
-        back = os.path.join(club.folder, "back")
-        self.browser.devtools("Browser.setDownloadBehavior", behavior="allow", downloadPath=back)
 
     @staticmethod
     def size_words(size):
@@ -146,7 +142,7 @@ class Page:
         self.club.lossy.wait = wait
 
 
-def all_cases(club, differs):
+def all_cases(club, browser, differs):
     cases.play(Page(club), club.room.port, differs)
 
 

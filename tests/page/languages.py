@@ -12,20 +12,19 @@ HELP = ("const [done] = arguments; Promise.all(['en', 'de'].map((it) => import(`
         ".then((all) => done(all.map((it) => it.help.split('\\n').length)))")
 
 
-def lacking(club, differs):
+def lacking(club, browser, differs):
     """Each language has each word, of the same form."""
-    english, *others = club.browser.ask("POST", "/execute/async", {"script": SHAPES, "args": []})
+    english, *others = browser.ask("POST", "/execute/async", {"script": SHAPES, "args": []})
     for words in others:
         differs("words that a language lacks", sorted(set(english) - set(words)), [])
         differs("words that are of no use", sorted(set(words) - set(english)), [])
         differs("words of another form", [it for it in english if words[it] != english[it]], [])
-    counts = club.browser.ask("POST", "/execute/async", {"script": HELP, "args": []})
+    counts = browser.ask("POST", "/execute/async", {"script": HELP, "args": []})
     differs("help of both", [it > 9 for it in counts], [True, True])
 
 
-def chosen(club, differs):
+def chosen(club, browser, differs):
     """German is chosen, kept, and left again."""
-    browser = club.browser
     club.go("#open/club")
     of_user(browser, "Deutsch")
     browser.sees("+ Neu", "main")

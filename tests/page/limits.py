@@ -9,10 +9,9 @@ LONG = "minutes of the meeting of the board about the summer fair and the tent i
 SHORT = "minutes of the meeting of the board about the summer fair an.txt"
 
 
-def full(club, differs):
+def full(club, browser, differs):
     """In a full folder (of `too_many`) what is made goes into another one beside it, the same each time; a folder from
     the disk too."""
-    browser = club.browser
     club.holds({"cmd": "MKDIR", "path": "/limits"})
     club.holds({"cmd": "RENAME", "path": "/full", "to": "/limits/year"})
     for name in "one", "two":
@@ -36,9 +35,8 @@ def full(club, differs):
             [["deep"], ["b.txt", "er"], ["a.txt"]])
 
 
-def long_names(club, differs):
+def long_names(club, browser, differs):
     """A name that is too long is offered shorter as it is typed, and in an upload."""
-    browser = club.browser
     club.go("#open/club/limits")
     make_new(browser, "New document")
     browser.fill("Name", LONG)
@@ -60,9 +58,8 @@ def long_names(club, differs):
             sorted(["", LONG, f"{LONG[:-4]} again.txt", "short.txt"]))
 
 
-def deep(club, differs):
+def deep(club, browser, differs):
     """What would lie too deep is told before it is typed, sent or copied."""
-    browser = club.browser
     path = "/limits" + "/d" * 15
     for count in range(1, 16):
         club.holds({"cmd": "MKDIR", "path": "/limits" + "/d" * count})
@@ -78,9 +75,9 @@ def deep(club, differs):
     differs("nothing is there", [*names_at(club, path), *names_at(club, up)], ["d"])
 
 
-def many_names(club, differs):
+def many_names(club, browser, differs):
     """A list's 17th name is told before, and one group is offered in the place of its members."""
-    browser, path = club.browser, "/limits/shared"
+    path = "/limits/shared"
     club.holds({"cmd": "MKDIR", "path": path})
     work = lambda who: [{"type": 0, "flag": 0, "mask": WORK_HERE, "who": who},
                         {"type": 0, "flag": 0xB, "mask": CHANGE, "who": who}]

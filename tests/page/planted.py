@@ -37,19 +37,16 @@ def found(club, path, word):
     return club.browser.script(FOUND)
 
 
-def zipped(club, path, name, word):
-    club.browser.devtools("Browser.setDownloadBehavior", behavior="allow",
-                          downloadPath=os.path.join(club.folder, "back"))
+def zipped(club, browser, path, name, word):
     club.go(f"#open/club{path}")
-    of_folder(club.browser, "Download as zip")
-    club.browser.sees(word, "#notices")
+    of_folder(browser, "Download as zip")
+    browser.sees(word, "#notices")
     with zipfile.ZipFile(io.BytesIO(saved(club, name))) as file:
         return sorted(it for it in file.namelist() if not it.endswith("/"))
 
 
-def hides_nothing(club, differs):
+def hides_nothing(club, browser, differs):
     """A manifest beside other things, right or not, hides none of them."""
-    browser = club.browser
     made(club, "/planted")
     for name, text in ("right", manifest(b"bob's")), ("wrong", b"garbage"):
         at = f"/planted/{name}"
@@ -65,18 +62,18 @@ def hides_nothing(club, differs):
     club.go("#open/club/planted/right")
     browser.sees(".room-000", "main")
     differs("search", found(club, "/planted", "three"), ["/planted/right/three.txt", "/planted/wrong/three.txt"])
-    told = zipped(club, "/planted", "planted.zip", "planted.zip is made")
+    told = zipped(club, browser, "/planted", "planted.zip", "planted.zip is made")
     differs("the zip", [it for it in told if NAME not in it], ["planted/right/.room-000", "planted/right/three.txt",
                                                                 "planted/wrong/three.txt"])
 
 
-def can_be_unpacked(club, differs):
+def can_be_unpacked(club, browser, differs):
     """No document of a zip has the path of a folder, not where capitals do not count either."""
     made(club, "/planted/zip")
     for path, data in (("Q1: plan", None), ("Q1: plan/x.txt", b"ann's"), ("Q1* plan", b"bob's"), ("A.txt", b"1"),
                        ("a.txt", b"2"), ("con.txt", b"3"), ("dot.", b"4")):
         made(club, f"/planted/zip/{path}", data)
-    told = zipped(club, "/planted/zip", "zip.zip", "zip.zip is made")
+    told = zipped(club, browser, "/planted/zip", "zip.zip", "zip.zip is made")
     differs("its names", told, ["zip/A.txt", "zip/Q1_ plan", "zip/Q1_ plan_/x.txt", "zip/a.txt_", "zip/con_.txt",
                                 "zip/dot_"])
 
@@ -88,9 +85,8 @@ def png(width, height):
     return b"\x89PNG\r\n\x1a\n" + chunk(b"IHDR", head) + chunk(b"IDAT", lines) + chunk(b"IEND", b"")
 
 
-def takes_no_memory(club, differs):
+def takes_no_memory(club, browser, differs):
     """A picture of few bytes and very many pixels is not shown by itself, nor where it is opened."""
-    browser = club.browser
     made(club, "/planted/pictures")
     for name, side in ("small.png", 800), ("vast.png", 20_000):
         made(club, f"/planted/pictures/{name}", png(side, side))
@@ -105,9 +101,8 @@ def takes_no_memory(club, differs):
     differs("no picture", browser.script("return document.querySelectorAll('main img').length"), 0)
 
 
-def copies_open_nothing(club, differs):
+def copies_open_nothing(club, browser, differs):
     """What is kept as a copy beside a document has its list."""
-    browser = club.browser
     made(club, "/planted/salary.txt", b"1")
     alone = {"aclflag": 2, "entries": [ALL | {"flag": 0, "who": "OWNER@"}]}
     club.holds({"cmd": "SETLIST", "path": "/planted/salary.txt", **alone})
@@ -126,15 +121,14 @@ def copies_open_nothing(club, differs):
     differs("how many", len(kept), 3)
 
 
-def no_view(club, differs):
+def no_view(club, browser, differs):
     """An address that names none is that of a folder."""
-    club.browser.go(club.address("#constructor/club/planted"))
-    club.browser.sees("pictures", "main")
+    browser.go(club.address("#constructor/club/planted"))
+    browser.sees("pictures", "main")
 
 
-def keeps_the_rest(club, differs):
+def keeps_the_rest(club, browser, differs):
     """One thing in the trash that somebody else locked stays alone."""
-    browser = club.browser
     make_trashes(club)
     for name in "a", "b":
         made(club, f"/planted/{name}")

@@ -41,9 +41,9 @@ def make_school(club):
     return {"ann": ["eng"], "head": [], **users}
 
 
-def who_may(club, differs, users):
+def who_may(club, browser, differs, users):
     """The matrix has a column for each group, which opens to its members, and asks once about those that are alike."""
-    browser, before, start = club.browser, club.lossy.times('"user":'), time.monotonic()
+    before, start = club.lossy.times('"user":'), time.monotonic()
     club.go(f"#who/club{TOP}")
     browser.sees("class40", ".matrix")
     print(f"the matrix of {len(users)} users: {time.monotonic() - start:.1f} seconds")
@@ -66,9 +66,8 @@ def who_may(club, differs, users):
     differs("narrowed", browser.script(HEADS)[1:3], ["class01.pupil23", "class02.pupil23"])
 
 
-def found_so_far(club, differs):
+def found_so_far(club, browser, differs):
     """While it looks, the search shows what it found so far, and how far it is."""
-    browser = club.browser
     club.go(f"#open/club{TOP}")
     club.lossy.hold('"LIST"', "class05")
     browser.act("//header//input[@type='search']", "value", {"text": "plan\ue007"})
@@ -100,9 +99,8 @@ def make_papers(club):
         line.close()
 
 
-def among_all(club, differs):
+def among_all(club, browser, differs):
     """Among 3,000 files the search shows what it found so far, and how far it is, and ends with all of them."""
-    browser = club.browser
     make_papers(club)
     club.go(f"#open/club{PAPERS}")
     club.lossy.hold('"LIST"', "2007")
@@ -117,9 +115,9 @@ def among_all(club, differs):
             True)
 
 
-def among_many(club, differs):
+def among_many(club, browser, differs):
     """The matrix of 250 files and a thousand users, narrowed to a class: forty rows, and forty more, so narrowed."""
-    browser, rows = club.browser, "return document.querySelectorAll('.matrix tbody tr').length"
+    rows = "return document.querySelectorAll('.matrix tbody tr').length"
     club.go(f"#who/club{YEARS[0]}")
     browser.act("//main//input[@type='search']", "value", {"text": "class07\ue007"})
     browser.sees("(20 shown of 24 users, 1 groups)", "label")
@@ -131,7 +129,7 @@ def among_many(club, differs):
     differs("and more of them", [browser.script(HEADS)[1:], browser.script(rows)], [heads, 80])
 
 
-def thousand(club, differs):
+def thousand(club, browser, differs):
     users = make_school(club)
     with open(os.path.join(club.folder, "front", "rooms", "club.users.json")) as file:
         before = json.load(file)
@@ -139,14 +137,14 @@ def thousand(club, differs):
     top = club.holds({"cmd": "GETLIST", "path": "/"})
     set_ = {"cmd": "SETLIST", "path": "/", "aclflag": top["aclflag"]}
     club.holds({**set_, "entries": [{"type": 0, "flag": 0, "mask": PASS, "who": "EVERYONE@"}, *top["entries"]]})
-    club.browser.go("about:blank")
-    who_may(club, differs, users)
-    found_so_far(club, differs)
-    among_all(club, differs)
-    among_many(club, differs)
+    browser.go("about:blank")
+    who_may(club, browser, differs, users)
+    found_so_far(club, browser, differs)
+    among_all(club, browser, differs)
+    among_many(club, browser, differs)
     write_roster(club, before)
     club.holds({**set_, "entries": top["entries"]})
-    club.browser.go("about:blank")
+    browser.go("about:blank")
     club.go("#open/club")
 
 

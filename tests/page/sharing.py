@@ -36,9 +36,9 @@ def share(browser, whom, what):
     browser.press("Share", "//main//section[@class='share']")
 
 
-def after_saving(club, differs):
+def after_saving(club, browser, differs):
     """A list is set, and a folder above lets those whom it names not pass: it is told, and mended if wanted."""
-    browser, top = club.browser, "/board"
+    top = "/board"
     fill(club, top)
     club.go(f"#access/club{top}/plans")
     set_list(browser, "the user", "bob", "view", False)
@@ -52,9 +52,9 @@ def after_saving(club, differs):
     club.holds({"cmd": "SETLIST", "path": f"{top}/plans", "aclflag": 1, "entries": []})
 
 
-def with_a_group(club, differs):
+def with_a_group(club, browser, differs):
     """A folder is shared with a group by two choices; its members are let pass, work in it, and cannot remove it."""
-    browser, path = club.browser, "/board/plans"
+    path = "/board/plans"
     go(club, "#open/club")
     club.go(f"#access/club{path}")
     share(browser, "staf", "view")
@@ -81,9 +81,9 @@ def go(club, place):
     club.go(place)
 
 
-def changed(club, differs):
+def changed(club, browser, differs):
     """What somebody has is changed and taken away; what else a list says is counted, and told where it decides."""
-    browser, path = club.browser, "/board/plans"
+    path = "/board/plans"
     forget_told(browser)
     give(browser, "view")
     browser.until("view", lambda: own(club, path) == [(0, GROUP | 3, VIEW, "staff")])
@@ -112,9 +112,9 @@ def changed(club, differs):
     browser.until("it is gone", lambda: own(club, path) == [(1, 3, 0x10006, "bob")])
 
 
-def of_the_owner(club, differs):
+def of_the_owner(club, browser, differs):
     """What a folder's owner may not do with what others make in it is said, and mended by one click."""
-    browser, path = club.browser, "/board/plans"
+    path = "/board/plans"
     go(club, "#open/club")
     club.go(f"#access/club{path}")
     browser.sees("What others make in here is theirs: ann, who owns the folder, may do with it only what", ".share")
@@ -124,9 +124,9 @@ def of_the_owner(club, differs):
     browser.until("it is said no more", lambda: "What others make in here" not in browser.shown())
 
 
-def names_are_shown(club, differs):
+def names_are_shown(club, browser, differs):
     """Users stand with their names as people write them, where the front tells these."""
-    browser, path = club.browser, os.path.join(club.folder, "front", "names.json")
+    path = os.path.join(club.folder, "front", "names.json")
     with open(path, "w", encoding="utf-8") as file:
         json.dump({"ann": "Ann <b>Lee", "bob": "Bob Ray"}, file)
     club.log_in("ann")

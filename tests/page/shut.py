@@ -20,8 +20,7 @@ def put_password(club, line):
     return before
 
 
-def password_changed(club, differs):
-    browser = club.browser
+def password_changed(club, browser, differs):
     club.log_in("ann")
     club.go("#open/club")
     make_document(browser, "shut.txt", "first")

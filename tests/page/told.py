@@ -42,9 +42,8 @@ def make(club):
         set_alone(club, f"{TOP}/{name}", eve=VIEW)
 
 
-def failed(club, differs):
+def failed(club, browser, differs):
     """Three of ten files fail: each is told by its name, with the reason, whatever comes then, until it went well."""
-    browser = club.browser
     make(club)
     files = {name: on_disk(club, f"told/{name}", name.encode()) for name in NAMES}
     club.log_in("eve")
@@ -84,9 +83,8 @@ def failed(club, differs):
     club.log_in("ann")
 
 
-def lacking(club, differs):
+def lacking(club, browser, differs):
     """What a zip has not in it is told, and a list that is not taken, until it is."""
-    browser = club.browser
     club.holds({"cmd": "MKDIR", "path": f"{TOP}/closed"})
     set_alone(club, f"{TOP}/closed")
     set_alone(club, f"{TOP}/{SHUT[0]}")
@@ -122,9 +120,8 @@ def lacking(club, differs):
     differs("it went well", lines(browser), [])
 
 
-def copies(club, differs):
+def copies(club, browser, differs):
     """Whoever may not copy something there is told so where they chose the place, and chooses another."""
-    browser = club.browser
     club.log_in("eve")
     club.go(f"#open/club{TOP}/{NAMES[0]}")
     browser.press("Copy", "//main")
@@ -144,9 +141,9 @@ def copies(club, differs):
     club.log_in("ann")
 
 
-def given_up(club, differs):
+def given_up(club, browser, differs):
     """What is given up while the menu of a row, or the folders to choose from, are asked for is told, once."""
-    browser, lossy = club.browser, club.lossy
+    lossy = club.lossy
     club.go(f"#open/club{TOP}")
     differs("before", lines(browser), [])
     lossy.lose('"ACCESS"', 10_000)

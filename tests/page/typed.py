@@ -15,9 +15,8 @@ PLACE = "return document.querySelector('main').dataset.place"
 FOCUS = "return document.activeElement.getAttribute('aria-label') ?? document.activeElement.textContent"
 
 
-def names(club, differs):
+def names(club, browser, differs):
     """Names whose letters deceive are shown with marks, and sent in one form."""
-    browser = club.browser
     for name in "invoice\u202egpj.exe", "zero\u200bwidth", "end ", "e\u0301t\u00e9", "heart \u2764\ufe0f":
         club.holds({"cmd": "CREATE", "path": f"/plans/{name}", "data": ""})
     club.go("#open/club/plans")
@@ -39,9 +38,9 @@ def names(club, differs):
             club.holds({"cmd": "REMOVE", "path": f"/plans/{name}"})
 
 
-def leaving(club, differs):
+def leaving(club, browser, differs):
     """Escape, Back, another view, Log out and a closed tab ask where something is typed, and only there."""
-    browser, path = club.browser, "/plans/june.txt"
+    path = "/plans/june.txt"
     before = club.text(path)
     club.go("#open/club")
     club.go(f"#open/club{path}")
@@ -65,7 +64,7 @@ def leaving(club, differs):
     differs("after staying", browser.script(text), "typed on")
     leaves(browser, differs, lambda: browser.script("history.back()"), "#open/club")
     differs("nothing was sent", club.text(path), before)
-    leaving_a_list(club, differs, path)
+    leaving_a_list(club, browser, differs, path)
 
 
 def asks(browser, differs, words, does, place):
@@ -88,9 +87,9 @@ def leaves(browser, differs, does, place):
     differs(f"{place}: nothing is unsaved", browser.script(ASKED), False)
 
 
-def leaving_a_list(club, differs, path):
+def leaving_a_list(club, browser, differs, path):
     """A list that was changed and not saved asks too, whatever leads away."""
-    browser, place = club.browser, f"#access/club{path}"
+    place = f"#access/club{path}"
     before = club.holds({"cmd": "GETLIST", "path": path})
     club.go(place)
     differs("a list as it is asks nothing", browser.script(ASKED), False)
@@ -108,12 +107,11 @@ def leaving_a_list(club, differs, path):
         differs(f"{words}: the entry is still there", browser.script(entries), count)
     leaves(browser, differs, lambda: browser.follow("Who may do what"), f"#who/club{path}")
     differs("the list is as it was", club.holds({"cmd": "GETLIST", "path": path}), before)
-    ending(club, differs, path)
+    ending(club, browser, differs, path)
 
 
-def ending(club, differs, path):
+def ending(club, browser, differs, path):
     """A page that ends, as a closed tab or a reload does, has the browser ask. (Its driver says yes.)"""
-    browser = club.browser
     club.go(f"#open/club{path}")
     for words in "", "typed":
         browser.press("Append", "//main")
@@ -123,9 +121,9 @@ def ending(club, differs, path):
         differs(f"it ends with {words!r}", asked, str(words != "").lower())
 
 
-def at_work(club, differs):
+def at_work(club, browser, differs):
     """A dialog whose request takes a while shows that, and cannot be pressed again."""
-    browser, lossy = club.browser, club.lossy
+    lossy = club.lossy
     club.go("#open/club/plans")
     lossy.hold('"MKDIR"')
     make_new(browser, "New folder")
@@ -139,9 +137,8 @@ def at_work(club, differs):
     club.holds({"cmd": "REMOVE", "path": "/plans/slow"})
 
 
-def after_refusal(club, differs):
+def after_refusal(club, browser, differs):
     """A refused dialog has the focus where it was: what is typed then arrives, and Escape ends it."""
-    browser = club.browser
     club.go("#open/club/plans")
     make_new(browser, "New folder")
     browser.keys("june.txt", "enter")
@@ -153,22 +150,21 @@ def after_refusal(club, differs):
     browser.press("Discard it")
 
 
-def lines(club, differs):
+def lines(club, browser, differs):
     """What is appended stands on lines of its own, whose ends are those of the document."""
     path = "/plans/lines.txt"
     for before, after in ("", "c\nd\n"), ("a", "a\nc\nd\n"), ("a\n", "a\nc\nd\n"), ("a\r\nb", "a\r\nb\r\nc\r\nd\r\n"):
         club.holds({"cmd": "CREATE", "path": path, "data": club.base64(before.encode())})
         club.go(f"#open/club{path}")
-        append(club.browser, "c\nd")
-        club.browser.sees("Appended.")
+        append(browser, "c\nd")
+        browser.sees("Appended.")
         differs(f"behind {before!r}", club.text(path), after)
         club.holds({"cmd": "REMOVE", "path": path})
         club.go("#open/club")
 
 
-def conflicts(club, differs):
+def conflicts(club, browser, differs):
     """Somebody else was there first: both texts, or both lists, are shown."""
-    browser = club.browser
     for words, mine, left in ("Keep mine as a copy", "mine", "theirs"), ("Take theirs", "mine too", "theirs"):
         club.holds({"cmd": "WRITE", "path": "/plans/june.txt", "data": "YmVmb3Jl"})
         club.go("#open/club/plans")
@@ -184,16 +180,16 @@ def conflicts(club, differs):
         browser.press(words)
         browser.sees("theirs", "main pre")
         differs("theirs stands", club.text("/plans/june.txt"), left)
-    both_in_one(club, differs)
+    both_in_one(club, browser, differs)
     differs("mine is beside it", club.text("/plans/june (copy of ann).txt"), "mine")
     differs("and once", len(club.names("/plans")), 2)
     club.holds({"cmd": "REMOVE", "path": "/plans/june (copy of ann).txt"})
-    lists_at_once(club, differs)
+    lists_at_once(club, browser, differs)
 
 
-def both_in_one(club, differs):
+def both_in_one(club, browser, differs):
     """Whoever saw the other's text goes on with the own one, and puts both together, unless another came since."""
-    browser, path = club.browser, "/plans/june.txt"
+    path = "/plans/june.txt"
     told = "Nothing is replaced yet."
     browser.press("Edit")
     browser.fill("Text", "mine")
@@ -211,8 +207,7 @@ def both_in_one(club, differs):
     club.holds({"cmd": "WRITE", "path": path, "data": "dGhlaXJz"})
 
 
-def lists_at_once(club, differs):
-    browser = club.browser
+def lists_at_once(club, browser, differs):
     path, new = "/plans/june.txt", {"type": 0, "flag": 0, "mask": 1, "who": "bob"}
     club.go("#access/club/plans/june.txt")
     set_list(browser, "the user", "nobody-here", "view", False)
@@ -230,9 +225,8 @@ def lists_at_once(club, differs):
     club.holds({"cmd": "SETLIST", "path": path, "aclflag": 1, "entries": []})
 
 
-def stays(club, differs):
+def stays(club, browser, differs):
     """After an action the page stands where it stood, and Back is not what is gone; an unknown room is told at once."""
-    browser = club.browser
     club.holds({"cmd": "MKDIR", "path": "/long"})
     for count in range(60):
         club.holds({"cmd": "CREATE", "path": f"/long/{count:02}.txt", "data": ""})
@@ -260,9 +254,9 @@ def stays(club, differs):
     browser.keys("escape")
 
 
-def left_behind(club, differs):
+def left_behind(club, browser, differs):
     """While the view of a place is still to come, nothing can be pressed, also as that of a place left before comes."""
-    browser, lossy = club.browser, club.lossy
+    lossy = club.lossy
     inert = "return document.querySelector('main').inert"
     club.go("#open/club")
     lossy.hold('"LIST"', '"path":"/long"')
@@ -280,17 +274,16 @@ def left_behind(club, differs):
     differs("it can be pressed then", browser.script(inert), False)
 
 
-def one_vocabulary(club, differs):
+def one_vocabulary(club, browser, differs):
     """The page's words for rights and sets are those of the command."""
-    told = club.browser.ask("POST", "/execute/async", {"script": WORDS, "args": []})
+    told = browser.ask("POST", "/execute/async", {"script": WORDS, "args": []})
     ours = sorted([bit, list(dict.fromkeys(words[:2]))] for bit, *words in RIGHTS)
     differs("words of rights", sorted(told[0]), ours)
     differs("sets", sorted(map(tuple, told[1])), sorted(it for it in SETS.items() if it[0] != "none"))
 
 
-def log_out(club, differs):
+def log_out(club, browser, differs):
     """The browser forgets the login: a request of the page is asked for one again. Back shows nothing and fails not."""
-    browser = club.browser
     club.go("#open/club")
     club.go("#open/club/plans")  # (Back from the first would load another page, which waits for a login)
     ask = ("fetch(new URL('/whoami', location.origin), {signal: AbortSignal.timeout(3000)})"

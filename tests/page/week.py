@@ -3,12 +3,11 @@ import os
 import re
 from urllib.parse import quote
 
-from carried import PIECE, bytes_at, held, names_at, on_disk, row, saved
-from club import append, by_menu, choose, make_document, make_new, of_folder, set_list, to_folder
+from carried import PIECE, held, names_at, on_disk, row, saved
+from club import BUTTONS, append, by_menu, choose, make_document, make_new, of_folder, set_list, to_folder
 from folders import PDF, PNG, TRASH
 
 TOP = "/week"
-BUTTONS = "return [...document.querySelectorAll('main > .tools button')].map((it) => it.textContent)"
 
 
 def sends(browser, words, *paths):
@@ -101,7 +100,7 @@ def replaces_a_file(club, browser, differs):
     browser.press("Keep both")
     browser.sees("uploaded", "#notices")
     old = next(it for it in names_at(club, f"{TOP}/2027") if it.startswith("members (before"))
-    differs("both", [bytes_at(club, f"{TOP}/2027/{it}") for it in ("members.csv", old)], [b"ann;bob;eve", b"ann;bob"])
+    differs("both", [club.bytes(f"{TOP}/2027/{it}") for it in ("members.csv", old)], [b"ann;bob;eve", b"ann;bob"])
 
 
 def renames_it(club, browser, differs):
@@ -130,7 +129,7 @@ def copies_it(club, browser, differs):
     browser.fill("Name", "letter of 2028.txt")
     browser.press("Copy", "//dialog[@open]")
     browser.sees("is copied to", "#notices")
-    differs("copied", bytes_at(club, f"{TOP}/2027/fair/letter of 2028.txt"), b"Dear members")
+    differs("copied", club.bytes(f"{TOP}/2027/fair/letter of 2028.txt"), b"Dear members")
 
 
 def finds_it(club, browser, differs):
@@ -222,12 +221,12 @@ THINGS = [looks_around, makes_a_folder, writes_minutes, adds_a_line, corrects_th
           throws_away, empties_the_trash, lets_somebody_edit, looks_who_may, works_beside_somebody]
 
 
-def week(club, differs):
+def week(club, browser, differs):
     """Each begins where the one before has ended."""
     differs("twenty things", [int(re.match(r"\d+", it.__doc__)[0]) for it in THINGS], list(range(1, 21)))
     club.holds({"cmd": "MKDIR", "path": TOP})
     for thing in THINGS:
-        thing(club, club.browser, differs)
+        thing(club, browser, differs)
 
 
 SCENES = [week]
