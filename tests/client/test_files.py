@@ -77,30 +77,6 @@ class Shown(Behind):
         os.close(terminal)
 
 
-class Damaged(Behind):
-    def setUp(self):
-        super().setUp()
-        self.data = some(2 * PIECE + 1, 1)
-        with self.behind() as room:
-            files.write(room, "/a", self.data)
-            self.its = files.manifest_at(room, "/a")
-            self.at = f"/a/{self.its.folder}"
-
-    def told_damaged(self):
-        self.file("out", b"as it was")
-        status, out, err = self.does("get", "/a", "out")
-        self.assertEqual((status, out), (6, ""))
-        self.assertRegex(err, "^room: /a is damaged: its pieces are not what its manifest says, and nothing of it is")
-        with open(self.path("out"), "rb") as file:
-            self.assertEqual(file.read(), b"as it was")
-        self.assertEqual(self.does("get", "/a")[:2], (6, ""))
-
-    def test_another_byte(self):
-        with self.room() as room:
-            room.write(f"{self.at}/001", bytes(PIECE))
-        self.told_damaged()
-
-
 class Writers(Behind):
     """Two who write the same file at once."""
 
