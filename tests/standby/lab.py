@@ -26,7 +26,6 @@ PATH = os.pathsep.join([os.environ.get("PATH", ""), "/usr/sbin", "/sbin"])
 DISK = 6 << 30  # bytes of the file that all machines lie in; it is sparse
 BUSY = "Locking failed", "Another transaction is in progress"  # of gluster: nothing was done
 BRIDGE = "10.77.0.254/24"
-FLOATING = "10.77.0.100"  # the address that moves to the machine that serves
 WALL = "/srv/bin/fileroom-ports"  # of a machine that has it: it is put up with its link
 # what the first process of a machine does: its own folders over those of the machine below, then it waits for its end
 FIRST = """
