@@ -5,6 +5,7 @@ import time
 
 from room_client import files
 from counter import Counter, stop
+from served import run
 from test_refusals import EXCLUSIVE, tag_of
 
 SHARE = 0.3  # of requests to the room that something happens to
@@ -95,29 +96,13 @@ class Kills(Counter):
     def test_the_room_is_made_anew(self):
         """Sessions that the room does not know any more are replaced, and nobody notices."""
         self.does("ann", "PUT", "/anew", 201, b"x")
-        with self.served_again():
-            self.does("ann", "PUT", "/anew", 201, b"y")
-            self.assertEqual(self.does("ann", "GET", "/anew", 200).body, b"y")
-
-    def served_again(self):
-        from contextlib import contextmanager
-
-        @contextmanager
-        def anew():
-            self.served.kill()
-            for end in "", "-wal", "-shm":
-                if os.path.exists(self.served.db + end):
-                    os.remove(self.served.db + end)
-            self.remake()
-            yield
-        return anew()
-
-    def remake(self):
-        from served import run, start_program
-        run("init", self.served.db, "ann", "eng")
-        self.served.server = start_program("serve", self.served.db, self.served.roster, str(self.served.port),
-                                           "4294967295")
-        self.assertTrue(self.served.listens())
+        self.served.kill()
+        for end in "", "-wal":
+            os.remove(self.served.db + end)
+        self.assertEqual(run("init", self.served.db, "ann", "eng"), (0, b"", b""))
+        self.served.start()
+        self.does("ann", "PUT", "/anew", 201, b"y")
+        self.assertEqual(self.does("ann", "GET", "/anew", 200).body, b"y")
 
 
 class TakeOver(Counter):

@@ -1,7 +1,6 @@
 """Nobody sees or does by WebDAV what the lists do not let them: random requests of three users, compared with a plain
 model of the room (tests/plain.py), while lists and bytes change past the gateway."""
 import base64
-import hashlib
 import json
 import os
 import random
@@ -12,6 +11,7 @@ from urllib.parse import unquote
 from plain import Caller, PlainRoom, Refused
 from counter import Counter, PASSWORDS
 from served import session, slot
+from test_refusals import EXCLUSIVE, tag_of
 
 GROUPS = {"ann": ["eng"], "bob": ["eng", "staff"], "cat": []}
 COUNT, SEED = int(os.environ.get("COUNT", "3000")), int(os.environ.get("SEED", "7"))
@@ -222,9 +222,7 @@ class Sight(Counter):
         want = self.model(user, "ACCESS", path, mask=mask)
         if not isinstance(want, dict):
             return
-        body = (b'<D:lockinfo xmlns:D="DAV:"><D:lockscope><D:exclusive/></D:lockscope><D:locktype><D:write/>'
-                b"</D:locktype></D:lockinfo>")
-        got = self.asks(user, "LOCK", path, body)
+        got = self.asks(user, "LOCK", path, EXCLUSIVE)
         self.fits(got, 200 if want["allowed"] == mask else 403)
         if got.status == 200:
             self.fits(self.asks(user, "UNLOCK", path, Lock_Token=got.fields["lock-token"]), 204)
@@ -265,10 +263,6 @@ class Sight(Counter):
 
 def parts(path):
     return tuple(it for it in path.split("/") if it)
-
-
-def tag_of(data):
-    return '"' + hashlib.sha256(data).hexdigest()[:32] + '"'
 
 
 def things_of(got):
