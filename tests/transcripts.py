@@ -23,7 +23,7 @@ def scenes(path):
 
 
 def by_shell(line, folder, **env):
-    how = {"cwd": folder, "capture_output": True, "timeout": 60, "env": env or None}
+    how = {"cwd": folder, "capture_output": True, "timeout": 300, "env": env or None}
     done = subprocess.run(["bash", "-c", line], **how)
     return done.returncode, done.stdout.decode(), done.stderr.decode()
 

@@ -3,69 +3,27 @@ next call at one of its own; and `check` tells each thing that is put wrong.
 """
 import base64
 import io
-import json
 import os
+import re
 import shutil
 import subprocess
 import sys
 import time
 import zlib
 
-from machines import ADMIN, NGINX, SERVICE, STAND_INS, Machine, Served, fits
+from machines import ADMIN, SERVICE, STAND_INS, Machine, Served, fits
 from nginx import certified
-from served import PROGRAM, Tally, end_with_parent, started_here, text_of
+from served import HERE, PROGRAM, end_with_parent, started_here, text_of
+from transcripts import by_shell
 
 LOGINS = "var/log/nginx/fileroom-logins.log"
 FRONT = ["systemctl daemon-reload", "systemctl restart nginx", "systemctl reload-or-restart fileroom-ports",
          "systemctl enable --now fileroom-try@club.timer fileroom-try@plans.timer",
          "systemctl try-restart fileroom@club fileroom@plans"]  # what `front` asks of services
 HTTPS = ["systemctl reload-or-restart nginx", "systemctl reload-or-restart fileroom-ports"]  # and `tls`
-IN_GROUP = NGINX.replace("www-data;", "www-data fileroom-front;").replace("768", "4096")
 KILLED, BROKEN, MOST = 9, 3, 1000  # two statuses; steps
 EVERY = 1  # of so many steps a call is killed at one
 NOTHING = "no problems found; rooms checked: club, more, plans\n"
-
-
-def a_front(machine, tally):
-    """Without a room yet, and taken away again."""
-    saved = os.path.join(machine.folder, "saved")
-    shutil.copytree(machine.root, saved)
-    tally.differs("where nothing has begun", machine.does("check"), (
-        1, "there is no room\n    fileroom-admin room add NAME OWNER GROUP, or room import FILE\n", ""))
-    tally.differs("a front without a room", machine.does("front"), (
-        0, "the front has the files of this program, and the rooms none\n", ""))
-    tally.differs("nobody's password", text_of(machine.at("etc/nginx/fileroom/users")), "")
-    tally.differs("what is wrong then", machine.does("check")[1].count("there is no room"), 1)
-    shutil.rmtree(machine.root)
-    os.rename(saved, machine.root)
-    machine.told()
-
-
-def a_room(machine, tally):
-    status, said, faults = machine.does("room", "add", "plans", "ann", "eng")
-    tally.differs("room add", (status, faults), (0, ""))
-    word = said.splitlines()[-1].removeprefix("the password of ann: ")
-    tally.differs("a password of 16 letters", len(word), 16)
-    for path, want in (
-            ("etc/fileroom/plans.toml", '[users]\nann = ["eng"]\n'), ("etc/fileroom/plans.env", "PORT=8001\n"),
-            ("etc/nginx/nginx.conf", IN_GROUP),
-            ("etc/nginx/fileroom/rooms.json", '["plans"]\n'),
-            ("etc/nginx/fileroom/rooms/plans.users.json", '{"ann": ["eng"]}\n')):
-        tally.differs(path, text_of(machine.at(path)), want)
-    tally.differs("the passwords' mode", os.stat(machine.at("etc/nginx/fileroom/users")).st_mode & 0o777, 0o640)
-    tally.differs("the mode of the log", os.stat(machine.at(LOGINS)).st_mode & 0o777, 0o640)
-    modes = [oct(os.stat(machine.at(f"etc/nginx/fileroom/{it}")).st_mode & 0o777) for it in ("rooms", "rooms.json")]
-    tally.differs("what nginx reads", modes, ["0o755", "0o644"])
-    tally.differs("a room", os.path.exists(machine.at("var/lib/fileroom/plans/room.db")), True)
-    tally.differs("what the services are asked", machine.told(), asked_for("plans"))
-    tally.differs("the login", fits(machine, "ann", word), True)
-    tally.differs("once more", machine.does("room", "add", "plans", "ann", "eng")[0], 1)
-    tally.differs("another room", (machine.does("room", "add", "club", "ann", "eng")[0],
-                                   text_of(machine.at("etc/fileroom/club.env"))), (0, "PORT=8001\n"))
-    for words in (["../x", "ann", "eng"], ["x", "a b", "eng"], ["x", "ann", ""]):
-        before = machine.files()
-        status = machine.does("room", "add", *words)[0]
-        tally.differs(f"room add {words}", (status, machine.files() == before), (1, True))
 
 
 def asked_for(room):
@@ -93,46 +51,6 @@ def passwords(machine, tally):
     machine.does("user", "passwd", "ann")
     lines = dict(it.split(":") for it in text_of(machine.at("etc/nginx/fileroom/users")).splitlines())
     tally.differs("hashes", (lines["bob"][:3], lines["ann"][:6]), ("$y$", "{SSHA}"))
-
-
-def users(machine, tally):
-    """Roster, the page's copy, and logins go together; the roster's other lines stay."""
-    roster = machine.at("etc/fileroom/plans.toml")
-    machine.write("etc/fileroom/plans.toml", '# who is here\n[users]\nann = ["eng"]  # since 2020\n"b.c" = []\n')
-    machine.told()
-    status, said, faults = machine.does("-q", "user", "add", "plans", "bob", "eng", "staff")
-    tally.differs("user add", (status, faults, fits(machine, "bob", said.strip())), (0, "", True))
-    tally.differs("the roster", text_of(roster),
-                  '# who is here\n[users]\nann = ["eng"]  # since 2020\n"b.c" = []\nbob = ["eng", "staff"]\n')
-    tally.differs("the page's", json.loads(text_of(machine.at("etc/nginx/fileroom/rooms/plans.users.json"))),
-                  {"ann": ["eng"], "b.c": [], "bob": ["eng", "staff"]})
-    tally.differs("the room reads it", machine.told(), ["systemctl try-restart fileroom@plans"])
-    machine.does("user", "groups", "plans", "b.c", "eng")
-    machine.does("user", "groups", "plans", "bob")
-    tally.differs("other groups", text_of(roster),
-                  '# who is here\n[users]\nann = ["eng"]  # since 2020\n"b.c" = ["eng"]\nbob = []\n')
-    passwords(machine, tally)
-    tally.differs("the list", machine.does("user", "list", "plans")[1], "plans  ann  eng  login\n"
-                  "plans  b.c  eng  no login\nplans  bob  -  login\n")
-    machine.told()
-    tally.differs("user remove", machine.does("user", "remove", "plans", "bob")[0], 0)
-    tally.differs("whose login is gone", "bob:" in text_of(machine.at("etc/nginx/fileroom/users")), False)
-    tally.differs("who is left in the page's", json.loads(text_of(machine.at(
-        "etc/nginx/fileroom/rooms/plans.users.json"))), {"ann": ["eng"], "b.c": ["eng"]})
-    tally.differs("the room reads that", machine.told(), ["systemctl try-restart fileroom@plans"])
-    machine.does("user", "remove", "plans", "ann")
-    tally.differs("whose login another room wants", "ann:" in text_of(machine.at("etc/nginx/fileroom/users")), True)
-    machine.does("user", "add", "plans", "ann", "eng")
-    before = machine.files()
-    for words in ("user add plans ann", "user add none bob", "user add plans a:b", "user add plans bob x/y",
-                  "user add plans logged-out",
-                  "user remove plans zed", "user groups plans zed eng", "user passwd zed",
-                  "user add plans bob " + " ".join(f"g{it}" for it in range(17))):
-        tally.differs(words, (machine.does(*words.split())[0], machine.files() == before), (1, True))
-    machine.write("etc/fileroom/club.toml", '[users]\n# many\nann = [\n    "eng",\n]\n')
-    machine.does("user", "groups", "club", "ann", "staff")
-    made = text_of(machine.at("etc/fileroom/club.toml"))
-    tally.differs("a roster of another form", made, '[users]\nann = ["staff"]\n')
 
 
 def in_the_way(machine, tally):
@@ -435,57 +353,21 @@ def looked_at(machine, tally):
     tally.differs("nothing is wrong", machine.does("check"), (0, NOTHING, ""))
     passed_by(machine, tally)
     open_to_many(machine, tally)
-    # (what is found, or those that are; and how it comes to be so)
-    put_wrong = {
-        "the page's roster differs": lambda: machine.write("etc/fileroom/club.toml", "[users]\nann = []\n"),
-        **{f"/{it} is not from the installed version": lambda it=it: machine.write(it, "# another\n" + text_of(
-            machine.at(it))) for it in ("etc/nginx/fileroom/proxy.conf", "etc/nginx/conf.d/fileroom.conf",
-                                        "etc/nginx/modules-enabled/60-fileroom.conf")},
-        "has a login but is in no roster": lambda: machine.write(
-            "etc/nginx/fileroom/users", text_of(machine.at("etc/nginx/fileroom/users")) + "zed:x\n"),
-        "unencrypted connections": lambda: machine.write("etc/nginx/fileroom/listen.conf", "listen 8080;\n"),
-        "Debian's default site answers": lambda: machine.write("etc/nginx/sites-enabled/default", ""),
+    lines = re.findall(r"(?m)^([^#\s].*)\n  (.*)$", text_of(os.path.join(HERE, "service", "wrong.txt")))
+    put_wrong = {what: lambda line=line: by_shell(line, machine.root, **machine.env) for what, line in lines}
+    put_wrong |= {
         "of the user with the number 65534 has the front's port": lambda: machine.has_port(65534),
-        "a change was interrupted": lambda: machine.write("etc/fileroom/admin.journal", "{}"),
-        "nginx refuses its configuration": lambda: machine.write("etc/nginx/conf.d/other.conf", "no such word;\n"),
-        "plans: its part of the front": lambda: machine.write("etc/nginx/fileroom/rooms/plans.conf", ""),
-        "club: its part of the front": lambda: machine.write(
-            "etc/nginx/fileroom/queues/club.conf", "#\n" + text_of(machine.at("etc/nginx/fileroom/queues/club.conf"))),
-        "No such file or directory": lambda: os.remove(machine.at("etc/nginx/fileroom/users")),
-        "different versions": lambda: machine.stand_in("room", "echo room 0.0.1"),
-        ("there is no openssl", "there is no openssl"): lambda: machine.lacks("openssl"),
+        "there is no openssl .. there is no openssl": lambda: machine.lacks("openssl"),
         **{f"there is no {it}": lambda it=it: machine.lacks(it) for it in ("sqlite3", "curl")},
-        "has no backup": lambda: shutil.rmtree(machine.at("var/backups/fileroom/club")),
-        "club has no backup": lambda: os.rename(  # (what was not looked at yet is none)
-            machine.at("var/backups/fileroom/club/2999-01-01T00-00-00Z"),
-            machine.at("var/backups/fileroom/club/.copied-2999-01-01T00-00-00Z")),
-        "hours old": lambda: os.rename(machine.at("var/backups/fileroom/club/2999-01-01T00-00-00Z"),
-                                       machine.at("var/backups/fileroom/club/2020-01-01T00-00-00Z")),
-        "the front has no backup": lambda: os.rename(  # (as one that was killed leaves it)
-            machine.at("var/backups/fileroom-front/2999-01-01.tar.gz"),
-            machine.at("var/backups/fileroom-front/.new-x")),
-        **{f"{it} is not running": lambda it=it: machine.breaks(it)
-           for it in ("nginx", "fileroom@plans", "fileroom-backup@plans.timer", "fileroom-try@plans.timer")},
-        "plans: the latest backup was not restored as a trial": lambda: machine.breaks(
-            "failed fileroom-try@plans.service"),
-        "club: the latest backup was not restored as a trial": lambda: os.utime(
-            machine.at("var/backups/fileroom/club/2999-01-01T00-00-00Z"), (1e9, 1e9)),
-        "fileroom-proxy@plans.socket is not running": lambda: machine.breaks("fileroom-proxy@plans.socket"),
-        "the rules of fileroom.nft are not active": lambda: machine.breaks("nft"),
-        "rooms.json and /etc/fileroom": lambda: machine.write("etc/nginx/fileroom/rooms.json", "[]\n"),
-        "plans: its file has": lambda: machine.shows(
-            f"fileroom@plans MemoryMax={4 * size_of_room(machine) // 3 - 1}\n"),
-        "plans: of the 1,000,000 numbers that it has for objects, 750,001 are used": lambda: machine.write(
-            "var/backups/fileroom/plans/2999-01-01T00-00-00Z/numbers", "750001\n"),
-        ("768", "lack the group fileroom-front"): lambda: machine.write("etc/nginx/nginx.conf", NGINX),
     }
+    tally.differs("what is put wrong", len(put_wrong) > 30, True)
     path = machine.env["PATH"]
     for what, task in put_wrong.items():
         saved = os.path.join(machine.folder, "saved")
         shutil.copytree(machine.root, saved, symlinks=True)
         task()
         status, said, _ = machine.does("check")
-        found, want = said.splitlines(), [what] if isinstance(what, str) else what
+        found, want = said.splitlines(), what.split(" .. ")
         is_told = len(found) == 2 * len(want) and all(it.startswith("    ") for it in found[1::2]) and all(
             map(str.__contains__, found[::2], want))
         tally.differs(f"check: {what}: {said}", (status, is_told), (1, True))
@@ -495,17 +377,6 @@ def looked_at(machine, tally):
         machine.stand_in("room", STAND_INS["room"])
         machine.mended()
         machine.shows("")
-
-
-def a_lock_of_roots(machine, tally):
-    """Whoever can read the lock can take it, and all calls wait: so root alone can, also where it was made before."""
-    path = machine.at("etc/fileroom/admin.lock")
-    os.chmod(path, 0o644)
-    machine.does("user", "list")
-    tally.differs("who may have the lock", os.stat(path).st_mode & 0o777, 0o600)
-    os.remove(path)
-    machine.does("user", "list")
-    tally.differs("who may have a new one", os.stat(path).st_mode & 0o777, 0o600)
 
 
 def size_of_room(machine):
@@ -597,34 +468,12 @@ def install(machine, tally, top, program=PROGRAM):
     return os.path.join(top, "bin", "fileroom-admin")
 
 
-def two_versions(machine, tally, top):
-    """What is installed is of one version: the program, the client, the page, a unit, or `fileroom-admin` itself."""
-    installed = install(machine, tally, top)
-    machine.does("front", first=[installed])
-    tally.differs("as it was installed", machine.does("check", first=[installed])[0], 0)
-    for name in ("bin/fileroom", "share/fileroom/client/room_client/version.py", "share/fileroom/page/index.html",
-                 "lib/systemd/system/fileroom@.service", "share/fileroom/admin/fileroom_admin/places.py"):
-        path = os.path.join(top, name)
-        shutil.copy2(path, machine.folder)
-        with open(path, "a", encoding="utf-8") as file:
-            file.write("\n")
-        found = machine.does("check", first=[installed])
-        shutil.copy2(os.path.join(machine.folder, os.path.basename(name)), path)
-        tally.differs(f"another {name}", found[:2], (
-            1, f"not from the same installation: {name}\n    make install, of one version\n"))
-
-
-def sees(machine, tally, top, what, want):
-    """These are all that the installed `check` finds, with their remedies; `note: ..` is no finding."""
-    found = [it for it in want if not it.startswith("note: ")]
-    told = machine.does("check", first=[os.path.join(top, "bin", "fileroom-admin")])
-    tally.differs(what, told, (1 if found else 0, "".join(f"{it}\n" for it in want) + ("" if found else NOTHING), ""))
-
-
 def older_process(machine, tally, top):
     """A room's process runs what is installed: told where another program was installed since it began, and not where
     the same bytes were, or where no process is."""
     other, roster = os.path.join(machine.folder, "other"), machine.at("etc/fileroom/plans.toml")
+    installed = install(machine, tally, top)
+    machine.does("front", first=[installed])
     shutil.copy2(PROGRAM, other)
     with open(other, "ab") as file:
         file.write(b"\n")
@@ -637,7 +486,8 @@ def older_process(machine, tally, top):
 
     def looks(what, pid, *want, later=None):
         machine.shows(*(f"fileroom@plans MainPID={it}\n" for it in (pid, pid if later is None else later)))
-        sees(machine, tally, top, what, want)
+        told = machine.does("check", first=[installed])
+        tally.differs(what, told, (bool(want), "".join(f"{it}\n" for it in want) or NOTHING, ""))
 
     told = "plans: its process does not run the installed program\n    systemctl restart fileroom@plans"
     first = begin()
@@ -659,94 +509,12 @@ def older_process(machine, tally, top):
     first.wait()
 
 
-def other_units(machine, tally, top):
-    """What systemd takes in the place of an installed unit is told; a drop-in too, which is no finding."""
-    def hides(path):
-        return (f"{machine.at(path)} hides the installed unit\n    move it away, then systemctl daemon-reload and "
-                f"restart it; put your own lines into a drop-in: systemctl edit {os.path.basename(path)}")
-
-    def looks(what, folder, *want):
-        sees(machine, tally, top, what, want)
-        shutil.rmtree(machine.at(folder))
-
-    names = ["fileroom-backup@.service", "fileroom-backup@club.timer", "fileroom-ports.service", "fileroom@.service",
-             "fileroom@plans.service"]
-    for folder in "etc/systemd/system.control", "etc/systemd/system", "run/systemd/system", \
-            "usr/local/lib/systemd/system":
-        os.makedirs(machine.at(folder))
-        for it in names:
-            machine.write(f"{folder}/{it}", "[Service]\nExecStart=/bin/true\n")
-        looks(f"whole units in {folder}", folder, *(hides(f"{folder}/{it}") for it in names))
-    folder = "etc/systemd/system"
-    unit, at = f"{folder}/fileroom@plans.service", machine.at(f"{folder}/fileroom@plans.service")
-    own = os.path.join(top, "lib/systemd/system/fileroom@.service")
-    for what, make, want in (("a mask", lambda: os.symlink("/dev/null", at), [hides(unit)]),
-                             ("a copy, which the next version leaves", lambda: shutil.copy(own, at), [hides(unit)]),
-                             ("a link to the installed one", lambda: os.symlink(own, at), [])):
-        os.makedirs(machine.at(folder))
-        make()
-        looks(what, folder, *want)
-    for it in "fileroom@gone.service", "fileroom-copy.service", "fileroom-standby@.service":
-        os.makedirs(machine.at(folder), exist_ok=True)
-        machine.write(f"{folder}/{it}", "")
-    os.makedirs(machine.at(f"{folder}/multi-user.target.wants"))
-    os.symlink(own, machine.at(f"{folder}/multi-user.target.wants/fileroom@plans.service"))
-    looks("units that no room here has", folder)
-    for name in "fileroom@.service", "fileroom-backup@plans.timer":
-        os.makedirs(machine.at(f"{folder}/{name}.d"))
-        machine.write(f"{folder}/{name}.d/none.txt", "")
-        machine.write(f"{folder}/{name}.d/50-pacemaker.conf", "[Service]\nRestart=no\n")
-        sees(machine, tally, top, "a folder without a drop-in", [])
-        machine.write(f"{folder}/{name}.d/own.conf", "[Service]\nMemoryMax=2G\n")
-        note = (f"note: {machine.at(folder)}/{name}.d/own.conf changes the installed unit\n"
-                f"    if that is not intended: systemctl revert {name}")
-        sees(machine, tally, top, "a drop-in", [note])
-        machine.write(unit, "")
-        looks("a drop-in, and a unit", folder, hides(unit), note)
-    for it in "fileroom-ports.service", "fileroom@plans.service", "fileroom-backup@club.timer":
-        for word, want in ("no", []), ("yes", ["systemd has not reloaded the changed units\n"
-                                               "    systemctl daemon-reload; systemctl try-restart "
-                                               "fileroom@club fileroom@more fileroom@plans"]):
-            machine.shows(f"{it} NeedDaemonReload={word}\n{it} MainPID=0\n")
-            sees(machine, tally, top, f"{it}: NeedDaemonReload={word}", want)
-    machine.shows("")
-
-
-def a_standby(machine, tally, top):
-    """A room that other machines can take over has other units; `check` asks about it, and about no file elsewhere."""
-    installed = [os.path.join(top, "bin", "fileroom-admin")]
-    machine.write("etc/fileroom/plans.hosts", "10.77.0.1\n10.77.0.2\n10.77.0.3\n")
-    machine.told()
-    said = machine.does("user", "add", "plans", "sue", "eng")[1].splitlines()
-    tally.differs("what is to be copied", said[-1], "for the machines of plans: fileroom-standby copy plans | sh")
-    tally.differs("the standby's unit", machine.told(), ["systemctl try-restart fileroom-standby@plans"])
-    machine.does("front", first=installed)
-    tally.differs("nginx is the manager's", "systemctl try-restart nginx" in machine.told(), True)
-    os.chmod(machine.at("var/lib/fileroom/plans"), 0o755)
-    folder = machine.at("etc/systemd/system")
-    os.makedirs(folder)
-    for it in "", "-rejoin", "-standby":
-        os.symlink("/dev/null", os.path.join(folder, f"fileroom{it}@plans.service"))
-    shutil.rmtree(machine.at("var/backups/fileroom/plans"))
-    hidden = [f"{folder}/fileroom-{it}@plans.service hides the installed unit" for it in ("rejoin", "standby")]
-    runs = ["fileroom@plans runs though the room has a standby", "    systemctl disable --now fileroom@plans"]
-    # (on a machine where the room is not, neither front nor room runs)
-    for broken, found in ("", runs), ("nginx\nfileroom@plans", []):
-        machine.breaks(broken)
-        said = machine.does("check", first=installed)[1].splitlines()
-        tally.differs("what it asks", "fileroom-standby check plans" in machine.told(), True)
-        tally.differs("check of a standby", [it for it in said if not it.startswith("    move it away")], [
-            *hidden, *found, "plans: its standby is not as it must be", "    fileroom-standby check plans"])
-    machine.mended()
-
-
 def tried(folder, tally):
     """Returns what this machine lacks."""
     machine = Machine(folder)
-    a_front(machine, tally)
-    a_room(machine, tally)
-    users(machine, tally)
-    a_lock_of_roots(machine, tally)
+    machine.plays(tally, "rooms.txt")
+    passwords(machine, tally)
+    machine.plays(tally, "left.txt")
     in_the_way(machine, tally)
     trashes(machine, tally)
     faults_undo(machine, tally)
@@ -762,15 +530,7 @@ def tried(folder, tally):
     looked_at(machine, tally)
     lacking = disks(machine, tally)
     top = os.path.join(machine.folder, "usr")
-    for task in two_versions, older_process, other_units, a_standby:
-        task(machine, tally, top)
+    older_process(machine, tally, top)
+    machine.plays(tally, "units.txt")
     print(f"service: fileroom-admin, stopped at one in {EVERY} of {sum(steps)} steps")
     return lacking
-
-
-if __name__ == "__main__":
-    import tempfile
-    counts = Tally()
-    with tempfile.TemporaryDirectory() as made:
-        tried(made, counts)
-    counts.end()

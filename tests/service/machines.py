@@ -1,7 +1,8 @@
 """A machine below a folder of its own, for the scenes of `fileroom-admin`.
 
 What stands for systemctl, nft and setpriv writes down what it is asked; nginx looks at the very files, moved; program
-and openssl are the machine's. A room of it is served at its socket.
+and openssl are the machine's. A room of it is served at its socket. By itself this script says whether a password is
+that of the front's line: `machines.py USER PASSWORD`.
 """
 import base64
 import contextlib
@@ -17,8 +18,11 @@ import subprocess
 import sys
 import threading
 
+if __name__ == "__main__":
+    sys.path.insert(0, os.path.join(os.path.dirname(os.path.abspath(__file__)), ".."))
 from nginx import PATH
 from served import HERE, PROGRAM, Line, Room, free_port, session, slot, text_of
+from transcripts import as_told, by_shell, lines_of, scenes
 
 SERVICE = os.path.join(HERE, "..", "service")
 ADMIN = os.path.join(SERVICE, "admin", "fileroom-admin")
@@ -33,6 +37,7 @@ http {
 """
 LIBCRYPT = ctypes.CDLL("libcrypt.so.1")
 LIBCRYPT.crypt.restype = ctypes.c_char_p
+LOOKS = re.compile("systemctl (is-|show)|nft list")  # what is asked of them, and changes nothing
 TOLD = 'echo "$(basename "$0") $*" >>"$ROOT/../told"\n'
 STAND_INS = {
     "systemctl": TOLD + r"""if [ "$1" = show ]; then
@@ -45,6 +50,8 @@ if [ "$1" = is-failed ]; then grep -qsxF -- "failed ${@: -1}" "$ROOT/../broken";
     "setpriv": 'shift 4; exec "$@"',
     "nft": TOLD + '[ ! -e "$ROOT/../broken" ] || ! grep -qxF nft "$ROOT/../broken"',
     "room": 'exec "$FILEROOM" --version',
+    "fileroom-admin": f'umask 077; exec {sys.executable} -B {ADMIN} --root "$ROOT" "$@"',
+    "fits": f'exec {sys.executable} -B {os.path.abspath(__file__)} "$@"',
     "fileroom-standby": TOLD + "exit 1",
     # (the same files, with the root's folders in the place of the machine's, and ports that need no root)
     "nginx": """set -e
@@ -90,9 +97,22 @@ class Machine:
     def does(self, *words, stdin="", first=(), within=()):
         """Status, what is said, and what is told as a fault."""
         line = [*within, sys.executable, "-B", *(first or [ADMIN]), "--root", self.root, *words]
-        how = {"capture_output": True, "text": True, "env": self.env, "timeout": 60, "umask": 0o077}
+        how = {"capture_output": True, "text": True, "env": self.env, "timeout": 300, "umask": 0o077}
         done = subprocess.run(line, input=stdin, **how)
         return done.returncode, done.stdout, done.stderr
+
+    def plays(self, tally, name):
+        """Plays the scenes of a text of this folder (transcripts.py), each line by a shell in the root: behind what it
+        says stand what services are to do, and `changed` where it fails and a file is another."""
+        self.told()
+        for scene, typed in scenes(os.path.join(HERE, "service", name)).items():
+            for line, told in typed:
+                before = self.files()
+                status, *texts = by_shell(line.removeprefix("  $ "), self.root, **self.env)
+                said = lines_of(status, *(it.replace(self.root, "") for it in texts))
+                said += [f"* {it}" for it in self.told() if not LOOKS.match(it)]
+                said += ["changed"] * (status != 0 and before != self.files())
+                tally.differs(f"{scene}: {line}", said, as_told(said, told))
 
     def lacks(self, program):
         """From now on no program of this name is found (but in /usr/sbin, which is always looked in)."""
@@ -202,10 +222,19 @@ class Served:
 
 
 def fits(machine, user, word):
+    return fits_in(machine.root, user, word)
+
+
+def fits_in(root, user, word):
     """Whether a password is that of the front's line."""
-    line = next(it for it in text_of(machine.at("etc/nginx/fileroom/users")).splitlines() if it.startswith(f"{user}:"))
+    lines = text_of(os.path.join(root, "etc/nginx/fileroom/users")).splitlines()
+    line = next(it for it in lines if it.startswith(f"{user}:"))
     its_hash = line.partition(":")[2]
     if its_hash.startswith("{SSHA}"):
         both = base64.b64decode(its_hash.removeprefix("{SSHA}"))
         return hashlib.sha1(word.encode() + both[20:]).digest() == both[:20]
     return LIBCRYPT.crypt(word.encode(), its_hash.encode()).decode() == its_hash
+
+
+if __name__ == "__main__":
+    sys.exit(not fits_in(os.environ["ROOT"], *sys.argv[1:]))
