@@ -1,5 +1,5 @@
-"""When each version was first seen here: the room keeps no times, and file managers show one. It decides nothing, may be
-lost, and is told with a version's sum, so only to whom the room gave the bytes."""
+"""When each version was first seen here: the room keeps no times, and file managers show one. It decides nothing, may
+be lost, and is told with a version's sum, so only to whom the room gave the bytes."""
 import contextlib
 import os
 import sqlite3

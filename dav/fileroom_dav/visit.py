@@ -1,7 +1,7 @@
 """One request's way to a room: the caller's own login to the front, over its socket, in a session that is kept.
 
-What `room_client` has is used as it is. Other than at a desk are four things: the front is reached by a socket's path; a
-file is not flushed, since what a start of the machine ends is not late either, and another session begins then; what was
+What `room_client` has is used as it is. Four things differ from a desk: the front is reached by a socket's path; a file
+is not flushed, since what a start of the machine ends is not late either, and another session begins then; what was
 left pending is never done late; and a refusal by the front is known by its status.
 """
 import base64
@@ -192,7 +192,7 @@ class Visit(Room):
 
 
 def file_of_front(front: str, settings: Settings, pace: Pace, target: str) -> tuple[int, bytes]:
-    """What the front answers to a caller's own login, beside the rooms: asked for until it is answered, as a room is."""
+    """What the front answers to a caller's own login, beside the rooms: asked until it answers, as a room is."""
     line = line_to(front)(settings)
     try:
         return Slot(0, line, settings, None, pace, lambda _: None).until_answered("GET", target, "").status, line.text
