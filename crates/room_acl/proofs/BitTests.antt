@@ -7,7 +7,7 @@ use Rattle.std.specs.Int.{bit_at}
 use Rattle.std.proofs.lemmas.Nat.Bits.{and_pow, bit_at-lt, bit_at_and, bit_at_or, bit_at_xor, bit_at-zero}
 use Rattle.std.proofs.lemmas.Nat.Bits.{bit_at-pow_same, bit_at-pow_other, bit_at_above, same_from_bits}
 use Rattle.std.proofs.lemmas.Grind.{common_steps}
-use Rattle.std.proofs.lemmas.Bool.{cases_eq, cases_lt, eq-eqb, ne_eqb, agree_below_at, and_parts, ltb-true}
+use Rattle.std.proofs.lemmas.Bool.{cases_eq, cases_lt, eq-eqb, eqb-true, ne_eqb, agree_below_at, and_parts, ltb-true}
 use Rattle.room_acl.specs.Bits.{all_rights, has_bit, identifier_group, IsMask, named_bits, mask_of, mask_of_places}
 
 -- a bit is 0 or 1
@@ -124,16 +124,16 @@ and_again : (n a : Bool) → ((n && a) && n) ≡ (n && a)
 and_again n a = grind (arith, common_steps)
 
 pub IsMask-mask_of : (test : ℕ → Bool) → IsMask (mask_of test)
-IsMask-mask_of test = same_bits _ _ (λ bit.
+IsMask-mask_of test = eq-eqb _ _ (same_bits _ _ (λ bit.
     has_bit-and (mask_of test) all_rights bit
     ∙ ap (λ b. b && has_bit all_rights bit) (has_bit-mask_of test bit)
     ∙ and_again (has_bit all_rights bit) (test bit)
-    ∙ sym (has_bit-mask_of test bit))
+    ∙ sym (has_bit-mask_of test bit)))
 
 -- a mask has rights alone
 pub wanted_is_named : (wanted bit : ℕ) → IsMask wanted
     → has_bit wanted bit ≡ true → list_any (λ p. p == bit) named_bits ≡ true
 wanted_is_named wanted bit mask wants =
     let both : (has_bit wanted bit && has_bit all_rights bit) ≡ true =
-    sym (has_bit-and wanted all_rights bit) ∙ ap (λ n. has_bit n bit) mask ∙ wants in
+    sym (has_bit-and wanted all_rights bit) ∙ ap (λ n. has_bit n bit) (eqb-true _ _ mask) ∙ wants in
     named_is_mask bit ∙ (and_parts (has_bit wanted bit) (has_bit all_rights bit) both).1

@@ -1,6 +1,7 @@
 -- Flags with the mark cleared.
 use Rattle.std.proofs.Common.{◌≡◌, ℕ, ◌<◌, ap, sym, ◌∙◌, arith, bit_and, ◌==◌}
 use Rattle.std.proofs.lemmas.Grind.{common_steps}
+use Rattle.std.proofs.lemmas.Bool.{eq-eqb, eqb-true}
 use Rattle.std.proofs.lemmas.Nat.{and_assoc}
 use Rattle.room_acl.specs.Bits.{IsFlags, identifier_group, without_inherited}
 
@@ -13,7 +14,7 @@ pub cleared_are_flags : (f : ℕ) → IsFlags f → IsFlags (bit_and f 0x7F)
 cleared_are_flags f lawful =
     let one : bit_and (bit_and f 0x7F) 0xCF ≡ bit_and f 0x4F = and_assoc 0xCF f 0x7F in
     let two : bit_and (bit_and f 0xCF) 0x7F ≡ bit_and f 0x4F = and_assoc 0x7F f 0xCF in
-    one ∙ sym two ∙ ap (λ n. bit_and n 0x7F) lawful
+    eq-eqb _ _ (one ∙ sym two ∙ ap (λ n. bit_and n 0x7F) (eqb-true (bit_and f 0xCF) f lawful))
 
 -- and keep IDENTIFIER_GROUP
 pub cleared_group : (f : ℕ) → identifier_group (bit_and f 0x7F) ≡ identifier_group f

@@ -4,7 +4,7 @@ use Rattle.std.proofs.Common.{arith, inl, inr, List, [], ◌∷◌, drop, length
 use Rattle.std.specs.Prelude.{not, ◌&&◌, ◌||◌, cond, bit_and, bit_or, bit_xor, nat_lt}
 use Rattle.std.specs.List.{find}
 use Rattle.std.proofs.lemmas.List.{at_drop_more, drop_more, drop_all}
-use Rattle.std.proofs.lemmas.Bool.{ltb-true, agree_below_at, cases_Bool}
+use Rattle.std.proofs.lemmas.Bool.{eq-eqb, eqb-true, ltb-true, agree_below_at, cases_Bool}
 use Rattle.std.proofs.Math.Bool.{and-true}
 use Rattle.std.proofs.lemmas.Grind.{common_steps}
 use Rattle.std.proofs.lemmas.Nat.{one_shl}
@@ -78,12 +78,12 @@ within : (l u m : Bool) → (l && u) ≡ l → ((l && not m) && u) ≡ (l && not
 within l u m h = grind (arith, common_steps)
 
 pub IsMask-without : (left mask : ℕ) → IsMask left → IsMask (bit_xor left (bit_and left mask))
-IsMask-without left mask lawful = same_bits _ _ (λ bit.
+IsMask-without left mask lawful = eq-eqb _ _ (same_bits _ _ (λ bit.
     has_bit-and (bit_xor left (bit_and left mask)) all_rights bit
     ∙ ap (λ b. b && has_bit all_rights bit) (has_bit-without left mask bit)
     ∙ within (has_bit left bit) (has_bit all_rights bit) (has_bit mask bit)
-    (sym (has_bit-and left all_rights bit) ∙ ap (λ n. has_bit n bit) lawful)
-    ∙ sym (has_bit-without left mask bit))
+    (sym (has_bit-and left all_rights bit) ∙ ap (λ n. has_bit n bit) (eqb-true _ _ lawful))
+    ∙ sym (has_bit-without left mask bit)))
 
 -- two decisions agree that refuse the same bits
 pub same_decision : (a b : ℕ → Bool) → ((bit : ℕ) → a bit ≡ b bit)

@@ -5,7 +5,7 @@ use Rattle.std.specs.Prelude.{◌&&◌, ◌==◌, not, cond, bit_and, bit_or}
 use Rattle.std.specs.List.{list_all, AllByRecursion, cons_option}
 use Rattle.std.specs.Option.{option_map, option_map_or, option_and_then}
 use Rattle.std.proofs.lemmas.Grind.{common_steps}
-use Rattle.std.proofs.lemmas.Bool.{and_parts, eqb-true}
+use Rattle.std.proofs.lemmas.Bool.{and_parts}
 use Rattle.room_acl.specs.declared.subject.Kind.{Kind}
 use Rattle.room_acl.specs.declared.subject.Kind.TheVariants.{File, Folder}
 use Rattle.room_acl.specs.declared.who.Who.{Who}
@@ -140,7 +140,7 @@ IsGiven-from_keeps kind b flags given group is =
     (may_be_own kind (plain given) && cond b (identifier_group given) (not (identifier_group given))) one.1 in
     let three = and_parts (may_be_own kind (plain given))
     (cond b (identifier_group given) (not (identifier_group given))) two.1 in
-    record { are_flags = eqb-true _ _ one.0; marked = two.0; own = three.0; group = same_group b _ _ group three.1 }
+    record { are_flags = one.0; marked = two.0; own = three.0; group = same_group b _ _ group three.1 }
 
 pub is_given : (kind : Kind) (flags given : ℕ) → flags_with_group kind flags ≡ Some given → IsGiven kind flags given
 is_given kind flags given found =

@@ -1,5 +1,6 @@
 -- The rights of a mask, the flags of an entry, and the flags of a list.
-use Rattle.std.specs.Prelude.{◌≡◌, ◌≤◌, ℕ, ◌+◌, ◌-◌, ◌^◌, Bool, not, ◌&&◌, cond, List, [], ◌∷◌, ◌==◌, bit_and, bit_or}
+use Rattle.std.specs.Prelude.{◌≤◌, ℕ, ◌+◌, ◌-◌, ◌^◌, Bool, IsTrue, not, ◌&&◌, cond, List, [], ◌∷◌, ◌==◌}
+use Rattle.std.specs.Prelude.{bit_and, bit_or}
 use Rattle.std.specs.Int.{bit_at}
 
 -- the sixteen rights, as masks (RFC 8881, section 6.2.1.3). Three have one name for a file and one for a folder
@@ -80,8 +81,11 @@ owner_rights = read_acl + write_acl
 abbrev pub named_bits : List ℕ
 named_bits = 0 ∷ 1 ∷ 2 ∷ 3 ∷ 4 ∷ 5 ∷ 6 ∷ 7 ∷ 8 ∷ 9 ∷ 10 ∷ 16 ∷ 17 ∷ 18 ∷ 19 ∷ 20 ∷ []
 
+abbrev pub is_mask : ℕ → Bool
+is_mask bits = bit_and bits all_rights == bits
+
 abbrev pub IsMask : ℕ → Type 0
-IsMask bits = bit_and bits all_rights ≡ bits
+IsMask bits = IsTrue (is_mask bits)
 
 -- the flags of an entry (RFC 8881, section 6.2.1.4), but for the two that are for auditing
 abbrev pub file_inherit_flag : ℕ
@@ -115,8 +119,11 @@ inheritance_flags = file_inherit_flag + directory_inherit_flag + no_propagate_fl
 abbrev pub all_flags : ℕ
 all_flags = inheritance_flags + identifier_group_flag + inherited_flag
 
+abbrev pub is_flags : ℕ → Bool
+is_flags bits = bit_and bits all_flags == bits
+
 abbrev pub IsFlags : ℕ → Type 0
-IsFlags bits = bit_and bits all_flags ≡ bits
+IsFlags bits = IsTrue (is_flags bits)
 
 -- the flags of a whole list (RFC 8881, section 6.4.3.2)
 abbrev pub no_list_flags : ℕ

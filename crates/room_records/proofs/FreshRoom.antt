@@ -11,6 +11,7 @@ use Rattle.room_records.specs.Rules.{ObjectRules}
 use Rattle.room_records.specs.Room.{Object, IsRoom, fresh_object, fresh_room, fresh_entries, object_at, children}
 use Rattle.room_records.specs.Representation.{RepresentsRoom, NodeIsObject}
 use Rattle.room_records.proofs.RoomsMap.{some_is, none_is_some}
+use Rattle.room_records.proofs.PathParts.{root_is_path}
 
 module _ (owner group : List ℕ) where
   abbrev pub root_object : Object
@@ -28,7 +29,7 @@ module _ (owner group : List ℕ) where
     root = (root_object, refl, refl);
     parents = λ path name o e. absurd (none_is_some o (rw (not_root path name) at e));
     once = (
-      record { short = omega arith; names = tt },
+      root_is_path,
       record { few_entries = omega arith; own_entries = refl; small = omega arith; folder = λ _. refl },
       refl,
       tt,

@@ -10,6 +10,7 @@ pub mod Untouched
 pub mod Changes
 pub mod Shelves
 pub mod Rosters
+pub mod PathParts
 pub mod PathTexts
 pub mod FreshRoom
 pub mod FreshRows

@@ -6,6 +6,7 @@ use Rattle.std.proofs.lemmas.Bool.{and_parts, not-true}
 use Rattle.std.proofs.lemmas.List.{append-nil}
 use Rattle.std.proofs.lemmas.List.Splits.{join_with_byte-slice_split}
 use Rattle.room_records.specs.Names.{Name, Path, IsFileName, IsPath, path_text, is_name_byte}
+use Rattle.room_records.proofs.PathParts.{name_parts, path_parts}
 
 abbrev is_slash : ℕ → Bool
 is_slash b = b == 47
@@ -26,7 +27,7 @@ pub parts_of_path : (path : Path) → AllByRecursion IsFileName path
 parts_of_path [] names = refl
 parts_of_path (name ∷ path) names =
     ap (λ parts. [] ∷ parts)
-    (part_before name (flat_map (λ n. 47 ∷ n) path) path names.0.bytes (parts_of_path path names.1))
+    (part_before name (flat_map (λ n. 47 ∷ n) path) path (name_parts name names.0).bytes (parts_of_path path names.1))
 
 joined : (name : Name) (path : Path) → join_with_byte 47 (name ∷ path) ≡ name ++ flat_map (λ n. 47 ∷ n) path
 joined name [] = sym (append-nil name)
@@ -40,7 +41,15 @@ text_of_parts text name path parts =
 
 pub path_of_parts : (text : List ℕ) (name : Name) (path : Path) → IsPath (name ∷ path)
     → path_text (name ∷ path) ≡ text → slice_split is_slash text ≡ [] ∷ name ∷ path
-path_of_parts text name path lawful is = ap (slice_split is_slash) (sym is) ∙ parts_of_path (name ∷ path) lawful.names
+path_of_parts text name path lawful is =
+    ap (slice_split is_slash) (sym is) ∙ parts_of_path (name ∷ path) (path_parts (name ∷ path) lawful).names
+
+-- no other path has the root's text
+pub only_root : (path : Path) → IsPath path → path_text path ≡ 47 ∷ [] → path ≡ []
+only_root [] lawful is = refl
+only_root ([] ∷ path) lawful is =
+    let some = (name_parts [] (path_parts ([] ∷ path) lawful).names.0).some in absurd (omega arith)
+only_root ((b ∷ name) ∷ path) lawful is = absurd cc
 
 -- the parts of a text that is a path's, other than the root's
 pub record ArePathParts (front : Name) (rest : List Name) (path : Path) : Type 0 where

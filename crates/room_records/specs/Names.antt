@@ -1,10 +1,10 @@
 -- File names, paths and session names.
-use Rattle.std.specs.Prelude.{ℕ, ◌≤◌, Bool, not, ◌&&◌, ◌||◌, ◌==◌, List, [], ◌∷◌, length, IsTrue, nat_le}
-use Rattle.std.specs.List.{list_all, flat_map, AllByRecursion}
+use Rattle.std.specs.Prelude.{ℕ, Bool, not, ◌&&◌, ◌||◌, ◌==◌, List, [], ◌∷◌, length, IsTrue, nat_le, codes}
+use Rattle.std.specs.List.{list_all, flat_map}
 use Rattle.std.specs.declared.cmp.Ordering.{Ordering}
 use Rattle.std.specs.Ordering.{nat_cmp}
 use Rattle.std.specs.Cmp.Lexicographic.{slice_cmp, pointwise}
-use Rattle.std.specs.Str.{bytes_eq, IsUtf8}
+use Rattle.std.specs.Str.{bytes_eq, is_utf8}
 use Rattle.room_records.specs.Limits.{max_names, max_name_bytes, sid_bytes}
 
 abbrev pub Name : Type 0
@@ -30,16 +30,19 @@ abbrev pub is_name_byte : ℕ → Bool
 is_name_byte b = nat_le 32 b && (not (b == 47) && not (b == 127))
 
 -- 1 to 64 bytes of UTF-8 without / and controls, and neither . nor ..
-pub record IsFileName (name : Name) : Type 0 where
-  pub text : IsUtf8 name
-  pub some : 1 ≤ length name
-  pub short : length name ≤ max_name_bytes
-  pub bytes : IsTrue (list_all is_name_byte name)
-  pub no_dots : IsTrue (not (bytes_eq name (46 ∷ [])) && not (bytes_eq name (46 ∷ 46 ∷ [])))
+unfoldable pub is_file_name : Name → Bool
+is_file_name name =
+    is_utf8 name && (nat_le 1 (length name) && (nat_le (length name) max_name_bytes && (list_all is_name_byte name
+    && (not (bytes_eq name (codes ".")) && not (bytes_eq name (codes ".."))))))
 
-pub record IsPath (path : Path) : Type 0 where
-  pub short : length path ≤ max_names
-  pub names : AllByRecursion IsFileName path
+abbrev pub IsFileName : Name → Type 0
+IsFileName name = IsTrue (is_file_name name)
+
+unfoldable pub is_path : Path → Bool
+is_path path = nat_le (length path) max_names && list_all is_file_name path
+
+abbrev pub IsPath : Path → Type 0
+IsPath path = IsTrue (is_path path)
 
 abbrev pub path_text : Path → List ℕ
 path_text [] = 47 ∷ []

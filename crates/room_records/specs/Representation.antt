@@ -1,6 +1,5 @@
 -- Rows that stand for a room.
 use Rattle.std.specs.Prelude.{◌≡◌, ℕ, ◌+◌, List, [], ◌∷◌, reverse, Option, None, Some, unwrap_or}
-use Rattle.room_acl.specs.Entries.{EntryModel}
 use Rattle.room_records.specs.declared.node.Node.{Node}
 use Rattle.room_records.specs.Names.{Name, Path}
 use Rattle.room_records.specs.Records.{ObjectRecords, root_number}
@@ -17,16 +16,13 @@ NamesUpwards t (name ∷ above) id =
 abbrev pub HasPath : ObjectRecords → Path → ℕ → Type 0
 HasPath t path id = NamesUpwards t (reverse path) id
 
--- which entries the rows hold of an object: its whole list
-abbrev pub stored_entries : Room → Path → List EntryModel
-stored_entries room path = list_of room path
-
 pub record RowsShowObject (t : ObjectRecords) (node : Node) (room : Room) (path : Path) (o : Object) : Type 0 where
   pub kind : node.kind ≡ o.kind
   pub owner : node.owner ≡ o.owner
   pub group : node.group ≡ o.group
   pub aclflag : node.aclflag ≡ o.aclflag
-  pub entries : t.entries node.id ≡ stored_entries room path
+  -- the whole list
+  pub entries : t.entries node.id ≡ list_of room path
   pub bytes : unwrap_or (t.document node.id) [] ≡ o.bytes
 
 pub record NodeIsObject (t : ObjectRecords) (room : Room) (id : ℕ)

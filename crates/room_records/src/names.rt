@@ -4,7 +4,8 @@ ghost use Rattle.std.specs.Prelude.{take, [], ◌∷◌, string_bytes};
 ghost use Rattle.std.specs.Prelude.{◌==◌};
 ghost use Rattle.std.specs.List.{list_all, slice_split, flat_map};
 ghost use Rattle.room_records.specs.Limits.{IsSlotCount};
-ghost use Rattle.room_records.specs.Names.{IsFileName, IsPath, path_text, is_sid, is_name_byte, is_hex_digit};
+ghost use Rattle.room_records.specs.Names.{IsFileName, is_file_name, IsPath, path_text, is_sid, is_name_byte};
+ghost use Rattle.room_records.specs.Names.{is_hex_digit};
 
 use crate::limits::{MAX_NAME_BYTES, MAX_NAMES, MAX_SLOTS, SID_BYTES};
 use std::alloc::{AllocError, Global};
@@ -57,7 +58,7 @@ impl FileName {
 }
 
 fn is_file_name(text: &str) -> bool
-    ensures { IsTrue result ↔ IsFileName text.now }
+    ensures { result ≡ is_file_name text.now }
 {
     let bytes = text.as_bytes();
     1 <= bytes.len()

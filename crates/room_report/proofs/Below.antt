@@ -22,6 +22,7 @@ use Rattle.room_records.proofs.Paths.{child_is_at, object_at_node}
 use Rattle.room_records.proofs.Folders.{child_named, object_child}
 use Rattle.room_records.proofs.RoomsMap.{some_is, none_is_some, path_itself, StandsIn, found_stands, standing_found}
 use Rattle.room_records.proofs.RoomsMap.{nothing_below, nothing_in_a_file, path_of_object}
+use Rattle.room_records.proofs.PathParts.{path_parts}
 use Rattle.room_report.specs.declared.lines.Report.{Report}
 use Rattle.room_report.specs.Lines.{in_path_order}
 use Rattle.room_report.specs.Walk.{is_front, objects_below, text_below, lines_of}
@@ -237,7 +238,7 @@ module _ (t : ObjectRecords) (room : Room) (stand : RepresentsRoom t room)
   pub none_below_the_longest : max_names ≤ length path → AreChildren t id []
   none_below_the_longest long = no_children (λ node child.
       let found = child_object node child in
-      let lawful = path_of_object room stand.lawful (path ++ name_of node ∷ []) found.0 found.1 in
+      let lawful = path_parts _ (path_of_object room stand.lawful (path ++ name_of node ∷ []) found.0 found.1) in
       omega (arith, long, lawful.short, length_push path (name_of node)))
 
   module _ (o : Object) (there : object_at room path ≡ Some o) (nodes : List Node) (are : AreChildren t id nodes) where

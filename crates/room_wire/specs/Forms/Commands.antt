@@ -1,17 +1,15 @@
 -- Commands out of bodies: the member cmd names the command, and the other members are its parts.
-use Rattle.std.specs.Prelude.{◌≡◌, ℕ, ◌+◌, ◌==◌, ◌&&◌, Bool, true, not, nat_le, List, [], length, drop}
+use Rattle.std.specs.Prelude.{◌≡◌, ℕ, ◌+◌, ◌==◌, ◌&&◌, Bool, true, nat_le, List, [], drop}
 use Rattle.std.specs.Prelude.{Option, None, Some}
 use Rattle.std.specs.Prelude.{Result, Ok, Err, if◌then◌else◌, option_and_then, option_map, codes, bytes_eq}
-use Rattle.std.specs.List.{list_all, slice_split}
+use Rattle.std.specs.List.{slice_split}
 use Rattle.std.specs.Option.{option_len, option_map_or, option_zip}
-use Rattle.std.specs.Str.{is_utf8}
 use Rattle.serde_json.specs.Data.{Data}
 use Rattle.serde_json.specs.Find.{get, as_bool}
 use Rattle.base64.specs.Engines.{standard}
 use Rattle.base64.specs.GeneralPurpose.{decoded_of}
 use Rattle.room_acl.specs.Bits.{all_list_flags}
-use Rattle.room_records.specs.Limits.{max_names, max_name_bytes}
-use Rattle.room_records.specs.Names.{Name, Path, is_name_byte, path_text}
+use Rattle.room_records.specs.Names.{Path, is_path, path_text}
 use Rattle.room_commands.specs.declared.command.Command.{Command}
 use Rattle.room_commands.specs.CommandModel.{CommandModel, command_model}
 use Rattle.room_commands.specs.CommandModel as C
@@ -25,14 +23,6 @@ use Rattle.room_wire.specs.declared.fault.WireFault.{WireFault}
 use Rattle.room_wire.specs.declared.fault.WireFault.TheVariants.{BadRoute, UnknownUser, BadRequest, Memory}
 use Rattle.room_wire.specs.Forms.Reading.{has_count, json_of, number_at, text_at, entry_in, all_at, principal_at}
 use Rattle.room_wire.specs.Forms.Reading.{mask_at}
-
-abbrev pub is_file_name : Name → Bool
-is_file_name name =
-    is_utf8 name && (nat_le 1 (length name) && (nat_le (length name) max_name_bytes && (list_all is_name_byte name
-    && (not (bytes_eq name (codes ".")) && not (bytes_eq name (codes ".."))))))
-
-abbrev pub is_path : Path → Bool
-is_path path = nat_le (length path) max_names && list_all is_file_name path
 
 -- what stands after the slashes of a text; the root has no names
 abbrev pub names_in : List ℕ → Path

@@ -1,6 +1,6 @@
 -- Readers of the members of JSON values: numbers, texts, principals, masks, flags, kinds and entries.
-use Rattle.std.specs.Prelude.{ℕ, ◌+◌, ◌^◌, Bool, true, false, ◌&&◌, ◌==◌, nat_lt, List, [], ◌∷◌, Option, None, Some}
-use Rattle.std.specs.Prelude.{if◌then◌else◌, option_and_then, option_map, codes, bit_and, bytes_eq}
+use Rattle.std.specs.Prelude.{ℕ, ◌+◌, Bool, true, false, ◌==◌, List, [], ◌∷◌, Option, None, Some}
+use Rattle.std.specs.Prelude.{if◌then◌else◌, option_and_then, option_map, codes, bytes_eq}
 use Rattle.std.specs.Option.{option_map_or, option_zip}
 use Rattle.std.specs.Str.{is_utf8}
 use Rattle.serde_json.specs.Data.{Data, Items, Members, no_items, item, no_members, member}
@@ -8,7 +8,7 @@ use Rattle.serde_json.specs.Find.{get, as_number, as_u64, as_str, as_array, as_o
 use Rattle.serde_json.specs.Read.{read}
 use Rattle.room_acl.specs.declared.subject.Kind.{Kind}
 use Rattle.room_acl.specs.declared.subject.Kind.TheVariants.{File, Folder}
-use Rattle.room_acl.specs.Bits.{all_rights, all_flags}
+use Rattle.room_acl.specs.Bits.{is_mask, is_flags}
 pub use Rattle.room_acl.specs.Principals.{is_principal, principal_from}
 use Rattle.room_acl.specs.Entries.{EntryModel}
 pub use Rattle.room_acl.specs.Entries.{named_who, who_from}
@@ -32,10 +32,10 @@ abbrev pub text_at : List ℕ → Data → Option (List ℕ)
 text_at name d = option_and_then as_str (get name d)
 
 abbrev pub mask_from : ℕ → Option ℕ
-mask_from n = if nat_lt n (2 ^ 32) && (bit_and n all_rights == n) then Some n else None
+mask_from n = if is_mask n then Some n else None
 
 abbrev pub flags_from : ℕ → Option ℕ
-flags_from n = if nat_lt n 256 && (bit_and n all_flags == n) then Some n else None
+flags_from n = if is_flags n then Some n else None
 
 abbrev pub mask_at : List ℕ → Data → Option ℕ
 mask_at name d = option_and_then mask_from (number_at name d)
@@ -52,14 +52,14 @@ abbrev pub allow_from : ℕ → Option Bool
 allow_from n = if n == 0 then Some true else (if n == 1 then Some false else None)
 
 -- the entry of these flags and this mask, which allows or not, and of the text of whom it is for
-abbrev pub entry_of : ℕ × (ℕ × (Bool × List ℕ)) → Option EntryModel
-entry_of (flags, (mask, (allow, text))) =
+abbrev pub entry_from : ℕ × (ℕ × (Bool × List ℕ)) → Option EntryModel
+entry_from (flags, (mask, (allow, text))) =
     option_map (λ who. record { allow = allow; flags = flags; mask = mask; who = who }) (who_from flags text)
 
 abbrev pub entry_in : Data → Option EntryModel
 entry_in d =
-    if has_count 4 d then option_and_then entry_of (option_zip (option_and_then flags_from (number_at (codes "flag") d))
-    (option_zip (mask_at (codes "mask") d)
+    if has_count 4 d then option_and_then entry_from
+    (option_zip (option_and_then flags_from (number_at (codes "flag") d)) (option_zip (mask_at (codes "mask") d)
     (option_zip (option_and_then allow_from (number_at (codes "type") d)) (text_at (codes "who") d))))
     else None
 

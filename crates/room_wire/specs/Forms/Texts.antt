@@ -110,7 +110,7 @@ ok = (codes "code", num 0)
 abbrev pub reply_data : ReplyModel → Data
 reply_data T.Done = obj (ok ∷ [])
 reply_data (T.Opened slots) = obj (ok ∷ (codes "slots", num slots) ∷ [])
-reply_data (T.Stat f) =
+reply_data (T.About f) =
     obj ((codes "aclflag", num f.aclflag) ∷ ok ∷ (codes "group", string f.group) ∷ (codes "kind", kind f.kind)
     ∷ (codes "owner", string f.owner) ∷ (codes "size", num f.size) ∷ [])
 reply_data (T.Names ns) = obj (ok ∷ (codes "names", array (named ns)) ∷ [])
@@ -118,7 +118,7 @@ reply_data (T.Size n) = obj (ok ∷ (codes "size", num n) ∷ [])
 reply_data (T.Bytes b) = obj (ok ∷ (codes "data", bytes b) ∷ [])
 reply_data (T.Entries flags es) = obj ((codes "aclflag", num flags) ∷ ok ∷ (codes "entries", array (entries es)) ∷ [])
 reply_data (T.Allowed mask) = obj ((codes "allowed", num mask) ∷ ok ∷ [])
-reply_data (T.Refused r) = refusal_data r.code r.place
+reply_data (T.NotDone r) = refusal_data r.code r.place
 
 abbrev pub reply_text : ReplyModel → List ℕ
 reply_text t = compact_text (reply_data t)

@@ -15,6 +15,7 @@ use Rattle.std.proofs.lemmas.Str.Parse.{IsNumeralModel, numerals_by_value, parse
 use Rattle.room_acl.specs.Principals.{is_principal_byte}
 use Rattle.room_wire.specs.Asks.AskOf.{is_number, number_from}
 use Rattle.room_wire.specs.Forms.Reading.{is_principal, principal_from}
+use Rattle.room_wire.proofs.Lemmas.Forms.CommandParts.{principal_bytes}
 
 abbrev AreDigits : List ℕ → Type 0
 AreDigits ds = list_all is_ascii_digit ds ≡ true
@@ -65,9 +66,7 @@ ascii_name (b ∷ text) h =
 
 principal_by : (text : List ℕ) (b : Bool) → is_principal text ≡ b → ¬ (IsUtf8 text) → principal_from text ≡ None
 principal_by text true h other =
-    let outer = and_parts (nat_le 1 (length text)) (nat_le (length text) 32 && list_all is_principal_byte text) h in
-    let inner = and_parts (nat_le (length text) 32) (list_all is_principal_byte text) outer.1 in
-    absurd (other (IsUtf8-from_ascii text (ascii_name text inner.1)))
+    absurd (other (IsUtf8-from_ascii text (ascii_name text (principal_bytes text h))))
 principal_by text false h other = ap (λ b. cond b (Some text) None) h
 
 -- a text that is not UTF-8 names no principal

@@ -32,6 +32,8 @@ use Rattle.room_wire.specs.declared.forms.commands.PathVerb.TheVariants as P
 use Rattle.room_wire.proofs.Lemmas.Forms.Bodies.{json_some}
 use Rattle.room_wire.proofs.Lemmas.Forms.CommandBytes.{bytes_back}
 use Rattle.room_wire.proofs.Lemmas.Forms.CommandParts.{path_back, list_flags_back, flags_small, mask_small, mask_back}
+use Rattle.room_wire.proofs.Lemmas.Forms.CommandParts.{principal_bytes}
+use Rattle.room_records.proofs.PathParts.{name_parts, path_parts}
 use Rattle.room_wire.proofs.Lemmas.Forms.CommandParts.{principal_back, entries_back}
 use Rattle.room_wire.proofs.Lemmas.Forms.CommandTexts.{ReadsBack, text_reads, number_back, put_all, object_back}
 use Rattle.room_wire.proofs.Lemmas.Forms.CommandTexts.{item_back}
@@ -169,11 +171,12 @@ command_reads (C.Access mask p) h =
 names_utf8 : (path : Path) → AllByRecursion IsFileName path → IsUtf8 (flat_map (λ n. 47 ∷ n) path)
 names_utf8 [] h = IsUtf8-nil
 names_utf8 (name ∷ path) h =
-    IsUtf8-append (47 ∷ name) _ (one_then 47 name (IsUtf8-are_ascii _ refl) h.0.text) (names_utf8 path h.1)
+    IsUtf8-append (47 ∷ name) _ (one_then 47 name (IsUtf8-are_ascii _ refl) (name_parts name h.0).text)
+    (names_utf8 path h.1)
 
 path_utf8 : (path : Path) → IsPath path → IsUtf8 (path_text path)
 path_utf8 [] h = IsUtf8-are_ascii _ refl
-path_utf8 (name ∷ path) h = names_utf8 (name ∷ path) h.names
+path_utf8 (name ∷ path) h = names_utf8 (name ∷ path) (path_parts (name ∷ path) h).names
 
 at_utf8 : (path : Path) → IsPath path → MembersHaveUtf8 (members (at path ∷ []))
 at_utf8 path h = (IsUtf8-are_ascii (codes "path") refl, path_utf8 path h, tt)
@@ -187,7 +190,7 @@ all_ascii (b ∷ text) h = let p = and_parts (is_principal_byte b) _ h in
     and_from _ _ (byte_ascii b p.0) (all_ascii text p.1)
 
 principal_utf8 : (text : List ℕ) → IsPrincipal text → IsUtf8 text
-principal_utf8 text h = IsUtf8-are_ascii text (all_ascii text h.2)
+principal_utf8 text h = IsUtf8-are_ascii text (all_ascii text (principal_bytes text h))
 
 bytes_utf8 : (b : List ℕ) → IsUtf8 (encode_of standard b)
 bytes_utf8 b = IsUtf8-from_ascii _ (IsAscii-encode_of standard b)

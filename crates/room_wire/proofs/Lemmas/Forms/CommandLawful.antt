@@ -1,10 +1,10 @@
 -- A command that a body asks is lawful, where its bytes are bytes.
-use Rattle.std.proofs.Common.{◌≡◌, ◌^◌, ℕ, suc, Bool, true, false, ◌&&◌, List, [], ◌∷◌, length, get_or, cond, refl}
+use Rattle.std.proofs.Common.{◌≡◌, ℕ, suc, Bool, true, false, List, [], ◌∷◌, get_or, cond, refl}
 use Rattle.std.proofs.Common.{sym, ap, subst, arith, Option, None, Some, codes, Fits, w8}
-use Rattle.std.specs.Prelude.{IsTrue, not, nat_le, nat_lt, ◌==◌, bytes_eq, bit_and, option_map, option_and_then}
-use Rattle.std.specs.List.{list_all, AllByRecursion}
+use Rattle.std.specs.Prelude.{IsTrue, not, nat_le, bytes_eq, option_map, option_and_then}
+use Rattle.std.specs.List.{AllByRecursion}
 use Rattle.std.specs.Option.{option_zip}
-use Rattle.std.proofs.lemmas.Bool.{and_parts, leb-true, eqb-true}
+use Rattle.std.proofs.lemmas.Bool.{leb-true}
 use Rattle.std.proofs.lemmas.Option.{cond_some, same_Some, option_and_then_some}
 use Rattle.serde_json.specs.Data.{Data, Items, no_items, item}
 use Rattle.serde_json.specs.Find.{as_array, get}
@@ -12,16 +12,16 @@ use Rattle.base64.specs.Engines.{standard}
 use Rattle.base64.specs.GeneralPurpose.{decoded_of}
 use Rattle.room_acl.specs.declared.who.Who.{Who}
 use Rattle.room_acl.specs.declared.who.Who.TheVariants.{Owner, Group, Everyone, User, Members}
-use Rattle.room_acl.specs.Bits.{IsFlags, IsListFlags, IsMask, all_list_flags, identifier_group}
+use Rattle.room_acl.specs.Bits.{is_flags, IsFlags, IsListFlags, is_mask, IsMask, all_list_flags, identifier_group}
 use Rattle.room_acl.specs.Entries.{EntryModel, names_its_kind}
-use Rattle.room_acl.specs.Principals.{IsPrincipal, is_principal_byte}
+use Rattle.room_acl.specs.Principals.{IsPrincipal}
 use Rattle.room_records.specs.Names.{Path, IsPath}
 use Rattle.room_commands.specs.CommandModel.{CommandModel}
 use Rattle.room_commands.specs.CommandModel as C
 use Rattle.room_commands.specs.Lawful.{AreBytes, IsWho, IsEntry, IsLawful}
 use Rattle.room_wire.specs.Forms.Reading.{has_count, json_of, number_at, text_at, mask_from, mask_at, flags_from}
 use Rattle.room_wire.specs.Forms.Reading.{allow_from, is_principal, principal_from, principal_at, named_who, who_from}
-use Rattle.room_wire.specs.Forms.Reading.{entry_of, entry_in, all_among, all_at}
+use Rattle.room_wire.specs.Forms.Reading.{entry_from, entry_in, all_among, all_at}
 use Rattle.room_wire.specs.Forms.Commands.{path_from, path_at, list_flags_from, verb_from, of_path, of_bytes, has_parts}
 use Rattle.room_wire.specs.Forms.Commands.{verb_command, command_in, keep_at, asked_in, command_of_body, bytes_in}
 use Rattle.room_wire.specs.declared.forms.commands.PathVerb.{PathVerb}
@@ -56,21 +56,15 @@ zip_parts {A} {B} (Some x) (Some y) both e =
 
 principal_fact : (text name : List ℕ) → principal_from text ≡ Some name → IsPrincipal name
 principal_fact text name e =
-    let parts = cond_some (is_principal text) text name e in
-    let a = and_parts (nat_le 1 (length text)) (nat_le (length text) 32 && list_all is_principal_byte text) parts.0 in
-    let b = and_parts (nat_le (length text) 32) (list_all is_principal_byte text) a.1 in
-    subst IsPrincipal parts.1 (leb-true 1 (length text) a.0, leb-true (length text) 32 b.0, b.1)
+    let parts = cond_some (is_principal text) text name e in subst IsPrincipal parts.1 parts.0
 
 flags_fact : (n flags : ℕ) → flags_from n ≡ Some flags → IsFlags flags
 flags_fact n flags e =
-    let parts = cond_some (nat_lt n 256 && (bit_and n 0xCF == n)) n flags e in
-    subst IsFlags parts.1 (eqb-true (bit_and n 0xCF) n (and_parts (nat_lt n 256) (bit_and n 0xCF == n) parts.0).1)
+    let parts = cond_some (is_flags n) n flags e in subst IsFlags parts.1 parts.0
 
 mask_fact : (n mask : ℕ) → mask_from n ≡ Some mask → IsMask mask
 mask_fact n mask e =
-    let parts = cond_some (nat_lt n (2 ^ 32) && (bit_and n 0x1F07FF == n)) n mask e in
-    subst IsMask parts.1
-    (eqb-true (bit_and n 0x1F07FF) n (and_parts (nat_lt n (2 ^ 32)) (bit_and n 0x1F07FF == n) parts.0).1)
+    let parts = cond_some (is_mask n) n mask e in subst IsMask parts.1 parts.0
 
 list_flags_fact : (n flags : ℕ) → list_flags_from n ≡ Some flags → IsListFlags flags
 list_flags_fact n flags e = let parts = cond_some (nat_le n all_list_flags) n flags e in
@@ -125,7 +119,7 @@ entry_fact d e made =
     let flags = option_and_then flags_from (number_at (codes "flag") d) in
     let rest = option_zip (option_and_then allow_from (number_at (codes "type") d)) (text_at (codes "who") d) in
     let later = option_zip (mask_at (codes "mask") d) rest in
-    option_and_then_some entry_of (option_zip flags later) e (then_some (has_count 4 d) _ e made) (λ it is of.
+    option_and_then_some entry_from (option_zip flags later) e (then_some (has_count 4 d) _ e made) (λ it is of.
     let parts = zip_parts flags later it is in
     let more = zip_parts (mask_at (codes "mask") d) rest it.1 parts.1 in
     map_some (λ who. record { flags = it.0; mask = it.1.0; allow = it.1.1.0; who = who })

@@ -1,10 +1,10 @@
 -- What is written for a lawful part of a command is read as that part.
 use Rattle.std.proofs.Common.{◌≡◌, ◌<◌, ◌^◌, ℕ, Bool, true, false, List, [], ◌∷◌, length, cond, refl, sym, ap}
 use Rattle.std.proofs.Common.{◌∙◌, arith, None, Some, codes}
-use Rattle.std.specs.Prelude.{IsTrue, not, bytes_eq, bit_and, option_map, option_and_then}
+use Rattle.std.specs.Prelude.{IsTrue, ◌&&◌, nat_le, not, bytes_eq, bit_and, option_map, option_and_then}
 use Rattle.std.specs.List.{list_all, AllByRecursion}
 use Rattle.std.specs.Option.{option_zip}
-use Rattle.std.proofs.lemmas.Bool.{and_from, le-leb, lt-ltb, eq-eqb, false_from_ne_true, true≢false}
+use Rattle.std.proofs.lemmas.Bool.{and_parts, le-leb, eqb-true, false_from_ne_true, true≢false}
 use Rattle.std.proofs.lemmas.Nat.{and_le_r}
 use Rattle.std.proofs.lemmas.Slice.Eq.{bytes_eq-Decides}
 use Rattle.serde_json.specs.Find.{as_number, as_u64}
@@ -17,7 +17,7 @@ use Rattle.room_records.specs.Names.{Path, IsPath, path_text}
 use Rattle.room_commands.specs.Lawful.{IsWho, IsEntry}
 use Rattle.room_wire.specs.Forms.Texts.{who_text, entry_type, entry, entries}
 use Rattle.room_wire.specs.Forms.Reading.{flags_from, mask_from, allow_from, principal_from, named_who, who_from}
-use Rattle.room_wire.specs.Forms.Reading.{entry_of, entry_in, all_among}
+use Rattle.room_wire.specs.Forms.Reading.{entry_from, entry_in, all_among}
 use Rattle.room_wire.specs.Forms.Commands.{path_from, list_flags_from}
 use Rattle.room_wire.proofs.Lemmas.Forms.CommandPaths.{path_of_text}
 
@@ -28,30 +28,34 @@ pub list_flags_back : (n : ℕ) → IsListFlags n → list_flags_from n ≡ Some
 list_flags_back n h = ap (λ b. cond b (Some n) None) (le-leb n all_list_flags h)
 
 pub flags_small : (n : ℕ) → IsFlags n → n < 256
-flags_small n h = let same : bit_and n 0xCF ≡ n = h in let most = and_le_r n 0xCF in omega (arith, same, most)
+flags_small n h = let same = eqb-true (bit_and n 0xCF) n h in let most = and_le_r n 0xCF in omega (arith, same, most)
 
 pub mask_small : (n : ℕ) → IsMask n → n < 2 ^ 32
-mask_small n h = let same : bit_and n 0x1F07FF ≡ n = h in let most = and_le_r n 0x1F07FF in omega (arith, same, most)
+mask_small n h =
+    let same = eqb-true (bit_and n 0x1F07FF) n h in let most = and_le_r n 0x1F07FF in omega (arith, same, most)
 
 flags_back : (n : ℕ) → IsFlags n → flags_from n ≡ Some n
-flags_back n h =
-    ap (λ b. cond b (Some n) None) (and_from _ _ (lt-ltb n 256 (flags_small n h)) (eq-eqb (bit_and n 0xCF) n h))
+flags_back n h = ap (λ b. cond b (Some n) None) h
 
 pub mask_back : (n : ℕ) → IsMask n → mask_from n ≡ Some n
-mask_back n h =
-    ap (λ b. cond b (Some n) None) (and_from _ _ (lt-ltb n (2 ^ 32) (mask_small n h)) (eq-eqb (bit_and n 0x1F07FF) n h))
+mask_back n h = ap (λ b. cond b (Some n) None) h
 
 pub principal_back : (text : List ℕ) → IsPrincipal text → principal_from text ≡ Some text
-principal_back text h =
-    ap (λ b. cond b (Some text) None)
-    (and_from _ _ (le-leb 1 (length text) h.0) (and_from _ _ (le-leb (length text) 32 h.1) h.2))
+principal_back text h = ap (λ b. cond b (Some text) None) h
+
+-- the bytes of a principal are its own
+pub principal_bytes : (text : List ℕ) → IsPrincipal text → list_all is_principal_byte text ≡ true
+principal_bytes text h =
+    let long = and_parts (nat_le 1 (length text)) (nat_le (length text) 32 && list_all is_principal_byte text) h in
+    (and_parts (nat_le (length text) 32) (list_all is_principal_byte text) long.1).1
 
 -- a principal has none of the three special names
 no_special : (name special : List ℕ) → list_all is_principal_byte special ≡ false
     → IsPrincipal name → bytes_eq name special ≡ false
 no_special name special bad h =
     false_from_ne_true _ (λ e.
-    true≢false (sym h.2 ∙ ap (list_all is_principal_byte) ((bytes_eq-Decides name special).0 e) ∙ bad))
+    true≢false (sym (principal_bytes name h)
+    ∙ ap (list_all is_principal_byte) ((bytes_eq-Decides name special).0 e) ∙ bad))
 
 named_back : (flags : ℕ) (name : List ℕ) → IsPrincipal name
     → who_from flags name ≡ named_who (identifier_group flags) (Some name)
@@ -79,7 +83,7 @@ allow_back false = refl
 
 entry_back : (e : EntryModel) → IsEntry e → entry_in (entry e) ≡ Some e
 entry_back e h =
-    (λ i. option_and_then entry_of (option_zip (flags_back e.flags h.flags i)
+    (λ i. option_and_then entry_from (option_zip (flags_back e.flags h.flags i)
     (option_zip (mask_back e.mask h.mask i) (option_zip (allow_back e.allow i) (Some (who_text e.who))))))
     ∙ ap (option_map (λ who. record { allow = e.allow; flags = e.flags; mask = e.mask; who = who }))
     (who_back e.flags e.who h.who h.kind)

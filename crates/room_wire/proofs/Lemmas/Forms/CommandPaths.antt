@@ -1,56 +1,20 @@
 -- The path of a text: the one lawful path with that text, where there is one.
-use Rattle.std.proofs.Common.{◌≡◌, ℕ, true, ◌&&◌, List, [], ◌∷◌, length, drop, cond, refl, sym, ap, subst, ◌∙◌}
+use Rattle.std.proofs.Common.{◌≡◌, ℕ, true, ◌&&◌, List, [], ◌∷◌, drop, cond, refl, sym, ap, subst, ◌∙◌}
 use Rattle.std.proofs.Common.{arith, Option, None, Some, Result, Ok, Err}
-use Rattle.std.specs.Prelude.{nat_le, bytes_eq, IfSome, IfOk}
-use Rattle.std.specs.List.{list_all, AllByRecursion}
-use Rattle.std.specs.Str.{is_utf8}
-use Rattle.std.proofs.lemmas.Bool.{and_parts, and_from, leb-true, le-leb}
+use Rattle.std.specs.Prelude.{bytes_eq, IfSome, IfOk}
+use Rattle.std.proofs.lemmas.Bool.{and_parts, and_from}
 use Rattle.std.proofs.lemmas.Option.{cond_some}
-use Rattle.std.proofs.lemmas.Str.{IsUtf8-from_is_utf8, is_utf8-from_IsUtf8}
 use Rattle.std.proofs.lemmas.Slice.Eq.{bytes_eq-Decides}
-use Rattle.room_records.specs.Limits.{max_names, max_name_bytes}
-use Rattle.room_records.specs.Names.{Name, Path, IsFileName, IsPath, is_name_byte, path_text}
+use Rattle.room_records.specs.Names.{Path, IsPath, is_path, path_text}
+use Rattle.room_records.proofs.PathParts.{name_parts, path_parts}
 use Rattle.room_records.proofs.PathTexts.{path_of_parts}
-use Rattle.room_wire.specs.Forms.Commands.{is_file_name, is_path, names_in, path_from}
-
-name_test : (name : Name) → IsFileName name → is_file_name name ≡ true
-name_test name h =
-    and_from _ _ (is_utf8-from_IsUtf8 name h.text)
-    (and_from _ _ (le-leb _ _ h.some) (and_from _ _ (le-leb _ _ h.short) (and_from _ _ h.bytes h.no_dots)))
-
-name_fact : (name : Name) → is_file_name name ≡ true → IsFileName name
-name_fact name h =
-    let a = and_parts (is_utf8 name) _ h in
-    let b = and_parts (nat_le 1 (length name)) _ a.1 in
-    let c = and_parts (nat_le (length name) max_name_bytes) _ b.1 in
-    let d = and_parts (list_all is_name_byte name) _ c.1 in
-    record {
-      text = IsUtf8-from_is_utf8 name a.0;
-      some = leb-true _ _ b.0;
-      short = leb-true _ _ c.0;
-      bytes = d.0;
-      no_dots = d.1;
-    }
-
-names_test : (path : Path) → AllByRecursion IsFileName path → list_all is_file_name path ≡ true
-names_test [] h = refl
-names_test (name ∷ path) h = and_from _ _ (name_test name h.0) (names_test path h.1)
-
-names_fact : (path : Path) → list_all is_file_name path ≡ true → AllByRecursion IsFileName path
-names_fact [] h = tt
-names_fact (name ∷ path) h = let p = and_parts (is_file_name name) _ h in (name_fact name p.0, names_fact path p.1)
-
-path_test : (path : Path) → IsPath path → is_path path ≡ true
-path_test path h = and_from _ _ (le-leb _ _ h.short) (names_test path h.names)
-
-path_fact : (path : Path) → is_path path ≡ true → IsPath path
-path_fact path h = let p = and_parts (nat_le (length path) max_names) _ h in
-    record { short = leb-true _ _ p.0; names = names_fact path p.1 }
+use Rattle.room_wire.specs.Forms.Commands.{names_in, path_from}
 
 -- the names that stand in a path's text are the path's
 names_of_text : (path : Path) → IsPath path → names_in (path_text path) ≡ path
 names_of_text [] lawful = refl
-names_of_text ([] ∷ path) lawful = let some = lawful.names.0.some in absurd (omega arith)
+names_of_text ([] ∷ path) lawful =
+    let some = (name_parts [] (path_parts ([] ∷ path) lawful).names.0).some in absurd (omega arith)
 names_of_text ((b ∷ name) ∷ path) lawful =
     ap (drop 1) (path_of_parts (path_text ((b ∷ name) ∷ path)) (b ∷ name) path lawful refl)
 
@@ -58,7 +22,7 @@ pub path_of_text : (text : List ℕ) (path : Path) → IsPath path → path_text
 path_of_text text path lawful is =
     let names : names_in text ≡ path = ap names_in (sym is) ∙ names_of_text path lawful in
     let same : bytes_eq (path_text (names_in text)) text ≡ true = (bytes_eq-Decides _ _).1 (ap path_text names ∙ is) in
-    let test : is_path (names_in text) ≡ true = ap is_path names ∙ path_test path lawful in
+    let test : is_path (names_in text) ≡ true = ap is_path names ∙ lawful in
     ap (λ b. cond b (Some (names_in text)) None) (and_from _ _ test same) ∙ ap Some names
 
 pub text_of_path : (text : List ℕ) (path : Path) → path_from text ≡ Some path → IsPath path × (path_text path ≡ text)
@@ -66,7 +30,7 @@ text_of_path text path e =
     let parts =
     cond_some (is_path (names_in text) && bytes_eq (path_text (names_in text)) text) (names_in text) path e in
     let tests = and_parts (is_path (names_in text)) (bytes_eq (path_text (names_in text)) text) parts.0 in (
-      subst IsPath parts.1 (path_fact _ tests.0),
+      subst IsPath parts.1 tests.0,
       subst (λ p. path_text p ≡ text) parts.1 ((bytes_eq-Decides _ _).0 tests.1),
     )
 

@@ -1,4 +1,5 @@
-use Rattle.std.proofs.Common.{◌≡◌, ◌<◌, ap, sym, ◌∙◌, arith, bit_and}
+use Rattle.std.proofs.Common.{◌<◌, ap, sym, ◌∙◌, arith, bit_and}
+use Rattle.std.proofs.lemmas.Bool.{eqb-true}
 use Rattle.std.proofs.lemmas.Nat.{and_le_r}
 use Rattle.room_acl.specs.Bits.{identifier_group, without_inherited}
 use Rattle.room_acl.proofs.Marks.{cleared_flags, cleared_are_flags, cleared_group}
@@ -10,7 +11,7 @@ of_named-requires c = cleared_are_flags c.self.inside.bits c.self.invariant
 pub returns-clause-value : goal.returns-clause-value
 returns-clause-value c =
     let f = c.self.inside.bits in
-    let same : bit_and f 0xCF ≡ f = c.self.invariant in
+    let same = eqb-true (bit_and f 0xCF) f c.self.invariant in
     let most = and_le_r f 0xCF in
     let small : f < 256 = omega (arith, same, most) in
     c.of_named.ensures ∙ sym (cleared_flags f small) ∙ ap without_inherited c.self.view_is

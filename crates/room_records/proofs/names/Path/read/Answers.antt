@@ -1,15 +1,29 @@
-use Rattle.std.proofs.Common.{◌≡◌, ℕ, List, map, length, ◌∷◌, rules, sym, ap, ◌∙◌, Some, Bor}
+use Rattle.std.proofs.Common.{◌≡◌, ℕ, List, map, length, [], ◌∷◌, rules, sym, ap, subst, ◌∙◌, Some, Bor}
 use Rattle.std.proofs.lemmas.List.{length-map}
+use Rattle.std.proofs.lemmas.Slice.Eq.{bytes_eq-Decides}
 use Rattle.std.specs.List.{slice_split}
 use Rattle.std.specs.Prelude.{◌==◌}
+use Rattle.room_records.specs.Names.{IsPath}
 use Rattle.room_records.proofs.Options.{none_is_not_some}
-use Rattle.room_records.proofs.PathTexts.{parts_are_path, text_of_names}
+use Rattle.room_records.proofs.PathParts.{root_is_path}
+use Rattle.room_records.proofs.PathTexts.{only_root, parts_are_path, text_of_names}
 use Rattle.room_records.proofs.names.Path.read.Goals as goal
 use Rattle.room_records.proofs.names.Path.read.Goals.{then-not-is_empty-via-then-not-is_empty}
 use Rattle.room_records.proofs.names.Path.read.Goals.{then-not-is_empty-via-else-not-is_empty+then-is_empty}
 
 length_map_now : (parts : List (Bor (List ℕ))) → length (map (λ p. p.now) parts) ≡ length parts
 length_map_now parts = length-map parts (λ p. p.now)
+
+pub invariant_of-result : goal.invariant_of-result
+invariant_of-result c = subst IsPath (sym c.new.ensures.items) root_is_path
+
+pub returns-then-eq-clause-some : goal.returns-then-eq-clause-some
+returns-then-eq-clause-some c = (subst IsPath (sym c.new.ensures.items) root_is_path, search rules)
+
+pub returns-then-eq-clause-every : goal.returns-then-eq-clause-every
+returns-then-eq-clause-every c = λ path lawful is.
+    let root = (bytes_eq-Decides c.args.text.now (47 ∷ [])).0 (sym c.eq.ensures ∙ c.if-eq.true) in
+    ap Some (c.new.ensures.items ∙ sym (only_root path lawful (is ∙ root)))
 
 pub returns-then-not-is_empty-clause-every : goal.returns-then-not-is_empty-clause-every
 returns-then-not-is_empty-clause-every c = λ path lawful is.
