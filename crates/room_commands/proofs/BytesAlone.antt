@@ -1,7 +1,7 @@
 -- A command that changes bytes alone leaves rooms that look alike so.
 use Rattle.std.proofs.Common.{◌≡◌, ℕ, ◌+◌, ◌-◌, refl, ap, sym, ◌∙◌, Bool, true, false, not, ◌&&◌, ◌||◌, List, [], ◌∷◌}
 use Rattle.std.proofs.Common.{◌++◌, map, length, Option, None, Some, nat_le, cond, option_map, inl, inr, length-append}
-use Rattle.std.specs.Prelude.{is_none, max}
+use Rattle.std.specs.Prelude.{is_none, max, Result}
 use Rattle.std.proofs.lemmas.Bool.{cases_Bool}
 use Rattle.room_acl.specs.declared.subject.Kind.{Kind}
 use Rattle.room_acl.specs.declared.subject.Kind.TheVariants.{File, Folder}
@@ -22,7 +22,7 @@ use Rattle.room_commands.specs.Lawful.{IsLawful}
 use Rattle.room_commands.specs.Checks.{first_refusal, checks, check_right, walk, is_file}
 use Rattle.room_commands.specs.Checks.{is_root, is_at_or_below, is_kind, check_exists, check_file}
 use Rattle.room_commands.specs.Effect.{effect, effect_by, changed, with_object, size_of}
-use Rattle.room_commands.specs.Sight.{LooksAlike, Sight, View, may, may_remove, depth_in, sight_of}
+use Rattle.room_commands.specs.Sight.{LooksAlike, Sight, may, may_remove, depth_in, sight_of}
 use Rattle.room_commands.specs.Sight.{view, changes_bytes_alone, handed_to}
 use Rattle.room_commands.proofs.Rights.{all_none}
 use Rattle.room_commands.proofs.ChecksTell.{exists_there, file_there}
@@ -30,7 +30,7 @@ use Rattle.room_commands.proofs.RoomsObject.{after_change, children_stay}
 use Rattle.room_commands.proofs.RoomLaws.{right_alike, walk_alike, bytes_stay_out}
 use Rattle.room_commands.proofs.NothingShows.{refused_alike, in_turn}
 use Rattle.room_commands.specs.Checks.{object_or_default}
-use Rattle.room_commands.proofs.Shorthands.{bytes_of, handed_by, if_reached, or_no_object, removal_refusal}
+use Rattle.room_commands.proofs.Shorthands.{bytes_of, handed_by, if_reached, seen_less, or_no_object, removal_refusal}
 use Rattle.std.specs.Bool.{then_some}
 
 -- what a sight is made of, besides the object
@@ -75,8 +75,8 @@ sight_with caller facts o = record {
   full = then_some (not (is_file o.kind) && (facts.may add_file || facts.may add_subdirectory)) facts.full;
 }
 
-abbrev pub view_with : SubjectModel → Option Refusal → Facts → Option Object → View
-view_with caller way facts o = record { way = way; there = if_reached way (option_map (sight_with caller facts) o) }
+abbrev pub view_with : SubjectModel → Option Refusal → Facts → Option Object → Result (Option Sight) Refusal
+view_with caller way facts o = if_reached way (option_map (sight_with caller facts) o)
 
 module _ (room : Room) (caller : SubjectModel) (path : Path) where
   size_by_facts : (o : Object) → object_at room path ≡ Some o → (kind : Kind)
@@ -98,8 +98,7 @@ module _ (room : Room) (caller : SubjectModel) (path : Path) where
 
   pub view_by_facts : view room caller path
       ≡ view_with caller (walk room caller path) (facts_at room caller path) (object_at room path)
-  view_by_facts = ap (λ there. record { way = walk room caller path; there = if_reached (walk room caller path) there })
-      (there_by_facts (object_at room path) refl)
+  view_by_facts = ap (if_reached (walk room caller path)) (there_by_facts (object_at room path) refl)
 
 -- new bytes, by what was there, and how many they are
 module _ (new : List ℕ → List ℕ) (count : ℕ → ℕ) (counts : (l : List ℕ) → length (new l) ≡ count (length l)) where
@@ -114,9 +113,9 @@ module _ (new : List ℕ → List ℕ) (count : ℕ → ℕ) (counts : (l : List
     size = option_map count s.size;
   }
 
-  abbrev pub view_written : Bool → View → View
-  view_written false v = v
-  view_written true v = record v { there = option_map sight_written v.there }
+  abbrev pub view_written : Bool → Result (Option Sight) Refusal → Result (Option Sight) Refusal
+  view_written false seen = seen
+  view_written true seen = seen_less sight_written seen
 
   shown_then : {X Y : Type 0} (f : X → Y) (test : Bool) (x : X) → then_some test (f x) ≡ option_map f (then_some test x)
   shown_then f true x = refl
@@ -183,7 +182,7 @@ module _ (new : List ℕ → List ℕ) (count : ℕ → ℕ) (counts : (l : List
     seen_after true q same (Some r) facts = refl
     seen_after true q same None facts =
         let is : object_at room q ≡ Some o = ap (object_at room) (same_path q path same) ∙ there in
-        rw is (ap (λ (s : Sight). record { way = None; there = Some s }) (sight_after caller facts o file))
+        rw is (ap (λ (s : Sight). if_reached None (Some s)) (sight_after caller facts o file))
 
     -- a view after new bytes, by the view before
     pub view_after : (q : Path) → view later caller q ≡ view_written (path_eq q path) (view room caller q)

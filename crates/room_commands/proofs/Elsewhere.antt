@@ -1,7 +1,7 @@
 -- What a command of anybody's changes for a caller at paths neither at nor below its own, or out of reach.
 use Rattle.std.proofs.Common.{◌≡◌, ◌⊎◌, ℕ, refl, ap, sym, ◌∙◌, Bool, true, false, ◌||◌, inl, inr, List, [], ◌∷◌}
 use Rattle.std.proofs.Common.{◌++◌, append-nil, append_assoc}
-use Rattle.std.specs.Prelude.{is_none}
+use Rattle.std.specs.Prelude.{is_none, Err}
 use Rattle.std.proofs.Common.{length, drop}
 use Rattle.std.proofs.Common.{Option, None, Some, nat_le, option_map}
 use Rattle.std.proofs.lemmas.Bool.{both_ways, or_parts, false_from_ne_true}
@@ -17,8 +17,10 @@ use Rattle.room_commands.specs.ReplyModel.{Refusal, Attributes}
 use Rattle.room_commands.specs.Lawful.{IsLawful}
 use Rattle.room_commands.specs.Checks.{first_refusal, checks, prefix_refusal, walk, is_root, is_at_or_below}
 use Rattle.room_commands.specs.Effect.{effect, effect_by, changed}
-use Rattle.room_commands.specs.Sight.{View, view, depth_in}
+use Rattle.room_commands.specs.Sight.{Sight, view, depth_in}
 use Rattle.room_commands.specs.Elsewhere.{IsOff, HoldsNeither, IsAboveNeither, but_full, but_depth, but_names}
+use Rattle.room_commands.specs.Elsewhere.{view_less}
+use Rattle.room_commands.proofs.Shorthands.{if_reached, seen_less}
 use Rattle.room_commands.proofs.Rights.{all_none}
 use Rattle.room_commands.proofs.ChecksTell.{absent_there, exists_there, not_refused}
 use Rattle.room_commands.proofs.Renaming.{at_behind}
@@ -128,32 +130,30 @@ module _ (caller : SubjectModel) (facts : Facts) (names : List (Name × Kind)) (
   sizes false o m n = refl
 
   names_out : (way : Option Refusal) (o : Option Object)
-      → but_names (view_with caller way (record facts { names = names; depth = depth; full = full }) o)
-      ≡ but_names (view_with caller way facts o)
+      → seen_less but_names (view_with caller way (record facts { names = names; depth = depth; full = full }) o)
+      ≡ seen_less but_names (view_with caller way facts o)
   names_out (Some r) o = refl
   names_out None None = refl
   names_out None (Some o) =
       let same = sizes (facts.may read_attributes) o (size_with names o.bytes o.kind)
       (size_with facts.names o.bytes o.kind) in
-      (λ i. record {
-        way = None;
-        there = Some (record (sight_with caller facts o) {
-          attributes = same i;
-          names = None;
-          depth = None;
-          full = None;
-        });
-      })
+      (λ i. if_reached None (Some (record (sight_with caller facts o) {
+        attributes = same i;
+        names = None;
+        depth = None;
+        full = None;
+      })))
 
   depth_out : (way : Option Refusal) (o : Option Object)
-      → but_depth (view_with caller way (record facts { depth = depth; full = full }) o)
-      ≡ but_depth (view_with caller way facts o)
+      → seen_less but_depth (view_with caller way (record facts { depth = depth; full = full }) o)
+      ≡ seen_less but_depth (view_with caller way facts o)
   depth_out (Some r) o = refl
   depth_out None None = refl
   depth_out None (Some o) = refl
 
   full_out : (way : Option Refusal) (o : Option Object)
-      → but_full (view_with caller way (record facts { full = full }) o) ≡ but_full (view_with caller way facts o)
+      → seen_less but_full (view_with caller way (record facts { full = full }) o)
+      ≡ seen_less but_full (view_with caller way facts o)
   full_out (Some r) o = refl
   full_out None None = refl
   full_out None (Some o) = refl
@@ -171,7 +171,7 @@ blocked room caller fault (name ∷ rest) top is =
 
 -- and nothing is seen there
 pub nothing_seen : (room : Room) (caller : SubjectModel) (fault : Refusal) (q : Path)
-    → walk room caller q ≡ Some fault → view room caller q ≡ record { way = Some fault; there = None }
+    → walk room caller q ≡ Some fault → view room caller q ≡ Err fault
 nothing_seen room caller fault q is = view_by_facts room caller q
     ∙ ap (λ way. view_with caller way (facts_at room caller q) (object_at room q)) is
 
@@ -211,23 +211,25 @@ module _ (room later : Room) (caller : SubjectModel) (p t : Path) (is_room : IsR
         (facts_out room later caller p t out q off i) (out q off i))
 
     -- away from both paths, or behind a fault
-    by_place : (f : View → View) → IsOff caller room (p, t) q
-        → (Off p t q → f (view later caller q) ≡ f (view room caller q))
-        → f (view later caller q) ≡ f (view room caller q)
-    by_place f off away = elim (place p t q) [
-      | Below_p rest is ↦ ap f (seen_behind p (λ front n more at. s.fronts front n more (inl at)) q rest is
+    by_place : (less : Sight → Sight) → IsOff caller room (p, t) q
+        → (Off p t q → view_less less later caller q ≡ view_less less room caller q)
+        → view_less less later caller q ≡ view_less less room caller q
+    by_place less off away = elim (place p t q) [
+      | Below_p rest is ↦ ap (seen_less less) (seen_behind p
+          (λ front n more at. s.fronts front n more (inl at)) q rest is
           (off.0 (ap (λ k. is_at_or_below k p) is ∙ at_behind p rest)))
-      | Below_t rest is ↦ ap f (seen_behind t (λ front n more at. s.fronts front n more (inr at)) q rest is
+      | Below_t rest is ↦ ap (seen_less less) (seen_behind t
+          (λ front n more at. s.fronts front n more (inr at)) q rest is
           (off.1 (ap (λ k. is_at_or_below k t) is ∙ at_behind t rest)))
       | Away off_both ↦ away off_both
     ]
 
-    pub seen_above : IsOff caller room (p, t) q → but_names (view later caller q) ≡ but_names (view room caller q)
+    pub seen_above : IsOff caller room (p, t) q → view_less but_names later caller q ≡ view_less but_names room caller q
     seen_above off = by_place but_names off (λ away.
-        ap but_names (view_off away)
+        ap (seen_less but_names) (view_off away)
         ∙ names_out caller facts (children later q) (depth_in q later.objects) full (walk room caller q)
         (object_at room q)
-        ∙ ap but_names (sym (view_by_facts room caller q)))
+        ∙ ap (seen_less but_names) (sym (view_by_facts room caller q)))
 
     module _ (holds : HoldsNeither (p, t) q) where
       names_stay : Off p t q → children later q ≡ children room q
@@ -240,11 +242,12 @@ module _ (room later : Room) (caller : SubjectModel) (p t : Path) (is_room : IsR
           (record facts { names = names; depth = depth_in q later.objects; full = full }) (object_at room q))
           (names_stay off)
 
-      pub seen_higher : IsOff caller room (p, t) q → but_depth (view later caller q) ≡ but_depth (view room caller q)
+      pub seen_higher : IsOff caller room (p, t) q
+          → view_less but_depth later caller q ≡ view_less but_depth room caller q
       seen_higher off = by_place but_depth off (λ away.
-          ap but_depth (view_named away)
+          ap (seen_less but_depth) (view_named away)
           ∙ depth_out caller facts facts.names (depth_in q later.objects) full (walk room caller q) (object_at room q)
-          ∙ ap but_depth (sym (view_by_facts room caller q)))
+          ∙ ap (seen_less but_depth) (sym (view_by_facts room caller q)))
 
     module _ (above : IsAboveNeither (p, t) q) where
       holds_neither : HoldsNeither (p, t) q
@@ -257,31 +260,31 @@ module _ (room later : Room) (caller : SubjectModel) (p t : Path) (is_room : IsR
       depth_stays off = depth_same later room s.is_room is_room q
           (λ rest. out (q ++ rest) (off_below p q rest off.0 above.0, off_below t q rest off.1 above.1))
 
-      pub seen_aside : IsOff caller room (p, t) q → but_full (view later caller q) ≡ but_full (view room caller q)
+      pub seen_aside : IsOff caller room (p, t) q → view_less but_full later caller q ≡ view_less but_full room caller q
       seen_aside off = by_place but_full off (λ away.
-          ap but_full (view_named holds_neither away
+          ap (seen_less but_full) (view_named holds_neither away
           ∙ ap (λ (depth : ℕ). view_with caller (walk room caller q)
           (record facts { depth = depth; full = full }) (object_at room q)) (depth_stays away))
           ∙ full_out caller facts facts.names facts.depth full (walk room caller q) (object_at room q)
-          ∙ ap but_full (sym (view_by_facts room caller q)))
+          ∙ ap (seen_less but_full) (sym (view_by_facts room caller q)))
 
 -- ---- and after a command, refused or not
 
 module _ (room : Room) (caller other : SubjectModel) (command : CommandModel) (lawful : IsLawful command)
     (is_room : IsRoom room) (q : Path) (off : IsOff caller room (paths_of command) q) where
-  pub shown_above : but_names (view (effect room other command).room caller q) ≡ but_names (view room caller q)
+  pub shown_above : view_less but_names (effect room other command).room caller q ≡ view_less but_names room caller q
   shown_above = by_result room other is_room command lawful
-      (λ later. but_names (view later caller q) ≡ but_names (view room caller q)) refl
+      (λ later. view_less but_names later caller q ≡ view_less but_names room caller q) refl
       (λ later s. seen_above room later caller (paths_of command).0 (paths_of command).1 is_room s q off)
 
   pub shown_higher : HoldsNeither (paths_of command) q
-      → but_depth (view (effect room other command).room caller q) ≡ but_depth (view room caller q)
+      → view_less but_depth (effect room other command).room caller q ≡ view_less but_depth room caller q
   shown_higher holds = by_result room other is_room command lawful
-      (λ later. but_depth (view later caller q) ≡ but_depth (view room caller q)) refl
+      (λ later. view_less but_depth later caller q ≡ view_less but_depth room caller q) refl
       (λ later s. seen_higher room later caller (paths_of command).0 (paths_of command).1 is_room s q holds off)
 
   pub shown_aside : IsAboveNeither (paths_of command) q
-      → but_full (view (effect room other command).room caller q) ≡ but_full (view room caller q)
+      → view_less but_full (effect room other command).room caller q ≡ view_less but_full room caller q
   shown_aside above = by_result room other is_room command lawful
-      (λ later. but_full (view later caller q) ≡ but_full (view room caller q)) refl
+      (λ later. view_less but_full later caller q ≡ view_less but_full room caller q) refl
       (λ later s. seen_aside room later caller (paths_of command).0 (paths_of command).1 is_room s q above off)

@@ -11,7 +11,7 @@ use Rattle.room_records.specs.Names.{Path}
 use Rattle.room_commands.specs.declared.reply.RefusalCode.TheVariants.{Access, NotEmpty, Inval, Exist}
 use Rattle.room_commands.specs.CommandModel as C
 use Rattle.room_records.specs.Room.{Room, Object, fresh_room, list_of}
-use Rattle.room_commands.specs.ReplyModel.{Done, Names, Size, Bytes, Entries, Refused}
+use Rattle.room_commands.specs.ReplyModel.{Done, Names, Size, Bytes, Entries, NotDone}
 use Rattle.room_commands.specs.Effect.{effect}
 
 abbrev ann : SubjectModel
@@ -52,7 +52,7 @@ made_plans : effect start ann (C.Mkdir plans) ≡ record { room = seven; reply =
 made_plans = refl
 
 made_twice : effect seven ann (C.Mkdir plans)
-    ≡ record { room = seven; reply = Refused (record { code = Exist; place = None }) }
+    ≡ record { room = seven; reply = NotDone (record { code = Exist; place = None }) }
 made_twice = refl
 
 example_list : (effect seven ann (C.ListNames [])).reply ≡ Names ((codes "plans", Folder) ∷ [])
@@ -83,7 +83,7 @@ example_read : effect eight ann (C.Read plans_a) ≡ record { room = eight; repl
 example_read = refl
 
 example_denied : (effect eight bob (C.Create [] (codes "x" ∷ []))).reply
-    ≡ Refused (record { code = Access; place = Some ([], 2) })
+    ≡ NotDone (record { code = Access; place = Some ([], 2) })
 example_denied = refl
 
 example_set :
@@ -109,14 +109,14 @@ fourteen = record {
   made = 4;
 }
 
-example_not_empty : (effect fourteen bob (C.Remove d)).reply ≡ Refused (record { code = NotEmpty; place = None })
+example_not_empty : (effect fourteen bob (C.Remove d)).reply ≡ NotDone (record { code = NotEmpty; place = None })
 example_not_empty = refl
 
 example_removed : (effect fourteen bob (C.Remove d_f)).reply ≡ Done
 example_removed = refl
 
 example_not_removed : (effect fourteen bob (C.Remove d_g)).reply
-    ≡ Refused (record { code = Access; place = Some (d_g, 65536) })
+    ≡ NotDone (record { code = Access; place = Some (d_g, 65536) })
 example_not_removed = refl
 
 abbrev fifteen : Room
@@ -151,7 +151,7 @@ example_list_there : list_of (effect fifteen ann
 example_list_there = refl
 
 example_into_itself : (effect fifteen ann (C.Rename (codes "a" ∷ []) (codes "a" ∷ codes "x" ∷ []))).reply
-    ≡ Refused (record { code = Inval; place = None })
+    ≡ NotDone (record { code = Inval; place = None })
 example_into_itself = refl
 
 abbrev step : Room → C.CommandModel → Room

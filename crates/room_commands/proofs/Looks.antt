@@ -22,15 +22,16 @@ use Rattle.room_records.proofs.RoomsChildren.{children_rise, same_entries, kind_
 use Rattle.room_commands.specs.ReplyModel.{Refusal}
 use Rattle.room_commands.specs.declared.reply.RefusalCode.TheVariants.{NoEnt, NotDir, IsDir, Exist, FolderFull}
 use Rattle.room_commands.specs.declared.reply.RefusalCode.TheVariants.{RoomFull}
-use Rattle.room_commands.specs.Checks.{first_refusal, refuse_if, refusal_without_place, denied_at, right_on}
+use Rattle.room_commands.specs.Checks.{first_refusal, refuse_if, refusal_without_place, denied_at}
 use Rattle.room_commands.specs.Checks.{check_right}
 use Rattle.room_commands.specs.Checks.{is_file, is_kind, check_exists, check_absent, check_folder, check_file}
 use Rattle.room_commands.specs.Checks.{proper_prefixes, prefix_refusal, walk, check_folder_full, check_room_full}
 use Rattle.room_commands.proofs.Rights.{all_none}
 use Rattle.room_commands.proofs.ChecksTell.{not_refused, exists_there}
-use Rattle.room_commands.specs.Sight.{may, Sight, sight_of, View}
+use Rattle.room_commands.specs.Sight.{may, Sight, sight_of}
 use Rattle.room_commands.specs.Sight.{LooksAlike}
-use Rattle.room_commands.proofs.Shorthands.{if_reached, kind_of}
+use Rattle.room_commands.proofs.Shorthands.{if_reached, there_seen, kind_of, right_on}
+use Rattle.std.specs.Result.{result_err}
 use Rattle.std.specs.Bool.{then_some}
 
 -- checks of two rooms are alike where the first two are, and the others are where the first two pass
@@ -182,18 +183,24 @@ module _ (room : Room) (caller : SubjectModel) (path : Path) where
   right_is_seen wanted (Some o) =
       ap (denied_at path) (decided_by_rights (list_of room path) caller (standing_of o) wanted)
 
+way_seen : (way : Option Refusal) (there : Option Sight) → result_err (if_reached way there) ≡ way
+way_seen None there = refl
+way_seen (Some r) there = refl
+
 module _ (a b : Room) (caller : SubjectModel) (alike : LooksAlike caller a b) where
   pub way_alike : (path : Path) → walk a caller path ≡ walk b caller path
-  way_alike path = ap (λ (v : View). v.way) (alike path)
+  way_alike path = sym (way_seen (walk a caller path) (option_map (sight_of a caller path) (object_at a path)))
+      ∙ ap result_err (alike path)
+      ∙ way_seen (walk b caller path) (option_map (sight_of b caller path) (object_at b path))
 
   -- what stands at the end of a way that passes looks the same
   pub there_alike : (path : Path) → walk a caller path ≡ None
       → option_map (sight_of a caller path) (object_at a path) ≡ option_map (sight_of b caller path) (object_at b path)
-  there_alike path walked =
-      ap (λ way. if_reached way (option_map (sight_of a caller path) (object_at a path))) (sym walked)
-      ∙ ap (λ (v : View). v.there) (alike path)
+  there_alike path walked = ap there_seen
+      (ap (λ way. if_reached way (option_map (sight_of a caller path) (object_at a path))) (sym walked)
+      ∙ alike path
       ∙ ap (λ way. if_reached way (option_map (sight_of b caller path) (object_at b path)))
-      (sym (way_alike path) ∙ walked)
+      (sym (way_alike path) ∙ walked))
 
   module _ (path : Path) (walked : walk a caller path ≡ None) where
     some_alike : is_some (object_at a path) ≡ is_some (object_at b path)

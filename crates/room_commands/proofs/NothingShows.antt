@@ -13,9 +13,10 @@ use Rattle.room_records.specs.Limits.{max_names}
 use Rattle.room_records.specs.Names.{Name, Path, IsPath, path_eq}
 use Rattle.room_records.specs.Room.{Room, IsRoom, object_at, children, list_of, standing_of, parent_of}
 use Rattle.room_records.proofs.RoomsMap.{some_is, none_is_some, parent_of_end, Ends}
+use Rattle.room_records.proofs.PathParts.{path_parts}
 use Rattle.room_commands.specs.CommandModel.{CommandModel}
 use Rattle.room_commands.specs.CommandModel as C
-use Rattle.room_commands.specs.ReplyModel.{Refusal, Refused, Stat, Names, Size, Bytes, Entries}
+use Rattle.room_commands.specs.ReplyModel.{Refusal, NotDone, About, Names, Size, Bytes, Entries}
 use Rattle.room_commands.specs.ReplyModel.{Allowed, Done}
 use Rattle.room_commands.specs.declared.reply.RefusalCode.{RefusalCode}
 use Rattle.room_commands.specs.declared.reply.RefusalCode.TheVariants.{NotEmpty, TooDeep, Inval, Exist}
@@ -67,7 +68,7 @@ replied_alike : (a b : Room) (caller : SubjectModel) (command : CommandModel) (x
     → (x ≡ None → reply a caller command ≡ reply b caller command)
     → (effect_by a caller command x).reply ≡ (effect_by b caller command y).reply
 replied_alike a b caller command None None same replies = replies refl
-replied_alike a b caller command (Some r) (Some s) same replies = ap Refused (some_is r s same)
+replied_alike a b caller command (Some r) (Some s) same replies = ap NotDone (some_is r s same)
 replied_alike a b caller command None (Some s) same replies = absurd (none_is_some s same)
 replied_alike a b caller command (Some r) None same replies = absurd (none_is_some r (sym same))
 
@@ -97,9 +98,9 @@ module _ (a b : Room) (caller : SubjectModel) (room_a : IsRoom a) (room_b : IsRo
     attributes_alike : check_right a caller path read_attributes ≡ None
         → reply a caller (C.Stat path) ≡ reply b caller (C.Stat path)
     attributes_alike right =
-        ap (λ o. Stat (attributes_of a path (or_no_object o))) both.is
-        ∙ ap Stat (shown_same _ _ _ _ (ap (λ (s : Sight). s.attributes) both.same) (is_there _ right))
-        ∙ ap (λ o. Stat (attributes_of b path (or_no_object o))) (sym both.is_other)
+        ap (λ o. About (attributes_of a path (or_no_object o))) both.is
+        ∙ ap About (shown_same _ _ _ _ (ap (λ (s : Sight). s.attributes) both.same) (is_there _ right))
+        ∙ ap (λ o. About (attributes_of b path (or_no_object o))) (sym both.is_other)
 
     names_alike : check_folder a path ≡ None → check_right a caller path list_directory ≡ None
         → reply a caller (C.ListNames path) ≡ reply b caller (C.ListNames path)
@@ -197,9 +198,9 @@ module _ (a b : Room) (caller : SubjectModel) (room_a : IsRoom a) (room_b : IsRo
     too_deep_alike : (to : Path) → IsPath to → check_exists a path ≡ None → check_removal a caller path ≡ None
         → check_depth a path to ≡ check_depth b path to
     too_deep_alike to is_path there right = ap (λ test. refuse_if test TooDeep)
-        (too_deep path to a.objects is_path.short
+        (too_deep path to a.objects (path_parts to is_path).short
         ∙ ap (λ depth. nat_lt max_names (length to + depth)) (depth_alike there right)
-        ∙ sym (too_deep path to b.objects is_path.short))
+        ∙ sym (too_deep path to b.objects (path_parts to is_path).short))
 
   way : (path : Path) → walk a caller path ≡ walk b caller path
   way = way_alike a b caller alike

@@ -19,7 +19,7 @@ use Rattle.room_records.specs.Room.{parent_of}
 use Rattle.room_records.proofs.RoomsLists.{without_bytes, lists_without_bytes}
 use Rattle.room_commands.specs.CommandModel.{CommandModel}
 use Rattle.room_commands.specs.CommandModel as C
-use Rattle.room_commands.specs.ReplyModel.{Refusal, Stat, Names, Size, Bytes, Entries, Allowed}
+use Rattle.room_commands.specs.ReplyModel.{Refusal, About, Names, Size, Bytes, Entries, Allowed}
 use Rattle.room_commands.specs.declared.reply.RefusalCode.TheVariants.{NotEmpty, Exist, Inval, TooDeep, FolderFull}
 use Rattle.room_commands.specs.SetList.{own_entries_of_setlist}
 use Rattle.room_commands.specs.Checks.{first_refusal, checks, refuse_if, check_right, check_size, walk}
@@ -190,8 +190,8 @@ module _ (new : ℕ → ℕ) where
         → reply other caller (command_with new command) ≡ reply_with new (reply room caller command)
     replies_with (C.Stat path) =
         let o = object_or_default room path in
-        ap (λ found. Stat (attributes_of other path found)) (default_there path)
-        ∙ ap (λ (n : ℕ). Stat (record (attributes_of room path o) { size = n })) (size_with path o.kind)
+        ap (λ found. About (attributes_of other path found)) (default_there path)
+        ∙ ap (λ (n : ℕ). About (record (attributes_of room path o) { size = n })) (size_with path o.kind)
     replies_with (C.ListNames path) = ap Names (names path)
     replies_with (C.Mkdir path) = refl
     replies_with (C.Create bytes path) = ap Size (length-map bytes new)

@@ -35,7 +35,7 @@ use Rattle.room_commands.specs.Sight.{HasNoPower, SameBelow}
 use Rattle.std.proofs.lemmas.Bool.{or_left, or_right}
 use Rattle.std.proofs.Common.{inl, inr}
 use Rattle.room_commands.proofs.Looks.{way_alike, right_alike, kind_alike, in_folder_alike, walk_to_folder}
-use Rattle.room_commands.proofs.Shorthands.{removal_refusal}
+use Rattle.room_commands.proofs.Shorthands.{if_reached, removal_refusal}
 use Rattle.std.specs.Bool.{then_some}
 use Rattle.room_commands.specs.Checks.{right_to_add}
 
@@ -165,14 +165,11 @@ module _ (new : List ℕ → List ℕ) (count : ℕ → ℕ) (counts : (l : List
       (and_right (is_file o.kind) (facts.may read_data) no_bytes) in
       let size = not_shown count (is_file o.kind && facts.may append_data) (length o.bytes)
       (and_right (is_file o.kind) (facts.may append_data) no_size) in
-      (λ i. record {
-        way = None;
-        there = Some (record (sight_with caller facts o) {
-          attributes = attributes i;
-          bytes = bytes i;
-          size = size i;
-        });
-      })
+      (λ i. if_reached None (Some (record (sight_with caller facts o) {
+        attributes = attributes i;
+        bytes = bytes i;
+        size = size i;
+      })))
 
   view_stays : (q : Path) (here : Bool) → path_eq q path ≡ here
       → view_written new count counts here (view room caller q) ≡ view room caller q

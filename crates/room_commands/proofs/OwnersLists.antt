@@ -14,9 +14,9 @@ use Rattle.room_commands.specs.CommandModel as C
 use Rattle.room_commands.specs.declared.reply.RefusalCode.TheVariants.{NoEnt}
 use Rattle.room_commands.specs.ReplyModel.{Refusal, Entries, Done}
 use Rattle.room_commands.specs.SetList.{own_entries_of_setlist}
-use Rattle.room_commands.specs.Checks.{first_refusal, check_right, right_on, denied_at, walk, refuse_if, check_lawful}
+use Rattle.room_commands.specs.Checks.{first_refusal, check_right, denied_at, walk, refuse_if, check_lawful}
 use Rattle.room_commands.specs.Effect.{effect, effect_by}
-use Rattle.room_commands.proofs.Shorthands.{kind_of, or_no_object}
+use Rattle.room_commands.proofs.Shorthands.{kind_of, or_no_object, right_on}
 
 -- checks none of which refuses
 pass : (a : Option Refusal) (others : List (Option Refusal)) → a ≡ None

@@ -14,8 +14,9 @@ use Rattle.room_records.specs.Room.{Object, Room, IsRoom, object_at, list_of, st
 use Rattle.room_records.proofs.RoomsMap.{ends}
 use Rattle.room_records.proofs.RoomsLists.{list_of_root, list_of_child}
 use Rattle.room_commands.specs.CommandModel.{Rename}
-use Rattle.room_commands.specs.ReplyModel.{IsRefused}
-use Rattle.room_commands.specs.Checks.{denied_at, right_on}
+use Rattle.room_commands.specs.ReplyModel.{IsNotDone}
+use Rattle.room_commands.specs.Checks.{denied_at}
+use Rattle.room_commands.proofs.Shorthands.{right_on}
 use Rattle.room_commands.specs.Effect.{effect}
 use Rattle.room_commands.specs.Sight.{may}
 use Rattle.room_commands.proofs.RoomLaws.{rename_moves}
@@ -55,7 +56,7 @@ protected_anywhere room other path to o caller right there there_too is =
 
 -- after a RENAME too, of it or of a folder above
 pub protected_moved : (room : Room) (caller other : SubjectModel) (path to rest : Path) (o : Object) (right : ℕ)
-    → IsRoom room → (IsRefused (effect room other (Rename path to)).reply → ⊥) → object_at room (path ++ rest) ≡ Some o
+    → IsRoom room → (IsNotDone (effect room other (Rename path to)).reply → ⊥) → object_at room (path ++ rest) ≡ Some o
     → has_flag o.aclflag protected_flag ≡ true
     → may (effect room other (Rename path to)).room caller (to ++ rest) right ≡ may room caller (path ++ rest) right
 protected_moved room caller other path to rest o right lawful done there is =

@@ -13,6 +13,7 @@ use Rattle.room_records.specs.Room.{Object, Room, IsRoom, AreObjects, object_at,
 use Rattle.room_records.proofs.Lists.{all_append}
 use Rattle.room_records.proofs.RoomsMap.{parent_of_end, ends, StandsIn, standing_found}
 use Rattle.room_records.proofs.RoomsChildren.{no_more_children, one_more_child, one_exchanged_child}
+use Rattle.room_records.proofs.PathParts.{path_parts, path_of_names}
 use Rattle.room_commands.specs.Checks.{is_at_or_below}
 use Rattle.room_commands.specs.Effect.{moved, renamed}
 use Rattle.room_commands.proofs.ChecksTell.{some_there}
@@ -40,11 +41,10 @@ module _ (path to : Path) (is_path : IsPath to) where
   moved_is_path : (q : Path) → IsPath q
       → (is_at_or_below q path ≡ true → length to + (length q - length path) ≤ max_names) → IsPath (moved path to q)
   moved_is_path q lawful fits = elim (cases_Bool (is_at_or_below q path)) [
-    | inl below ↦ rw below (record {
-      short = omega (arith, fits below, length-append to (drop (length path) q), length-drop (length path) q);
-      names = all_append IsFileName to (drop (length path) q)
-          is_path.names (all_drop IsFileName (length path) q lawful.names);
-    })
+    | inl below ↦ rw below (path_of_names (to ++ drop (length path) q)
+        (omega (arith, fits below, length-append to (drop (length path) q), length-drop (length path) q))
+        (all_append IsFileName to (drop (length path) q) (path_parts to is_path).names
+        (all_drop IsFileName (length path) q (path_parts q lawful).names)))
     | inr off ↦ rw off lawful
   ]
 

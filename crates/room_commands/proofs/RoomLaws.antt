@@ -14,9 +14,9 @@ use Rattle.room_records.specs.Room.{Object, Room, IsRoom, object_at, list_of, st
 use Rattle.room_records.proofs.RoomsLists.{without_bytes, lists_without_bytes}
 use Rattle.room_commands.specs.CommandModel.{CommandModel}
 use Rattle.room_commands.specs.CommandModel as C
-use Rattle.room_commands.specs.ReplyModel.{Bytes, Refusal, IsRefused}
+use Rattle.room_commands.specs.ReplyModel.{Bytes, Refusal, IsNotDone}
 use Rattle.room_commands.specs.Checks.{first_refusal, checks, is_kind, check_exists, check_file, check_folder}
-use Rattle.room_commands.specs.Checks.{check_right, right_on, denied_at, refuse_if, prefix_refusal, proper_prefixes}
+use Rattle.room_commands.specs.Checks.{check_right, denied_at, refuse_if, prefix_refusal, proper_prefixes}
 use Rattle.room_commands.specs.Checks.{walk, bytes_at, is_root, is_at_or_below}
 use Rattle.room_commands.specs.declared.reply.RefusalCode.TheVariants.{NoEnt, NotDir, IsDir}
 use Rattle.room_commands.specs.Effect.{effect, effect_by, changed, reply, with_object, renamed}
@@ -25,25 +25,25 @@ use Rattle.room_commands.proofs.Rights.{AllNone, all_none, rights_of_success}
 use Rattle.room_commands.proofs.ChecksTell.{not_refused, exists_there, absent_there}
 use Rattle.room_commands.proofs.RoomsObject.{at_changed, after_change}
 use Rattle.room_commands.proofs.RoomsRenamed.{at_new_place, at_old_place, away}
-use Rattle.room_commands.proofs.Shorthands.{bytes_of}
+use Rattle.room_commands.proofs.Shorthands.{bytes_of, right_on}
 
 reply_is_no_refusal : (room : Room) (caller : SubjectModel) (command : CommandModel)
-    → IsRefused (reply room caller command) → ⊥
+    → IsNotDone (reply room caller command) → ⊥
 reply_is_no_refusal room caller command refused = grind (arith, common_steps)
 
 -- a refused command leaves the room
 pub refused_leaves : (room : Room) (caller : SubjectModel) (command : CommandModel)
-    → IsRefused (effect room caller command).reply → (effect room caller command).room ≡ room
+    → IsNotDone (effect room caller command).reply → (effect room caller command).room ≡ room
 refused_leaves room caller command refused = grind (arith, common_steps)
 
 -- a command that is not refused passed every check
 pub passed_if_not_refused : (room : Room) (caller : SubjectModel) (command : CommandModel)
-    → (IsRefused (effect room caller command).reply → ⊥) → first_refusal (checks room caller command) ≡ None
+    → (IsNotDone (effect room caller command).reply → ⊥) → first_refusal (checks room caller command) ≡ None
 passed_if_not_refused room caller command success = grind (arith, common_steps)
 
 -- and had every right that it needs
 pub success_had_rights : (room : Room) (caller : SubjectModel) (command : CommandModel)
-    → (IsRefused (effect room caller command).reply → ⊥) → NeedsAllowed room caller command
+    → (IsNotDone (effect room caller command).reply → ⊥) → NeedsAllowed room caller command
 success_had_rights room caller command h =
     rights_of_success room caller command (passed_if_not_refused room caller command h)
 
@@ -138,8 +138,8 @@ read_back room caller path new passed =
 
 -- what was written is read
 pub read_after_write : (room : Room) (caller : SubjectModel) (path : Path) (bytes : List ℕ)
-    → (IsRefused (effect room caller (C.Write bytes path)).reply → ⊥)
-    → (IsRefused (effect room caller (C.Read path)).reply → ⊥)
+    → (IsNotDone (effect room caller (C.Write bytes path)).reply → ⊥)
+    → (IsNotDone (effect room caller (C.Read path)).reply → ⊥)
     → (effect (effect room caller (C.Write bytes path)).room caller (C.Read path)).reply ≡ Bytes bytes
 read_after_write room caller path bytes may_write may_read =
     ap (λ r. (effect r caller (C.Read path)).reply) (room_if_passed room caller
@@ -148,8 +148,8 @@ read_after_write room caller path bytes may_write may_read =
 
 -- what was appended is read behind what was there
 pub read_after_append : (room : Room) (caller : SubjectModel) (path : Path) (bytes : List ℕ)
-    → (IsRefused (effect room caller (C.Append bytes path)).reply → ⊥)
-    → (IsRefused (effect room caller (C.Read path)).reply → ⊥)
+    → (IsNotDone (effect room caller (C.Append bytes path)).reply → ⊥)
+    → (IsNotDone (effect room caller (C.Read path)).reply → ⊥)
     → (effect (effect room caller (C.Append bytes path)).room caller (C.Read path)).reply
     ≡ Bytes (bytes_at room path ++ bytes)
 read_after_append room caller path bytes may_append may_read =
@@ -158,7 +158,7 @@ read_after_append room caller path bytes may_append may_read =
     ∙ read_back room caller path (λ old. old ++ bytes) (passed_if_not_refused room caller (C.Read path) may_read)
 
 module _ (room : Room) (caller : SubjectModel) (path to : Path) (lawful : IsRoom room)
-    (success : IsRefused (effect room caller (C.Rename path to)).reply → ⊥) where
+    (success : IsNotDone (effect room caller (C.Rename path to)).reply → ⊥) where
   passed : first_refusal (checks room caller (C.Rename path to)) ≡ None
   passed = passed_if_not_refused room caller (C.Rename path to) success
 

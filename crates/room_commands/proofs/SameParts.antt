@@ -19,14 +19,14 @@ use Rattle.room_records.proofs.RoomsLists.{lists_below, list_in_folder}
 use Rattle.room_records.proofs.RoomsChildren.{children_rise, same_entries, kind_of_child}
 use Rattle.room_commands.specs.declared.reply.RefusalCode.TheVariants.{NoEnt, NotDir}
 use Rattle.room_commands.specs.ReplyModel.{Refusal}
-use Rattle.room_commands.specs.Checks.{first_refusal, refuse_if, denied_at, right_on, check_right, is_file, is_kind}
+use Rattle.room_commands.specs.Checks.{first_refusal, refuse_if, denied_at, check_right, is_file, is_kind}
 use Rattle.room_commands.specs.Checks.{is_root, proper_prefixes, prefix_refusal, walk}
 use Rattle.room_commands.specs.Sight.{depth_in, view, may, SameBelow, handed_to}
 use Rattle.room_commands.proofs.RoomsRenamed.{rest_below}
 use Rattle.room_commands.proofs.DepthTells.{within_depth, no_deeper}
 use Rattle.room_commands.proofs.Looks.{walk_end}
 use Rattle.room_commands.proofs.BytesAlone.{facts_at, sight_with, view_with, view_by_facts}
-use Rattle.room_commands.proofs.Shorthands.{handed_by, if_reached, removal_refusal}
+use Rattle.room_commands.proofs.Shorthands.{handed_by, if_reached, removal_refusal, right_on}
 use Rattle.std.specs.Bool.{then_some}
 
 all_mapped : {X Y : Type 0} (P : Y → Type 0) (g : X → Y) (xs : List X)
@@ -214,11 +214,8 @@ module _ (x y : Room) (caller : SubjectModel) (room_x : IsRoom x) (room_y : IsRo
   numbers_in rest (Some o) is way =
       let full = full_in rest o is o.kind refl
       (may y caller (top ++ rest) add_file || may y caller (top ++ rest) add_subdirectory) in
-      ap (λ (f : Option Bool). record {
-        way = way;
-        there = if_reached way
-            (Some (record (sight_with caller (facts_at y caller (top ++ rest)) o) { full = f }));
-      }) full
+      ap (λ (f : Option Bool). if_reached way
+      (Some (record (sight_with caller (facts_at y caller (top ++ rest)) o) { full = f }))) full
 
   -- below, both look the same
   pub view_in : (rest : Path) → view x caller (top ++ rest) ≡ view y caller (top ++ rest)

@@ -1,17 +1,21 @@
 -- Names, for proofs alone, of parts of definitions: most are what a definition of `specs/` says of an object that is
 -- found, or not, or of whether a right is refused.
-use Rattle.std.specs.Prelude.{ℕ, ◌||◌, List, [], map, Option, None, is_none, if◌then◌else◌}
-use Rattle.std.specs.Option.{option_map_or, unwrap_or}
+use Rattle.std.specs.Prelude.{ℕ, ◌||◌, List, [], map, Option, None, Some, is_none, Result, Ok, Err}
+use Rattle.std.specs.Prelude.{if◌then◌else◌}
+use Rattle.std.specs.Option.{option_map, option_map_or, unwrap_or}
+use Rattle.std.specs.Result.{result_unwrap_or, result_map_both}
 use Rattle.room_acl.specs.declared.subject.Kind.{Kind}
 use Rattle.room_acl.specs.declared.access.Decision.TheVariants.{Denied}
 use Rattle.room_acl.specs.Bits.{delete_object}
 use Rattle.room_acl.specs.SubjectModel.{SubjectModel}
 use Rattle.room_acl.specs.Entries.{EntryModel}
+use Rattle.room_acl.specs.Access.{decision}
 use Rattle.room_acl.specs.Inheritance.{handed_down}
 use Rattle.room_records.specs.Names.{Path}
-use Rattle.room_records.specs.Room.{Object, Room}
+use Rattle.room_records.specs.Room.{Object, Room, list_of, standing_of}
 use Rattle.room_commands.specs.ReplyModel.{Refusal, ReplyModel}
-use Rattle.room_commands.specs.Checks.{no_object, denied_at}
+use Rattle.room_commands.specs.declared.reply.RefusalCode.TheVariants.{NoEnt}
+use Rattle.room_commands.specs.Checks.{no_object, denied_at, refusal_without_place}
 use Rattle.room_commands.specs.CommandModel.{CommandModel}
 use Rattle.room_commands.specs.Sight.{Sight, Own, replies_among}
 
@@ -27,12 +31,24 @@ kind_of o = (or_no_object o).kind
 abbrev pub handed_by : Option Object → List EntryModel → List EntryModel
 handed_by found above = option_map_or (λ (o : Object). handed_down above o.kind) found []
 
+abbrev pub right_on : Room → SubjectModel → Path → ℕ → Option Object → Option Refusal
+right_on room caller path wanted found =
+    option_map_or (λ (o : Object). denied_at path (decision (list_of room path) caller (standing_of o) wanted))
+    found (Some (refusal_without_place NoEnt))
+
 abbrev pub removal_refusal : Path → Option Refusal → Option Refusal → Option Refusal
 removal_refusal path own by_folder =
     if is_none own || is_none by_folder then None else denied_at path (Denied delete_object)
 
-abbrev pub if_reached : Option Refusal → Option Sight → Option Sight
-if_reached way there = if is_none way then there else None
+abbrev pub if_reached : Option Refusal → Option Sight → Result (Option Sight) Refusal
+if_reached way there = option_map_or Err way (Ok there)
+
+-- what is there at the end of a way that passes
+abbrev pub there_seen : Result (Option Sight) Refusal → Option Sight
+there_seen seen = result_unwrap_or seen None
+
+abbrev pub seen_less : (Sight → Sight) → Result (Option Sight) Refusal → Result (Option Sight) Refusal
+seen_less less seen = result_map_both (option_map less) (λ fault. fault) seen
 
 -- an object with other bytes
 abbrev pub object_with : (ℕ → ℕ) → Object → Object

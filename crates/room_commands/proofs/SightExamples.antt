@@ -1,8 +1,7 @@
--- What shows beyond the plain reading of the rights: two rooms whose sights differ in one field alone, and a command of
--- bob's that is answered differently in each. So none of these fields can be left out of what a caller sees.
-use Rattle.std.proofs.Common.{◌≡◌, ℕ, zero, suc, refl, true, List, [], ◌∷◌, ◌++◌, None, Some}
-use Rattle.std.specs.Prelude.{codes}
-use Rattle.std.specs.Option.{option_map}
+-- What shows, most of it beyond the plain reading of the rights: two rooms whose sights differ in one field alone, and
+-- a command of bob's that is answered differently in each. So no field can be left out of what a caller sees.
+use Rattle.std.proofs.Common.{◌≡◌, ◌+◌, ℕ, zero, suc, refl, true, List, [], ◌∷◌, ◌++◌, None, Some}
+use Rattle.std.specs.Prelude.{codes, Option, Result, Ok}
 use Rattle.room_acl.specs.declared.subject.Kind.{Kind}
 use Rattle.room_acl.specs.declared.subject.Kind.TheVariants.{File, Folder}
 use Rattle.room_acl.specs.declared.who.Who.TheVariants.{Everyone}
@@ -13,9 +12,11 @@ use Rattle.room_records.specs.Room.{Room, Object}
 use Rattle.room_commands.specs.declared.reply.RefusalCode.TheVariants.{NoEnt, Access, NotEmpty, IsDir, TooDeep}
 use Rattle.room_commands.specs.declared.reply.RefusalCode.TheVariants.{RoomFull}
 use Rattle.room_commands.specs.CommandModel as C
-use Rattle.room_commands.specs.ReplyModel.{ReplyModel, Attributes, Done, Size, Allowed, Refused, Stat, Bytes, Entries}
+use Rattle.room_commands.specs.ReplyModel.{ReplyModel, Refusal, Attributes}
+use Rattle.room_commands.specs.ReplyModel.{Done, Size, Allowed, NotDone, About, Names, Bytes, Entries}
 use Rattle.room_commands.specs.Effect.{effect}
-use Rattle.room_commands.specs.Sight.{Sight, View, view}
+use Rattle.room_commands.specs.Sight.{Sight, view}
+use Rattle.room_commands.specs.Elsewhere.{but_full, view_less}
 use Rattle.room_commands.proofs.Shorthands.{replies}
 
 abbrev bob : SubjectModel
@@ -54,20 +55,20 @@ without_a = room_of (of_ann [] Folder 32 [] ∷ [])
 same_root : view with_a bob [] ≡ view without_a bob []
 same_root = refl
 
-there_shows : (effect with_a bob (C.Stat a)).reply ≡ Refused (record { code = Access; place = Some (a, 128) })
+there_shows : (effect with_a bob (C.Stat a)).reply ≡ NotDone (record { code = Access; place = Some (a, 128) })
 there_shows = refl
 
-absence_shows : (effect without_a bob (C.Stat a)).reply ≡ Refused (record { code = NoEnt; place = None })
+absence_shows : (effect without_a bob (C.Stat a)).reply ≡ NotDone (record { code = NoEnt; place = None })
 absence_shows = refl
 
 -- its kind
 abbrev with_folder_a : Room
 with_folder_a = room_of (of_ann a Folder 0 [] ∷ of_ann [] Folder 32 [] ∷ [])
 
-file_shows : (effect with_a bob (C.Read a)).reply ≡ Refused (record { code = Access; place = Some (a, 1) })
+file_shows : (effect with_a bob (C.Read a)).reply ≡ NotDone (record { code = Access; place = Some (a, 1) })
 file_shows = refl
 
-folder_shows : (effect with_folder_a bob (C.Read a)).reply ≡ Refused (record { code = IsDir; place = None })
+folder_shows : (effect with_folder_a bob (C.Read a)).reply ≡ NotDone (record { code = IsDir; place = None })
 folder_shows = refl
 
 -- its own rights, those that no command needs among them
@@ -81,8 +82,8 @@ lack_shows : (effect with_a bob (C.Access 256 a)).reply ≡ Allowed 0
 lack_shows = refl
 
 -- the size, to whoever may append
-abbrev but_size : View → View
-but_size v = record v { there = option_map (λ (s : Sight). record s { size = None }) v.there }
+abbrev but_size : Sight → Sight
+but_size s = record s { size = None }
 
 abbrev long : Room
 long = room_of (of_ann a File 4 (codes "hi") ∷ of_ann [] Folder 32 [] ∷ [])
@@ -90,7 +91,7 @@ long = room_of (of_ann a File 4 (codes "hi") ∷ of_ann [] Folder 32 [] ∷ [])
 abbrev short : Room
 short = room_of (of_ann a File 4 [] ∷ of_ann [] Folder 32 [] ∷ [])
 
-all_but_size : but_size (view long bob a) ≡ but_size (view short bob a)
+all_but_size : view_less but_size long bob a ≡ view_less but_size short bob a
 all_but_size = refl
 
 long_shows : (effect long bob (C.Append [] a)).reply ≡ Size 2
@@ -100,8 +101,8 @@ short_shows : (effect short bob (C.Append [] a)).reply ≡ Size 0
 short_shows = refl
 
 -- the depth, to whoever may remove: first whether a folder is empty
-abbrev but_depth : View → View
-but_depth v = record v { there = option_map (λ (s : Sight). record s { depth = None }) v.there }
+abbrev but_depth_alone : Sight → Sight
+but_depth_alone s = record s { depth = None }
 
 abbrev holding : Room
 holding = room_of (of_ann a_b File 0 [] ∷ of_ann a Folder 65536 [] ∷ of_ann [] Folder 32 [] ∷ [])
@@ -109,13 +110,13 @@ holding = room_of (of_ann a_b File 0 [] ∷ of_ann a Folder 65536 [] ∷ of_ann 
 abbrev empty : Room
 empty = room_of (of_ann a Folder 65536 [] ∷ of_ann [] Folder 32 [] ∷ [])
 
-all_but_depth : but_depth (view holding bob a) ≡ but_depth (view empty bob a)
+all_but_depth : view_less but_depth_alone holding bob a ≡ view_less but_depth_alone empty bob a
 all_but_depth = refl
 
 nothing_inside : view holding bob a_b ≡ view empty bob a_b
 nothing_inside = refl
 
-holding_shows : (effect holding bob (C.Remove a)).reply ≡ Refused (record { code = NotEmpty; place = None })
+holding_shows : (effect holding bob (C.Remove a)).reply ≡ NotDone (record { code = NotEmpty; place = None })
 holding_shows = refl
 
 empty_shows : (effect empty bob (C.Remove a)).reply ≡ Done
@@ -137,7 +138,7 @@ two_deep = room_of (of_ann (codes "a" ∷ codes "b" ∷ codes "c" ∷ []) File 0
 abbrev one_deep : Room
 one_deep = room_of (of_ann a_b Folder 0 [] ∷ of_ann a Folder 65536 [] ∷ of_ann [] Folder 32 [] ∷ nest 14 [])
 
-two_shows : (effect two_deep bob (C.Rename a (deep_place 14))).reply ≡ Refused (record { code = TooDeep; place = None })
+two_shows : (effect two_deep bob (C.Rename a (deep_place 14))).reply ≡ NotDone (record { code = TooDeep; place = None })
 two_shows = refl
 
 one_shows : (effect one_deep bob (C.Rename a (deep_place 14))).reply ≡ Done
@@ -150,16 +151,13 @@ new_room = record { objects = of_ann [] Folder 36 [] ∷ []; made = 1 }
 abbrev used_up : Room
 used_up = record { objects = of_ann [] Folder 36 [] ∷ []; made = 1000000 }
 
-abbrev but_full : View → View
-but_full v = record v { there = option_map (λ (s : Sight). record s { full = None }) v.there }
-
-all_but_full : but_full (view new_room bob []) ≡ but_full (view used_up bob [])
+all_but_full : view_less but_full new_room bob [] ≡ view_less but_full used_up bob []
 all_but_full = refl
 
 new_shows : (effect new_room bob (C.Mkdir a)).reply ≡ Done
 new_shows = refl
 
-used_up_shows : (effect used_up bob (C.Mkdir a)).reply ≡ Refused (record { code = RoomFull; place = None })
+used_up_shows : (effect used_up bob (C.Mkdir a)).reply ≡ NotDone (record { code = RoomFull; place = None })
 used_up_shows = refl
 
 -- What a caller can come to see by its own commands: in each pair all looks the same to bob at first.
@@ -172,7 +170,7 @@ same_at_first : view one_left bob [] ≡ view new_room bob []
 same_at_first = refl
 
 left_shows : replies one_left bob (C.Mkdir a ∷ C.Mkdir (codes "b" ∷ []) ∷ [])
-    ≡ Done ∷ Refused (record { code = RoomFull; place = None }) ∷ []
+    ≡ Done ∷ NotDone (record { code = RoomFull; place = None }) ∷ []
 left_shows = refl
 
 many_show : replies new_room bob (C.Mkdir a ∷ C.Mkdir (codes "b" ∷ []) ∷ []) ≡ Done ∷ Done ∷ []
@@ -208,10 +206,10 @@ made_of group = replies (of_group group) bob (C.Create [] a ∷ C.SetList 2 (eve
 abbrev attributes_in : List ℕ → Attributes
 attributes_in group = record { aclflag = 2; group = group; kind = File; owner = codes "bob"; size = 0 }
 
-group_shows : made_of (codes "eng") ≡ Size 0 ∷ Done ∷ Stat (attributes_in (codes "eng")) ∷ []
+group_shows : made_of (codes "eng") ≡ Size 0 ∷ Done ∷ About (attributes_in (codes "eng")) ∷ []
 group_shows = refl
 
-other_group_shows : made_of (codes "ops") ≡ Size 0 ∷ Done ∷ Stat (attributes_in (codes "ops")) ∷ []
+other_group_shows : made_of (codes "ops") ≡ Size 0 ∷ Done ∷ About (attributes_in (codes "ops")) ∷ []
 other_group_shows = refl
 
 abbrev handing : ℕ → Room
@@ -243,12 +241,39 @@ movable_look_alike : view (movable (codes "hi")) bob a ≡ view (movable (codes 
 movable_look_alike = refl
 
 moved_shows : replies (movable (codes "hi")) bob (C.Read a ∷ C.Rename a h_a ∷ C.Read h_a ∷ [])
-    ≡ Refused (record { code = Access; place = Some (a, 1) }) ∷ Done ∷ Bytes (codes "hi") ∷ []
+    ≡ NotDone (record { code = Access; place = Some (a, 1) }) ∷ Done ∷ Bytes (codes "hi") ∷ []
 moved_shows = refl
 
 other_moved_shows : replies (movable (codes "ho")) bob (C.Read a ∷ C.Rename a h_a ∷ C.Read h_a ∷ [])
-    ≡ Refused (record { code = Access; place = Some (a, 1) }) ∷ Done ∷ Bytes (codes "ho") ∷ []
+    ≡ NotDone (record { code = Access; place = Some (a, 1) }) ∷ Done ∷ Bytes (codes "ho") ∷ []
 other_moved_shows = refl
+
+-- how deep a folder goes, to whoever may remove it and some of what is in it, even where it may add to no folder
+abbrev a_b_c : Path
+a_b_c = codes "a" ∷ codes "b" ∷ codes "c" ∷ []
+
+abbrev a_d : Path
+a_d = codes "a" ∷ codes "d" ∷ []
+
+abbrev branching : List (Path × Object) → Room
+branching below_d = room_of (below_d ++ of_ann a_d Folder 0 [] ∷ of_ann a_b_c File 0 [] ∷ of_ann a_b Folder 96 []
+    ∷ of_ann a Folder 65568 [] ∷ of_ann [] Folder 32 [] ∷ [])
+
+abbrev longer : Room
+longer = branching (of_ann (codes "a" ∷ codes "d" ∷ codes "e" ∷ []) File 0 [] ∷ [])
+
+branches_look_alike : view (branching []) bob a ≡ view longer bob a
+branches_look_alike = refl
+
+abbrev depth_seen : Result (Option Sight) Refusal → Option ℕ
+depth_seen (Ok (Some s)) = s.depth
+depth_seen seen = None
+
+abbrev depth_after : Room → Option ℕ
+depth_after room = depth_seen (view (effect room bob (C.Remove a_b_c)).room bob a)
+
+depth_shows : (depth_after (branching []) ≡ Some 1) × (depth_after longer ≡ Some 2)
+depth_shows = (refl, refl)
 
 -- anything, to whoever may set the list, and so to whoever may take the ownership
 abbrev settable : ℕ → List ℕ → Room
@@ -269,3 +294,58 @@ taken_shows : replies (settable 524288 (codes "hi")) bob
     (C.Chown (codes "eng") (codes "bob") a ∷ C.SetList 2 (everybody 0 1 ∷ []) a ∷ C.Read a ∷ [])
     ≡ Done ∷ Done ∷ Bytes (codes "hi") ∷ []
 taken_shows = refl
+
+-- and by the plain meaning of a right: attributes, names, bytes and the list
+abbrev one_file : ℕ → List EntryModel → List ℕ → Room
+one_file mask more bytes =
+    room_of (listed a File (codes "eng") 2 (everybody 0 mask ∷ more) bytes ∷ of_ann [] Folder 32 [] ∷ [])
+
+attributes_show : (effect (one_file 128 [] (codes "hi")) bob (C.Stat a)).reply
+    ≡ About (record { aclflag = 2; group = codes "eng"; kind = File; owner = codes "ann"; size = 2 })
+attributes_show = refl
+
+other_attributes_show : (effect (one_file 128 [] []) bob (C.Stat a)).reply
+    ≡ About (record { aclflag = 2; group = codes "eng"; kind = File; owner = codes "ann"; size = 0 })
+other_attributes_show = refl
+
+abbrev closed : List (Path × Object) → Room
+closed inside = room_of (inside ++ of_ann a Folder 1 [] ∷ of_ann [] Folder 32 [] ∷ [])
+
+behind_closed : view (closed (of_ann a_b File 0 [] ∷ [])) bob a_b ≡ view (closed []) bob a_b
+behind_closed = refl
+
+names_show : (effect (closed (of_ann a_b File 0 [] ∷ [])) bob (C.ListNames a)).reply ≡ Names ((codes "b", File) ∷ [])
+names_show = refl
+
+no_names_show : (effect (closed []) bob (C.ListNames a)).reply ≡ Names []
+no_names_show = refl
+
+bytes_show : (effect (one_file 1 [] (codes "hi")) bob (C.Read a)).reply ≡ Bytes (codes "hi")
+bytes_show = refl
+
+other_bytes_show : (effect (one_file 1 [] (codes "ho")) bob (C.Read a)).reply ≡ Bytes (codes "ho")
+other_bytes_show = refl
+
+list_shows : (effect (one_file 131072 (everybody 0 8 ∷ []) []) bob (C.GetList a)).reply
+    ≡ Entries 2 (everybody 0 131072 ∷ everybody 0 8 ∷ [])
+list_shows = refl
+
+other_list_shows : (effect (one_file 131072 (everybody 0 131072 ∷ []) []) bob (C.GetList a)).reply
+    ≡ Entries 2 (everybody 0 131072 ∷ everybody 0 131072 ∷ [])
+other_list_shows = refl
+
+-- what the folder above hands down, to whoever may set the list of what is in it
+abbrev below_handing : ℕ → Room
+below_handing mask = room_of (listed a File (codes "eng") 2 (everybody 0 393216 ∷ []) []
+    ∷ listed [] Folder (codes "eng") 0 (everybody 0 32 ∷ everybody 9 (mask + 131072) ∷ []) [] ∷ [])
+
+below_handing_look_alike : view (below_handing 8) bob a ≡ view (below_handing 16) bob a
+below_handing_look_alike = refl
+
+below_handing_shows : replies (below_handing 8) bob (C.SetList 1 [] a ∷ C.GetList a ∷ [])
+    ≡ Done ∷ Entries 1 (everybody 128 131080 ∷ []) ∷ []
+below_handing_shows = refl
+
+other_below_handing_shows : replies (below_handing 16) bob (C.SetList 1 [] a ∷ C.GetList a ∷ [])
+    ≡ Done ∷ Entries 1 (everybody 128 131088 ∷ []) ∷ []
+other_below_handing_shows = refl

@@ -20,7 +20,7 @@ use Rattle.room_records.proofs.RoomsChildren.{same_name}
 use Rattle.room_commands.specs.ReplyModel.{Refusal, Attributes}
 use Rattle.room_commands.specs.Checks.{first_refusal, check_right, is_file, is_kind, is_root, prefix_refusal, walk}
 use Rattle.room_commands.specs.Checks.{is_at_or_below}
-use Rattle.room_commands.specs.Sight.{LooksAlike, StayAlike, SameBelow, Sight, View, may, may_remove, depth_in}
+use Rattle.room_commands.specs.Sight.{LooksAlike, StayAlike, SameBelow, Sight, may, may_remove, depth_in}
 use Rattle.room_commands.specs.Sight.{view, handed_to}
 use Rattle.room_commands.proofs.RoomsRenamed.{rest_below, below_more}
 use Rattle.room_commands.proofs.RoomsNew.{same_or_other_path}
@@ -30,7 +30,7 @@ use Rattle.room_commands.proofs.BytesAlone.{Facts, facts_at, sight_with, size_wi
 use Rattle.room_commands.proofs.SameParts.{right_same, prefix_same, walk_same, children_same, depth_same, Region}
 use Rattle.room_commands.proofs.SameParts.{list_in, same_in, view_in, handed_in, list_by_handed}
 use Rattle.room_commands.specs.Checks.{object_or_default}
-use Rattle.room_commands.proofs.Shorthands.{handed_by, if_reached, or_no_object, removal_refusal}
+use Rattle.room_commands.proofs.Shorthands.{handed_by, if_reached, there_seen, or_no_object, removal_refusal}
 use Rattle.std.specs.Bool.{then_some}
 use Rattle.room_commands.specs.Checks.{right_to_add}
 
@@ -410,17 +410,16 @@ module _ (a b a' b' : Room) (caller : SubjectModel) (p t : Path) (s : Step a b a
             ≡ option_map (sight_with caller facts_b) (object_at b q)
         there_before h =
             let whole = sym (view_by_facts a caller q) ∙ alike q ∙ view_by_facts b caller q in
-            ap (λ w. if_reached w (option_map (sight_with caller facts_a) (object_at a q))) (sym h)
-            ∙ ap (λ (v : View). v.there) whole
+            ap there_seen
+            (ap (λ w. if_reached w (option_map (sight_with caller facts_a) (object_at a q))) (sym h) ∙ whole
             ∙ ap (λ w. if_reached w (option_map (sight_with caller facts_b) (object_at b q)))
-            (sym (way_alike a b caller alike q) ∙ h)
+            (sym (way_alike a b caller alike q) ∙ h))
 
         by_way : (w : Option Refusal) → walk a caller q ≡ w
             → view_with caller w (facts_at a' caller q) (object_at a q)
             ≡ view_with caller w (facts_at b' caller q) (object_at b q)
         by_way (Some r) h = refl
-        by_way None h = ap (λ (there : Option Sight). let v : View = record { way = None; there = there } in v)
-            (there_after h (object_at a q) (object_at b q) (there_before h))
+        by_way None h = ap (if_reached None) (there_after h (object_at a q) (object_at b q) (there_before h))
 
   looks_alike : LooksAlike caller a' b'
   looks_alike q = elim (place p t q) [

@@ -17,7 +17,7 @@ use Rattle.room_commands.specs.ReplyModel.{Refusal, Attributes}
 use Rattle.room_commands.specs.Lawful.{IsLawful}
 use Rattle.room_commands.specs.Checks.{walk, is_file, is_at_or_below}
 use Rattle.room_commands.specs.Effect.{effect}
-use Rattle.room_commands.specs.Sight.{StayAlike, SameBelow, Sight, View, view, may, may_remove, depth_in}
+use Rattle.room_commands.specs.Sight.{StayAlike, SameBelow, Sight, view, may, may_remove, depth_in}
 use Rattle.room_commands.specs.Elsewhere.{IsOutOfSight, AddsNowhere}
 use Rattle.room_commands.proofs.ChecksTell.{walk_ends_in_folder}
 use Rattle.room_commands.proofs.RoomsRenamed.{rest_below, one_continues}
@@ -28,7 +28,7 @@ use Rattle.room_commands.proofs.Staying.{Off, Below_p, Below_t, Away, place, chi
 use Rattle.room_commands.proofs.Staying.{walk_out, some_folder}
 use Rattle.room_commands.proofs.Others.{stay_itself}
 use Rattle.room_commands.proofs.Elsewhere.{Leaves, by_result, blocked, nothing_seen, fault_on, seen_behind, view_off}
-use Rattle.room_commands.proofs.Shorthands.{or_no_object}
+use Rattle.room_commands.proofs.Shorthands.{if_reached, or_no_object}
 use Rattle.std.specs.Bool.{then_some}
 use Rattle.room_commands.specs.Checks.{right_to_add}
 
@@ -164,8 +164,7 @@ module _ (room later : Room) (caller : SubjectModel) (p t : Path) (is_room : IsR
       full = nat_le max_objects later.made;
     }) o ≡ view_with caller None facts o
     there_same None at = refl
-    there_same (Some o) at =
-        ap (λ (seen : Sight). let v : View = record { way = None; there = Some seen } in v) (sight_same o at)
+    there_same (Some o) at = ap (λ (seen : Sight). if_reached None (Some seen)) (sight_same o at)
 
     pub reached_same : view later caller q ≡ view room caller q
     reached_same =

@@ -1,13 +1,16 @@
 -- An example that computes: a folder that ann makes where bob may not look does not show to bob, though it takes one of
 -- the numbers that are left.
-use Rattle.std.proofs.Common.{◌≡◌, refl, sym, arith, inl, inr, [], ◌∷◌}
+use Rattle.std.proofs.Common.{◌≡◌, ◌<◌, ℕ, refl, sym, arith, inl, inr, [], ◌∷◌}
 use Rattle.std.specs.Prelude.{codes}
-use Rattle.std.proofs.lemmas.Str.{IsUtf8-from_ascii}
+use Rattle.std.specs.Str.{IsUtf8}
+use Rattle.std.proofs.lemmas.Bool.{and_from}
+use Rattle.std.proofs.lemmas.Str.{IsUtf8-from_ascii, is_utf8-from_IsUtf8}
 use Rattle.std.proofs.lemmas.Str.Ascii.{IsAscii-nil, IsAscii-cons}
 use Rattle.room_acl.specs.declared.subject.Kind.TheVariants.{Folder}
 use Rattle.room_acl.specs.SubjectModel.{SubjectModel}
-use Rattle.room_records.specs.Names.{Path, IsPath}
+use Rattle.room_records.specs.Names.{Path, is_file_name, IsFileName, IsPath}
 use Rattle.room_records.specs.Room.{Room, IsRoom, fresh_room, fresh_object}
+use Rattle.room_records.proofs.PathParts.{path_of_names}
 use Rattle.room_records.proofs.FreshRoom.{fresh_is_room}
 use Rattle.room_records.proofs.RoomsMap.{none_is_some, found_stands}
 use Rattle.room_commands.specs.CommandModel as C
@@ -42,45 +45,29 @@ locked = record {
   made = 2;
 }
 
+ascii_name : (b : ℕ) → b < 128 → IsUtf8 (b ∷ [])
+ascii_name b small = IsUtf8-from_ascii (b ∷ []) (IsAscii-cons b [] small IsAscii-nil)
+
+h_is_name : IsFileName (codes "h")
+unfolding is_file_name
+h_is_name = and_from _ _ (is_utf8-from_IsUtf8 (codes "h") (ascii_name 104 (omega arith))) refl
+
+a_is_name : IsFileName (codes "a")
+unfolding is_file_name
+a_is_name = and_from _ _ (is_utf8-from_IsUtf8 (codes "a") (ascii_name 97 (omega arith))) refl
+
 h_lawful : IsPath h
-h_lawful = record {
-  short = omega arith;
-  names = (
-    record {
-      text = IsUtf8-from_ascii (codes "h") (IsAscii-cons 104 [] (omega arith) IsAscii-nil);
-      some = omega arith;
-      short = omega arith;
-      bytes = refl;
-      no_dots = refl;
-    },
-    tt,
-  );
-}
+h_lawful = path_of_names h (omega arith) (h_is_name, tt)
 
 h_a_lawful : IsPath h_a
-h_a_lawful = record {
-  short = omega arith;
-  names = (
-    h_lawful.names.0,
-    (
-      record {
-        text = IsUtf8-from_ascii (codes "a") (IsAscii-cons 97 [] (omega arith) IsAscii-nil);
-        some = omega arith;
-        short = omega arith;
-        bytes = refl;
-        no_dots = refl;
-      },
-      tt,
-    ),
-  );
-}
+h_a_lawful = path_of_names h_a (omega arith) (h_is_name, (a_is_name, tt))
 
 locked_is : (effect (effect start ann (C.Mkdir h)).room ann (C.Chown (codes "ops") (codes "ann") h)).room ≡ locked
 locked_is = refl
 
 is_room : IsRoom locked
 is_room = effect_is_room (effect start ann (C.Mkdir h)).room ann (C.Chown (codes "ops") (codes "ann") h)
-    ((omega arith, omega arith, refl), (omega arith, omega arith, refl), h_lawful)
+    (refl, refl, h_lawful)
     (effect_is_room start ann (C.Mkdir h) h_lawful (fresh_is_room (codes "ann") (codes "eng")))
 
 no_power : HasNoPower bob locked h_a

@@ -4,7 +4,7 @@ use Rattle.std.specs.Prelude.{ℕ, ◌+◌, ◌-◌, Bool, true, false, not, ◌
 use Rattle.std.specs.Prelude.{Some, if◌then◌else◌, is_none, is_some, nat_lt, nat_le}
 use Rattle.std.specs.Bool.{then_some}
 use Rattle.std.specs.List.{list_any, starts_with}
-use Rattle.std.specs.Option.{unwrap_or}
+use Rattle.std.specs.Option.{option_map_or, unwrap_or}
 use Rattle.room_acl.specs.declared.subject.Kind.{Kind}
 use Rattle.room_acl.specs.declared.subject.Kind.TheVariants.{File, Folder}
 use Rattle.room_acl.specs.declared.access.Decision.{Decision}
@@ -48,12 +48,10 @@ denied_at path Allowed = None
 denied_at path (Denied bit) = Some (record { code = Access; place = Some (path, bit) })
 
 -- the wanted bits, by the list of the object (RFC 8881, section 6.2.1)
-abbrev pub right_on : Room → SubjectModel → Path → ℕ → Option Object → Option Refusal
-right_on room caller path wanted None = Some (refusal_without_place NoEnt)
-right_on room caller path wanted (Some o) = denied_at path (decision (list_of room path) caller (standing_of o) wanted)
-
 abbrev pub check_right : Room → SubjectModel → Path → ℕ → Option Refusal
-check_right room caller path wanted = right_on room caller path wanted (object_at room path)
+check_right room caller path wanted =
+    option_map_or (λ (o : Object). denied_at path (decision (list_of room path) caller (standing_of o) wanted))
+    (object_at room path) (Some (refusal_without_place NoEnt))
 
 -- the caller has a right on a path
 abbrev pub may : Room → SubjectModel → Path → ℕ → Bool
@@ -104,8 +102,12 @@ walk room caller path = first_refusal (map (prefix_refusal room caller) (proper_
 abbrev pub check_folder_full : Room → Path → Option Refusal
 check_folder_full room folder = refuse_if (nat_le max_children (length (children room folder))) FolderFull
 
+-- no number is left
+abbrev pub is_full : Room → Bool
+is_full room = nat_le max_objects room.made
+
 abbrev pub check_room_full : Room → Option Refusal
-check_room_full room = refuse_if (nat_le max_objects room.made) RoomFull
+check_room_full room = refuse_if (is_full room) RoomFull
 
 abbrev pub check_size : ℕ → Option Refusal
 check_size size = refuse_if (nat_lt max_document size) FBig

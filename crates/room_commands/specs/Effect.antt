@@ -11,7 +11,7 @@ use Rattle.room_records.specs.Names.{Path, path_eq}
 use Rattle.room_commands.specs.CommandModel.{CommandModel}
 use Rattle.room_commands.specs.CommandModel as C
 use Rattle.room_records.specs.Room.{Object, Room, list_of, standing_of, parent_of, children}
-use Rattle.room_commands.specs.ReplyModel.{ReplyModel, Done, Stat, Names, Size, Bytes, Entries, Allowed, Refused}
+use Rattle.room_commands.specs.ReplyModel.{ReplyModel, Done, About, Names, Size, Bytes, Entries, Allowed, NotDone}
 use Rattle.room_commands.specs.ReplyModel.{Refusal, Attributes}
 use Rattle.room_commands.specs.SetList.{own_entries_of_setlist}
 use Rattle.room_commands.specs.Checks.{first_refusal, checks, object_or_default, bytes_at, is_at_or_below}
@@ -74,7 +74,7 @@ attributes_of room path o =
 
 -- what it replies where no check fails
 abbrev pub reply : Room → SubjectModel → CommandModel → ReplyModel
-reply room caller (C.Stat path) = Stat (attributes_of room path (object_or_default room path))
+reply room caller (C.Stat path) = About (attributes_of room path (object_or_default room path))
 reply room caller (C.ListNames path) = Names (children room path)
 reply room caller (C.Create bytes path) = Size (length bytes)
 reply room caller (C.Read path) = Bytes (bytes_at room path)
@@ -86,7 +86,7 @@ reply room caller (C.Access mask path) =
 reply room caller command = Done
 
 abbrev pub effect_by : Room → SubjectModel → CommandModel → Option Refusal → Effect
-effect_by room caller command (Some refusal) = record { room = room; reply = Refused refusal }
+effect_by room caller command (Some refusal) = record { room = room; reply = NotDone refusal }
 effect_by room caller command None = record { room = changed room caller command; reply = reply room caller command }
 
 -- the first check that fails gives the reply, and the room stays

@@ -1,16 +1,17 @@
 -- What a command of anybody's may change for a caller elsewhere (our own rules).
-use Rattle.std.specs.Prelude.{◌≡◌, true, false, ◌||◌, [], ◌∷◌, ◌++◌, None, Some, is_none}
+use Rattle.std.specs.Prelude.{◌≡◌, true, false, ◌||◌, [], ◌∷◌, ◌++◌, Option, None, Some, is_none, Result}
 use Rattle.std.specs.Option.{option_map}
+use Rattle.std.specs.Result.{result_map_both}
 use Rattle.room_acl.specs.declared.subject.Kind.TheVariants.{Folder}
-use Rattle.room_acl.specs.Bits.{list_directory, add_file, add_subdirectory, read_attributes, write_acl, write_owner}
+use Rattle.room_acl.specs.Bits.{list_directory, read_attributes}
 use Rattle.room_acl.specs.SubjectModel.{SubjectModel}
 use Rattle.room_records.specs.Names.{Name, Path}
 use Rattle.room_records.specs.Room.{Object, Room, object_at, parent_of}
-use Rattle.room_commands.specs.ReplyModel.{Attributes}
+use Rattle.room_commands.specs.ReplyModel.{Refusal, Attributes}
 use Rattle.room_commands.specs.Checks.{walk, is_at_or_below}
-use Rattle.room_commands.specs.Sight.{Sight, View, may, HasNoPower}
+use Rattle.room_commands.specs.Sight.{Sight, view, may, may_add, may_set, HasNoPower}
 
--- a path is neither at another one nor below it, or the caller cannot reach that
+-- a path is not at or below another one, unless the caller cannot reach that one
 abbrev pub IsOffOne : SubjectModel → Room → Path → Path → Type 0
 IsOffOne caller room top path = is_at_or_below path top ≡ true → is_none (walk room caller top) ≡ false
 
@@ -26,24 +27,24 @@ HoldsNeither paths path = (name : Name) → (paths.0 ≡ path ++ name ∷ [] →
 abbrev pub IsAboveNeither : Path × Path → Path → Type 0
 IsAboveNeither paths path = (is_at_or_below paths.0 path ≡ false) × (is_at_or_below paths.1 path ≡ false)
 
--- a view, but for whether a number is left
-abbrev pub but_full : View → View
-but_full v = record v { there = option_map (λ (s : Sight). record s { full = None }) v.there }
+-- what is seen of an object, but for whether a number is left
+abbrev pub but_full : Sight → Sight
+but_full s = record s { full = None }
 
 -- and but for how deep it goes
-abbrev pub but_depth : View → View
-but_depth v = record v { there = option_map (λ (s : Sight). record s { full = None; depth = None }) v.there }
+abbrev pub but_depth : Sight → Sight
+but_depth s = record (but_full s) { depth = None }
 
 -- and but for the names in a folder, and how many they are
-abbrev pub but_names : View → View
-but_names v = record v {
-  there = option_map (λ (s : Sight). record s {
-    full = None;
-    depth = None;
-    names = None;
-    attributes = option_map (λ (x : Attributes). record x { size = 0 }) s.attributes;
-  }) v.there;
+abbrev pub but_names : Sight → Sight
+but_names s = record (but_depth s) {
+  names = None;
+  attributes = option_map (λ (x : Attributes). record x { size = 0 }) s.attributes;
 }
+
+-- what is seen at a path, with less of what is there
+abbrev pub view_less : (Sight → Sight) → Room → SubjectModel → Path → Result (Option Sight) Refusal
+view_less less room caller path = result_map_both (option_map less) (λ fault. fault) (view room caller path)
 
 -- a path that the caller cannot reach, in a folder of which it sees neither the names nor how many they are; and it has
 -- no power over the folders above
@@ -56,5 +57,4 @@ IsOutOfSight caller room path = (is_none (walk room caller path) ≡ false)
 -- the caller may add to no folder, nor give itself the right to
 abbrev pub AddsNowhere : SubjectModel → Room → Type 0
 AddsNowhere caller room = (folder : Path) (o : Object) → object_at room folder ≡ Some o → o.kind ≡ Folder
-    → walk room caller folder ≡ None → ((may room caller folder add_file || may room caller folder add_subdirectory)
-    || (may room caller folder write_acl || may room caller folder write_owner)) ≡ false
+    → walk room caller folder ≡ None → (may_add room caller folder || may_set room caller folder) ≡ false

@@ -23,26 +23,26 @@ pub record Attributes : Type 0 where
 pub data ReplyModel : Type 0 where
   Done : ReplyModel
   Opened : ℕ → ReplyModel
-  Stat : Attributes → ReplyModel
+  About : Attributes → ReplyModel
   Names : List (Name × Kind) → ReplyModel
   Size : ℕ → ReplyModel
   Bytes : List ℕ → ReplyModel
   Entries : ℕ → List EntryModel → ReplyModel
   Allowed : ℕ → ReplyModel
-  Refused : Refusal → ReplyModel
+  NotDone : Refusal → ReplyModel
 
 -- what a reply of the program says
 abbrev pub reply_model : Reply → ReplyModel
 reply_model R.Done = Done
 reply_model (R.Opened slots) = Opened slots
-reply_model (R.Stat flags g k o n) = Stat (record { aclflag = flags; group = g; kind = k; owner = o; size = n })
+reply_model (R.Stat flags g k o n) = About (record { aclflag = flags; group = g; kind = k; owner = o; size = n })
 reply_model (R.Names pairs) = Names pairs.items
 reply_model (R.Size n) = Size n
 reply_model (R.Bytes b) = Bytes b.items
 reply_model (R.Entries flags es) = Entries flags es.items
 reply_model (R.Allowed mask) = Allowed mask
-reply_model (R.Refused code place) = Refused (record { code = code; place = place })
+reply_model (R.Refused code place) = NotDone (record { code = code; place = place })
 
-abbrev pub IsRefused : ReplyModel → Type 0
-IsRefused (Refused r) = Unit {0}
-IsRefused _ = ⊥
+abbrev pub IsNotDone : ReplyModel → Type 0
+IsNotDone (NotDone r) = Unit {0}
+IsNotDone _ = ⊥

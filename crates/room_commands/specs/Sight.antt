@@ -1,8 +1,8 @@
 -- What a caller may see of a room, and when two rooms look alike to it. Which right shows what follows the meaning of
 -- the bits in RFC 8881, section 6.2.1.3.1. What shows beyond that meaning follows from our own order of checks, and is
--- named below: `way`, that something is there, `kind`, `rights`, `size`, `depth` and `full`.
+-- named below: the first fault on the way, that something is there, `kind`, `rights`, `size`, `depth` and `full`.
 use Rattle.std.specs.Prelude.{◌≡◌, ℕ, ◌-◌, max, Bool, true, false, not, ◌&&◌, ◌||◌, List, [], ◌∷◌, ◌++◌}
-use Rattle.std.specs.Prelude.{length, Option, None, is_none, if◌then◌else◌, nat_le, ⊤}
+use Rattle.std.specs.Prelude.{length, Option, None, is_none, Result, Ok, Err, if◌then◌else◌, ⊤}
 use Rattle.std.specs.Bool.{then_some}
 use Rattle.std.specs.Option.{option_map, option_map_or}
 use Rattle.room_acl.specs.declared.subject.Kind.{Kind}
@@ -13,7 +13,6 @@ use Rattle.room_acl.specs.SubjectModel.{SubjectModel}
 use Rattle.room_acl.specs.Entries.{EntryModel}
 use Rattle.room_acl.specs.Access.{allowed_mask}
 use Rattle.room_acl.specs.Inheritance.{handed_down}
-use Rattle.room_records.specs.Limits.{max_objects}
 use Rattle.room_records.specs.Names.{Name, Path}
 use Rattle.room_records.specs.Room.{Object, Room, object_at, list_of, standing_of, parent_of, children}
 use Rattle.room_commands.specs.CommandModel.{CommandModel}
@@ -21,6 +20,7 @@ use Rattle.room_commands.specs.CommandModel as C
 use Rattle.room_commands.specs.ReplyModel.{Refusal, Attributes, ReplyModel}
 use Rattle.room_commands.specs.Lawful.{IsLawful}
 use Rattle.room_commands.specs.Checks.{check_removal, walk, is_file, is_kind, is_root, is_at_or_below, right_to_add}
+use Rattle.room_commands.specs.Checks.{is_full}
 use Rattle.room_commands.specs.Checks.{object_or_default}
 pub use Rattle.room_commands.specs.Checks.{may}
 use Rattle.room_commands.specs.Effect.{attributes_of, effect}
@@ -28,6 +28,14 @@ use Rattle.room_commands.specs.Effect.{attributes_of, effect}
 -- the caller may remove an object, or move it: by DELETE on it, or by DELETE_CHILD on its folder
 abbrev pub may_remove : Room → SubjectModel → Path → Bool
 may_remove room caller path = not (is_root path) && is_none (check_removal room caller path)
+
+-- or add to it, if it is a folder
+abbrev pub may_add : Room → SubjectModel → Path → Bool
+may_add room caller path = may room caller path add_file || may room caller path add_subdirectory
+
+-- or set its list or its owner
+abbrev pub may_set : Room → SubjectModel → Path → Bool
+may_set room caller path = may room caller path write_acl || may room caller path write_owner
 
 -- how many names longer than a path the longest path at or below it is
 abbrev pub depth_in : Path → List (Path × Object) → ℕ
@@ -66,23 +74,14 @@ sight_of room caller path o = record {
   entries = then_some (may room caller path read_acl) (o.aclflag, list_of room path);
   size = then_some (is_file o.kind && may room caller path append_data) (length o.bytes);
   depth = then_some (may_remove room caller path) (depth_in path room.objects);
-  full = then_some (not (is_file o.kind)
-      && (may room caller path add_file || may room caller path add_subdirectory)) (nat_le max_objects room.made);
+  full = then_some (not (is_file o.kind) && may_add room caller path) (is_full room);
 }
 
--- what is seen at a path: why it cannot be reached, or what is there
-pub record View : Type 0 where
-  -- the first fault on the way: it names the first folder that is missing, is a file, or denies EXECUTE
-  pub way : Option Refusal
-  pub there : Option Sight
-
-abbrev pub view : Room → SubjectModel → Path → View
-view room caller path = record {
-  way = walk room caller path;
-  -- nothing is seen behind a fault on the way
-  there = if is_none (walk room caller path) then option_map (sight_of room caller path) (object_at room path)
-      else None;
-}
+-- what is seen at a path: the first fault on the way (a folder that is missing, is a file, or denies EXECUTE), and
+-- nothing behind it; else what is there
+abbrev pub view : Room → SubjectModel → Path → Result (Option Sight) Refusal
+view room caller path =
+    option_map_or Err (walk room caller path) (Ok (option_map (sight_of room caller path) (object_at room path)))
 
 -- two rooms of which a caller may see the same, at each path
 abbrev pub LooksAlike : SubjectModel → Room → Room → Type 0
@@ -118,9 +117,8 @@ pub record StayAlike (caller : SubjectModel) (a b : Room) : Type 0 where
       × (handed_down (list_of a folder) kind ≡ handed_down (list_of b folder) kind)
   -- what it may move it may put below a list of its own
   pub moving : (path : Path) → walk a caller path ≡ None → may_remove a caller path ≡ true → SameBelow a b path
-  -- and where it may set the list or the owner, it may give itself each right; of a folder that to add
-  pub setting : (path : Path) → walk a caller path ≡ None
-      → (may a caller path write_acl || may a caller path write_owner) ≡ true
+  -- where it may set the list or the owner, it may give itself each right; on a folder, so also the right to add
+  pub setting : (path : Path) → walk a caller path ≡ None → may_set a caller path ≡ true
       → SameBelow a b path × (handed_to a path ≡ handed_to b path)
       × (is_kind Folder (object_at a path) ≡ true → a.made ≡ b.made)
 
@@ -159,5 +157,4 @@ BytesUnseen caller room path = walk room caller path ≡ None → (may room call
 -- and it can do nothing to the file, nor to a folder above it, that would let it see them
 abbrev pub HasNoPower : SubjectModel → Room → Path → Type 0
 HasNoPower caller room path = (front rest : Path) → path ≡ front ++ rest → walk room caller front ≡ None
-    → (may_remove room caller front ≡ false)
-    × ((may room caller front write_acl || may room caller front write_owner) ≡ false)
+    → (may_remove room caller front ≡ false) × (may_set room caller front ≡ false)

@@ -15,16 +15,16 @@ ghost use Rattle.room_records.specs.Room.{Object, Room, IsRoom, fresh_room, obje
 ghost use Rattle.room_records.specs.Room.{standing_of};
 ghost use Rattle.room_commands.specs.CommandModel.{CommandModel, Read, Write, Append, Rename, GetList, SetList};
 ghost use Rattle.room_commands.specs.CommandModel.{paths_of};
-ghost use Rattle.room_commands.specs.ReplyModel.{IsRefused, Bytes, Entries, Done};
+ghost use Rattle.room_commands.specs.ReplyModel.{IsNotDone, Bytes, Entries, Done};
 ghost use Rattle.room_commands.specs.SetList.{own_entries_of_setlist};
 ghost use Rattle.room_commands.specs.Lawful.{IsLawful};
 ghost use Rattle.room_commands.specs.Checks.{bytes_at, is_at_or_below, walk};
 ghost use Rattle.room_commands.specs.Effect.{effect};
 ghost use Rattle.room_commands.specs.Needs.{NeedsAllowed};
-ghost use Rattle.room_commands.specs.Sight.{LooksAlike, StayAlike, BytesUnseen, HasNoPower, OthersUnseen, Turn, view};
+ghost use Rattle.room_commands.specs.Sight.{LooksAlike, StayAlike, BytesUnseen, HasNoPower, OthersUnseen, Turn};
 ghost use Rattle.room_commands.specs.OtherBytes.{room_with, command_with, reply_with};
 ghost use Rattle.room_commands.specs.Elsewhere.{IsOff, HoldsNeither, IsAboveNeither, but_full, but_depth};
-ghost use Rattle.room_commands.specs.Elsewhere.{but_names, IsOutOfSight, AddsNowhere};
+ghost use Rattle.room_commands.specs.Elsewhere.{but_names, view_less, IsOutOfSight, AddsNowhere};
 ghost use Rattle.room_commands.specs.Sight.{may, changes_bytes_alone, Own, own_turns, replies_among};
 
 /// A fresh room is a room.
@@ -42,13 +42,13 @@ pub fn a_command_keeps_a_room()
 /// A command that is refused leaves the room as it was.
 pub fn a_refused_command_leaves_the_room()
     ensures { (room : Room) (caller : SubjectModel) (command : CommandModel) →
-        IsRefused (effect room caller command).reply → (effect room caller command).room ≡ room }
+        IsNotDone (effect room caller command).reply → (effect room caller command).room ≡ room }
 {}
 
 /// A command that is not refused had every right that it needs, by the lists before it.
 pub fn a_success_had_every_right()
     ensures { (room : Room) (caller : SubjectModel) (command : CommandModel) →
-        (IsRefused (effect room caller command).reply → ⊥) → NeedsAllowed room caller command }
+        (IsNotDone (effect room caller command).reply → ⊥) → NeedsAllowed room caller command }
 {}
 
 /// The owner of an object can always read its list and set it, where the folders above let the owner through (`walk`
@@ -69,12 +69,12 @@ pub fn an_owner_can_always_mend_a_list()
 /// written, and right after an APPEND what was there with the new bytes behind it.
 pub fn a_read_gives_what_was_written()
     ensures written { (room : Room) (caller : SubjectModel) (path : Path) (bytes : List ℕ) →
-        (IsRefused (effect room caller (Write bytes path)).reply → ⊥)
-        → (IsRefused (effect room caller (Read path)).reply → ⊥) →
+        (IsNotDone (effect room caller (Write bytes path)).reply → ⊥)
+        → (IsNotDone (effect room caller (Read path)).reply → ⊥) →
         (effect (effect room caller (Write bytes path)).room caller (Read path)).reply ≡ Bytes bytes }
     ensures appended { (room : Room) (caller : SubjectModel) (path : Path) (bytes : List ℕ) →
-        (IsRefused (effect room caller (Append bytes path)).reply → ⊥)
-        → (IsRefused (effect room caller (Read path)).reply → ⊥) →
+        (IsNotDone (effect room caller (Append bytes path)).reply → ⊥)
+        → (IsNotDone (effect room caller (Read path)).reply → ⊥) →
         (effect (effect room caller (Append bytes path)).room caller (Read path)).reply
         ≡ Bytes (bytes_at room path ++ bytes) }
 {}
@@ -83,14 +83,14 @@ pub fn a_read_gives_what_was_written()
 /// nothing is left at the old one, and all else is as it was.
 pub fn a_rename_moves_a_subtree()
     ensures moved { (room : Room) (caller : SubjectModel) (path to : Path) → IsRoom room →
-        (IsRefused (effect room caller (Rename path to)).reply → ⊥) →
+        (IsNotDone (effect room caller (Rename path to)).reply → ⊥) →
         (rest : Path) → object_at (effect room caller (Rename path to)).room (to ++ rest)
         ≡ object_at room (path ++ rest) }
     ensures gone { (room : Room) (caller : SubjectModel) (path to : Path) → IsRoom room →
-        (IsRefused (effect room caller (Rename path to)).reply → ⊥) →
+        (IsNotDone (effect room caller (Rename path to)).reply → ⊥) →
         (rest : Path) → object_at (effect room caller (Rename path to)).room (path ++ rest) ≡ None }
     ensures elsewhere { (room : Room) (caller : SubjectModel) (path to : Path) → IsRoom room →
-        (IsRefused (effect room caller (Rename path to)).reply → ⊥) →
+        (IsNotDone (effect room caller (Rename path to)).reply → ⊥) →
         (other : Path) → is_at_or_below other path ≡ false → is_at_or_below other to ≡ false →
         object_at (effect room caller (Rename path to)).room other ≡ object_at room other }
 {}
@@ -119,7 +119,7 @@ pub fn a_protected_list_stays_its_own()
         object_at room path ≡ Some o → object_at other to ≡ Some o → has_flag o.aclflag protected_flag ≡ true →
         may room caller path right ≡ may other caller to right }
     ensures moved { (room : Room) (caller other : SubjectModel) (path to rest : Path) (o : Object) (right : ℕ) →
-        IsRoom room → (IsRefused (effect room other (Rename path to)).reply → ⊥) →
+        IsRoom room → (IsNotDone (effect room other (Rename path to)).reply → ⊥) →
         object_at room (path ++ rest) ≡ Some o → has_flag o.aclflag protected_flag ≡ true →
         may (effect room other (Rename path to)).room caller (to ++ rest) right
         ≡ may room caller (path ++ rest) right }
@@ -198,13 +198,13 @@ pub fn bytes_reach_answers_by_read_alone()
 pub fn a_command_shows_at_its_paths()
     ensures above { (room : Room) (caller other : SubjectModel) (command : CommandModel) (path : Path) →
         IsLawful command → IsRoom room → IsOff caller room (paths_of command) path →
-        but_names (view (effect room other command).room caller path) ≡ but_names (view room caller path) }
+        view_less but_names (effect room other command).room caller path ≡ view_less but_names room caller path }
     ensures higher { (room : Room) (caller other : SubjectModel) (command : CommandModel) (path : Path) →
         IsLawful command → IsRoom room → IsOff caller room (paths_of command) path →
         HoldsNeither (paths_of command) path →
-        but_depth (view (effect room other command).room caller path) ≡ but_depth (view room caller path) }
+        view_less but_depth (effect room other command).room caller path ≡ view_less but_depth room caller path }
     ensures aside { (room : Room) (caller other : SubjectModel) (command : CommandModel) (path : Path) →
         IsLawful command → IsRoom room → IsOff caller room (paths_of command) path →
         IsAboveNeither (paths_of command) path →
-        but_full (view (effect room other command).room caller path) ≡ but_full (view room caller path) }
+        view_less but_full (effect room other command).room caller path ≡ view_less but_full room caller path }
 {}

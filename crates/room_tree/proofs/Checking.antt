@@ -15,7 +15,8 @@ use Rattle.room_records.specs.Room.{Object, Room, object_at, parent_of, standing
 use Rattle.room_tree.specs.declared.loaded.LoadedObject.{LoadedObject}
 use Rattle.room_commands.specs.declared.reply.RefusalCode.TheVariants.{NoEnt, Exist, Inval, IsDir}
 use Rattle.room_commands.specs.ReplyModel.{Refusal}
-use Rattle.room_commands.specs.Checks.{refuse_if, refusal_without_place, is_kind, denied_at, right_on, check_exists}
+use Rattle.room_commands.specs.Checks.{refuse_if, refusal_without_place, is_kind, denied_at, check_exists}
+use Rattle.room_commands.proofs.Shorthands.{right_on}
 use Rattle.room_commands.specs.Checks.{check_absent, check_right, check_folder, check_file, prefix_refusal}
 use Rattle.room_commands.specs.Checks.{first_refusal, is_root, bytes_at, walk, check_removal}
 use Rattle.room_commands.specs.Checks.{check_folder_full, check_room_full}

@@ -13,6 +13,7 @@ use Rattle.room_records.specs.Representation.{HasPath, RepresentsRoom}
 use Rattle.room_records.proofs.Paths.{object_at_node, root_only}
 use Rattle.room_records.proofs.RoomsLists.{list_of_child, list_of_root}
 use Rattle.room_records.proofs.RoomsMap.{some_is, none_is_some, Ends, path_of_object}
+use Rattle.room_records.proofs.PathParts.{path_parts}
 use Rattle.room_tree.proofs.OwnPart.{root_or_below, own_part_of_list}
 use Rattle.room_tree.proofs.StoredLists.{node_at_path}
 
@@ -39,7 +40,7 @@ module _ {t : ObjectRecords} {room : Room} (stand : RepresentsRoom t room) (path
   pub few_names : length path ≤ max_names
   few_names =
       let found = object_at_node t room stand path id node at stands in
-      (path_of_object room stand.lawful path found.0 found.1).short
+      (path_parts path (path_of_object room stand.lawful path found.0 found.1)).short
 
   -- the own entries of the object there
   own_of : (o : Object) → object_at room path ≡ Some o → own_part (t.entries id) ≡ o.own

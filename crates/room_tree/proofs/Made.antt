@@ -22,6 +22,7 @@ use Rattle.room_records.proofs.Lists.{all_append}
 use Rattle.room_records.proofs.RoomsMap.{some_is, none_is_some, Ends, parent_of_end, nothing_below}
 use Rattle.room_records.proofs.RoomsLists.{list_of_child, lists_by_objects_above}
 use Rattle.room_records.proofs.RulesKept.{same_or_other, if_same, if_other, rules_put_next, rules_put_doc}
+use Rattle.room_records.proofs.PathParts.{path_parts}
 use Rattle.room_commands.specs.CommandModel as C
 use Rattle.room_tree.specs.declared.loaded.LoadedObject.{LoadedObject}
 use Rattle.room_tree.specs.declared.planning.Outcome.{Outcome}
@@ -112,7 +113,7 @@ module _ {t : ObjectRecords} {room : Room} {caller : SubjectModel} {path : Path}
         folder = folder_is;
         inside = new.parent;
         named = new.name end.folder end.name end.is;
-        lawful = (last_is_name end.folder end.name (rw end.is at is_path).names);
+        lawful = (last_is_name end.folder end.name (path_parts _ (rw end.is at is_path)).names);
         alone = λ other child. no_child stand end.folder end.name above.id folder_at
             (ap (object_at room) (sym end.is) ∙ absent) other
             (record { stands = child.stands; inside = child.inside });

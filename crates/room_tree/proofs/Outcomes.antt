@@ -12,7 +12,7 @@ use Rattle.room_records.specs.Representation.{RepresentsRoom, HasPath}
 use Rattle.room_commands.specs.CommandModel.{CommandModel}
 use Rattle.room_tree.specs.declared.planning.Outcome.{Outcome}
 use Rattle.room_commands.specs.Checks.{first_refusal, checks}
-use Rattle.room_commands.specs.ReplyModel.{Refused, reply_model, IsRefused, Refusal}
+use Rattle.room_commands.specs.ReplyModel.{NotDone, reply_model, IsNotDone, Refusal}
 use Rattle.room_commands.specs.Effect.{effect_by, changed, reply}
 use Rattle.room_tree.specs.Plans.{PlansEffect, most_rows, place_after}
 use Rattle.room_tree.specs.Renewals.{ChangesFewRows}
@@ -27,12 +27,12 @@ module _ {t : ObjectRecords} {room : Room} (caller : SubjectModel) (command : Co
     (stand : RepresentsRoom t room) where
   -- a refusal plans nothing
   pub refusal_plans : (refusal : Refusal) → first_refusal (checks room caller command) ≡ Some refusal
-      → reply_model outcome.reply ≡ Refused refusal → outcome.changes.items ≡ []
+      → reply_model outcome.reply ≡ NotDone refusal → outcome.changes.items ≡ []
       → PlansEffect t room caller command outcome
   refusal_plans refusal is replied none = grind (arith, common_steps)
 
   -- what succeeds is not refused
-  not_refused : (asked : CommandModel) → IsRefused (reply room caller asked) → ⊥
+  not_refused : (asked : CommandModel) → IsNotDone (reply room caller asked) → ⊥
   not_refused asked refused = grind (arith, common_steps)
 
   -- and what no check refuses plans what the command leaves
@@ -54,7 +54,7 @@ module _ {t : ObjectRecords} {room : Room} (caller : SubjectModel) (command : Co
         leads = rw planned (rw is leads);
         numbers = rw planned (record { kept = rw is kept; new = new });
         few = rw planned few;
-        refusal = λ refused. absurd (not_refused command (subst IsRefused replied refused));
+        refusal = λ refused. absurd (not_refused command (subst IsNotDone replied refused));
         allowed = λ allowed. rights_of_success room caller command is;
       }
 

@@ -18,6 +18,7 @@ use Rattle.room_records.specs.Representation.{RepresentsRoom, HasPath}
 use Rattle.room_records.proofs.Paths.{reads_one}
 use Rattle.room_records.proofs.RoomsMap.{some_is, path_itself, other_path, parent_of_end}
 use Rattle.room_records.proofs.RoomsChildren.{name_itself, same_name}
+use Rattle.room_records.proofs.PathParts.{path_parts}
 use Rattle.room_commands.specs.CommandModel as C
 use Rattle.room_tree.specs.declared.planning.Outcome.{Outcome}
 use Rattle.room_tree.specs.declared.loaded.LoadedObject.{LoadedObject}
@@ -110,7 +111,7 @@ rename_plans {t} {room} caller {path} {to} {move} now outcome stand is_path is_t
       parent = node_of move.into;
       parent_stands = into.node_stands;
       parent_folder = into.shows.kind ∙ ap (λ (o : Object). o.kind) same ∙ above.2;
-      named = last_is_name last.folder last.name (rw last.is at is_to).names;
+      named = last_is_name last.folder last.name (path_parts _ (rw last.is at is_to)).names;
       lawful = rw (← last.is) lawful;
     } in
     plan_by last.folder last.name last.is m

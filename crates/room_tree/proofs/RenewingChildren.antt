@@ -20,6 +20,7 @@ use Rattle.room_records.specs.Shelf.{AreChildren, InNameOrder, name_of}
 use Rattle.room_records.proofs.Folders.{object_child}
 use Rattle.room_records.proofs.Paths.{object_at_node}
 use Rattle.room_records.proofs.RoomsMap.{path_of_object}
+use Rattle.room_records.proofs.PathParts.{path_parts}
 use Rattle.room_tree.specs.Renewals.{AddsRenewals, RenewsBelow}
 use Rattle.room_tree.proofs.Depths.{on_the_way, none_below_file}
 use Rattle.room_tree.proofs.RenewingParts.{Renews, renews_both, BeginsWith}
@@ -141,7 +142,7 @@ module _ {t : ObjectRecords} {room : Room} (stand : RepresentsRoom t room) (path
       none [] id some at = some refl
       none (name ∷ rest) id some at =
           let found = object_of (path ++ name ∷ rest) id at in
-          let short = (path_of_object room stand.lawful (path ++ name ∷ rest) found.0 found.1).short in
+          let short = (path_parts _ (path_of_object room stand.lawful (path ++ name ∷ rest) found.0 found.1)).short in
           let whole = length-append path (name ∷ rest) in
           omega (arith, short, whole, long)
 

@@ -17,7 +17,7 @@ use Rattle.room_records.specs.Shelf.{listed}
 use Rattle.room_records.specs.Rules.{ObjectRules}
 use Rattle.room_records.proofs.Folders.{pair_of, child_named}
 use Rattle.room_tree.specs.declared.loaded.LoadedObject.{LoadedObject}
-use Rattle.room_commands.specs.ReplyModel.{ReplyModel, Stat, Entries, Allowed}
+use Rattle.room_commands.specs.ReplyModel.{ReplyModel, About, Entries, Allowed}
 use Rattle.room_commands.specs.Checks.{object_or_default}
 use Rattle.room_commands.specs.Effect.{attributes_of, size_of}
 use Rattle.room_commands.proofs.Shorthands.{or_no_object}
@@ -26,7 +26,7 @@ use Rattle.room_tree.proofs.Checking.{there}
 
 abbrev pub stat_of : Node → ℕ → ReplyModel
 stat_of node size =
-    Stat (record { aclflag = node.aclflag; group = node.group; kind = node.kind; owner = node.owner; size = size })
+    About (record { aclflag = node.aclflag; group = node.group; kind = node.kind; owner = node.owner; size = size })
 
 module _ {t : ObjectRecords} {room : Room} {path : Path} {loaded : LoadedObject}
     (found : IsLoaded t room path loaded) where
@@ -34,7 +34,7 @@ module _ {t : ObjectRecords} {room : Room} {path : Path} {loaded : LoadedObject}
   object_is = ap or_no_object (there found)
 
   pub stat_reply : (node : Node) (size : ℕ) → node ≡ node_of loaded → size ≡ size_of room path loaded.kind
-      → stat_of node size ≡ Stat (attributes_of room path (object_or_default room path))
+      → stat_of node size ≡ About (attributes_of room path (object_or_default room path))
   stat_reply node size is sized = grind (arith, common_steps)
 
   pub entries_reply : (list : List EntryModel) → list ≡ list_of room path → Entries loaded.aclflag list

@@ -10,7 +10,7 @@ use Rattle.room_records.specs.Room.{Room, object_at}
 use Rattle.room_commands.specs.CommandModel as C
 use Rattle.room_records.specs.Names.{Path}
 use Rattle.room_commands.specs.Checks.{first_refusal, checks}
-use Rattle.room_commands.specs.ReplyModel.{reply_model, IsRefused, Refusal}
+use Rattle.room_commands.specs.ReplyModel.{reply_model, IsNotDone, Refusal}
 use Rattle.room_commands.specs.Effect.{effect, moved}
 use Rattle.room_commands.specs.Needs.{NeedsAllowed}
 use Rattle.room_records.specs.Representation.{RepresentsRoom, HasPath}
@@ -64,8 +64,8 @@ pub record PlansEffect (t : ObjectRecords) (room : Room) (caller : SubjectModel)
   pub leads : RepresentsRoom (apply_all_to_objects outcome.changes.items t) (effect room caller command).room
   pub numbers : KeepsNumbers t (apply_all_to_objects outcome.changes.items t) room caller command
   pub few : ChangesFewRows (most_rows command) t outcome.changes.items
-  pub refusal : IsRefused (reply_model outcome.reply) → outcome.changes.items ≡ []
-  pub allowed : (IsRefused (reply_model outcome.reply) → ⊥) → NeedsAllowed room caller command
+  pub refusal : IsNotDone (reply_model outcome.reply) → outcome.changes.items ≡ []
+  pub allowed : (IsNotDone (reply_model outcome.reply) → ⊥) → NeedsAllowed room caller command
 
 -- and where a check refuses, the first that does
 abbrev pub Plans : ObjectRecords → Room → SubjectModel → CommandModel → Result Outcome Stop → Type 0

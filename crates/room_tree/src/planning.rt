@@ -8,7 +8,7 @@ ghost use Rattle.room_records.specs.Representation.{RepresentsRoom};
 ghost use Rattle.room_tree.specs.LoadedObjects.{OfRoom};
 ghost use Rattle.room_tree.specs.Plans.{OnlyReads, Plans, PlansEffect};
 ghost use Rattle.room_tree.specs.Stops.{stop_fault};
-ghost use Rattle.room_commands.specs.ReplyModel.{reply_model, Refused};
+ghost use Rattle.room_commands.specs.ReplyModel.{reply_model, NotDone};
 
 use crate::changing::{plan_append, plan_chown, plan_write};
 use crate::making::{plan_create, plan_mkdir};
@@ -46,7 +46,7 @@ impl Outcome {
     /// A refusal changes nothing.
     pub(crate) fn refused(alloc: Global, refusal: Refusal) -> Outcome
         ensures none { result.changes.items ≡ [] }
-        ensures reply { reply_model result.reply ≡ Refused refusal }
+        ensures reply { reply_model result.reply ≡ NotDone refusal }
     {
         Outcome {
             changes: Vec::new(alloc),

@@ -1,11 +1,18 @@
-use Rattle.std.proofs.Common.{◌≡◌, ◌-◌, refl, ap, ◌∙◌, length}
+use Rattle.std.proofs.Common.{◌≡◌, ◌-◌, refl, ap, ◌∙◌, length, arith}
 use Rattle.room_records.specs.Names.{Path}
+use Rattle.room_records.proofs.PathParts.{path_parts}
 use Rattle.room_commands.specs.declared.reply.RefusalCode.TheVariants.{TooDeep}
 use Rattle.room_commands.specs.Checks.{refuse_if}
 use Rattle.room_tree.specs.LoadedObjects.{node_of}
 use Rattle.room_tree.proofs.Depths.{depth_check}
 use Rattle.room_tree.proofs.Stops.{refused_as}
 use Rattle.room_tree.proofs.depth.check_depth.Goals as goal
+
+pub overflow_sub-too_deep : goal.overflow_sub-too_deep
+overflow_sub-too_deep g c =
+    let short = (path_parts _ c.names.ensures.lawful).short in
+    let same = ap (λ (p : Path). length p) c.names.ensures.value in
+    omega (arith, short, same)
 
 pub returns-then-deep-clause-value : goal.returns-then-deep-clause-value
 returns-then-deep-clause-value g c = λ available laid_out t e room stand path found.
@@ -15,7 +22,7 @@ returns-then-deep-clause-value g c = λ available laid_out t e room stand path f
     (node_of c.args.loaded.now) found.is_there.at found.is_there.node_stands refl in
     refused_as c.of.result _ c.of.ensures
     (depth_check room stand.lawful path c.args.to.now c.in_ok-deep.deep
-    c.names.ensures.lawful.short (rw (← levels) told)
+    (path_parts _ c.names.ensures.lawful).short (rw (← levels) told)
     ∙ ap (λ b. refuse_if b TooDeep) c.if-deep.true)
 
 pub returns-else-deep-clause-value : goal.returns-else-deep-clause-value
@@ -25,7 +32,7 @@ returns-else-deep-clause-value g c = λ available laid_out t e room stand path f
     let told = c.in_ok-deep.ensures.value available laid_out t e room stand path
     (node_of c.args.loaded.now) found.is_there.at found.is_there.node_stands refl in (
       depth_check room stand.lawful path c.args.to.now c.in_ok-deep.deep
-          c.names.ensures.lawful.short (rw (← levels) told)
+          (path_parts _ c.names.ensures.lawful).short (rw (← levels) told)
           ∙ ap (λ b. refuse_if b TooDeep) c.if-deep.false,
       tt,
     )

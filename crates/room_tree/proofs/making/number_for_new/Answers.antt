@@ -1,4 +1,4 @@
-use Rattle.std.proofs.Common.{◌≡◌, ℕ, ap, sym, ◌∙◌, arith, [], ◌∷◌, None}
+use Rattle.std.proofs.Common.{◌≡◌, ℕ, ap, sym, ◌∙◌, [], ◌∷◌, None}
 use Rattle.std.specs.Prelude.{nat_le, nat_lt}
 use Rattle.room_records.specs.Limits.{max_children, max_objects}
 use Rattle.room_records.specs.Names.{Path}

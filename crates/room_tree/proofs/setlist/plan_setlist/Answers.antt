@@ -1,7 +1,6 @@
 use Rattle.std.proofs.Common.{◌≡◌, ap, sym, ◌∙◌, [], ◌∷◌, refl}
 use Rattle.std.specs.List.{filter_map}
 use Rattle.room_acl.specs.Inheritance.{own_entries_fault, with_inherited}
-use Rattle.room_records.specs.Room.{object_at}
 use Rattle.room_commands.specs.SetList.{kept_entry, own_entries_of_setlist}
 use Rattle.room_records.proofs.Shelves.{read_then}
 use Rattle.room_tree.specs.LoadedObjects.{node_of}
