@@ -41,7 +41,6 @@ module _ (start : Room) (past : History) (q : Request) (taken : is_accepted past
       → Ran r (state_after start past) q answered s → RepresentsHistory start s (Slot q ∷ past)
   stand_after_run stand ran = rw ran.leaves (record {
     room = rw taken ran.objects;
-    rules = ran.rules;
     sessions = λ sid. rw ran.session (stand.sessions sid ∙ row_after_request q sid (session_of past sid));
     slots = λ sid slot. slots_agree ran.changed sid slot (rw ran.kept (stand.slots sid slot));
     lawful = λ sid slot. lawful_with sid slot ran.lawful (stand.lawful sid slot);

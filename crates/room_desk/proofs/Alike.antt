@@ -47,7 +47,6 @@ module _ {start : Room} {a b : History} (alike : Alike start a b) where
   pub stand_alike : (r : Records) → RepresentsHistory start r a → RepresentsHistory start r b
   stand_alike r stand = record {
     room = rw (sym alike.state) stand.room;
-    rules = stand.rules;
     sessions = λ sid. stand.sessions sid ∙ alike.rows sid;
     slots = λ sid slot. stand.slots sid slot ∙ slots_alike sid slot;
     lawful = λ sid slot. rw (sym (alike.commands sid slot)) (stand.lawful sid slot);

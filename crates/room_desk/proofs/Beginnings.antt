@@ -1,11 +1,10 @@
 -- Histories from their beginning: rows with no session, and that a history leaves a room.
-use Rattle.std.proofs.Common.{◌≡◌, ℕ, sym, ◌∙◌, arith, true, List, [], ◌∷◌, None, inl, inr}
+use Rattle.std.proofs.Common.{◌≡◌, ℕ, arith, true, List, [], ◌∷◌, None, inl, inr}
 use Rattle.std.specs.Prelude.{◌&&◌, length}
-use Rattle.std.proofs.lemmas.Bool.{cases_Bool, cond_both, false≢true}
+use Rattle.std.proofs.lemmas.Bool.{cases_Bool, cond_both}
 use Rattle.std.proofs.lemmas.Bool.Decides.{nat_tests}
 use Rattle.std.proofs.lemmas.Grind.{common_steps}
 use Rattle.std.specs.Cmp.Lexicographic.{bytes_decides}
-use Rattle.std.proofs.lemmas.Option.{none-some}
 use Rattle.room_records.specs.Records.{Records}
 use Rattle.room_records.specs.Room.{Room, IsRoom}
 use Rattle.room_records.specs.Representation.{RepresentsRoom}
@@ -21,10 +20,6 @@ pub stand_at_first : (start : Room) (r : Records) → RepresentsRoom r.objects s
     → RepresentsHistory start r []
 stand_at_first start r room no_session no_slot = record {
   room = room;
-  rules = record {
-    sessions = λ sid row is. absurd (none-some row (sym (no_session sid) ∙ is));
-    slots = λ sid slot there. absurd (false≢true (rw (no_slot sid slot) at there));
-  };
   sessions = no_session;
   slots = no_slot;
   lawful = λ sid slot. tt;

@@ -17,6 +17,7 @@ use Rattle.room_desk.specs.Representation.{RepresentsHistory, session_row_of, sl
 use Rattle.room_desk.specs.SessionRows.{closed_row, with_session_ended}
 use Rattle.room_desk.proofs.Answers.{usable}
 use Rattle.room_desk.proofs.Idle.{itself}
+use Rattle.room_desk.proofs.SlotRows.{slot_rules}
 use Rattle.room_desk.proofs.Opening.{rules_put_session, rules_drop_slots}
 
 -- what a CLOSE of an open session by its owner leaves of the rows of sessions and of slots
@@ -40,12 +41,12 @@ module _ {start : Room} {r : Records} {past : History} (stand : RepresentsHistor
   ended = with_session_ended name row r
 
   named : name ≡ row.sid
-  named = sym (stand.rules.sessions name row some)
+  named = sym ((slot_rules stand).sessions name row some)
 
   pub put_rules : RulesHold (apply_change (PutSession (closed_row row)) r)
   put_rules = record {
     objects = stand.room.rules;
-    slots = rules_put_session r (closed_row row) stand.rules
+    slots = rules_put_session r (closed_row row) (slot_rules stand)
         (λ old stands. ap (λ (s : SessionRow). s.slots) (same_Some old row (sym stands ∙ (rw named at some))));
   }
 
@@ -55,7 +56,6 @@ module _ {start : Room} {r : Records} {past : History} (stand : RepresentsHistor
   pub close_stands : RepresentsHistory start ended (Close caller name ∷ past)
   close_stands = record {
     room = stand.room;
-    rules = all_rules.slots;
     sessions = λ sid. rw named (session_closed start r past caller row (stand.sessions row.sid) (rw named at some)
         mine sid (stand.sessions sid));
     slots = λ sid slot. rw named (slot_closed start r past caller row (stand.sessions row.sid) (rw named at some)

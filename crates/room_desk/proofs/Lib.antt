@@ -4,6 +4,7 @@ pub mod Acceptance
 pub mod Allowed
 pub mod Results
 pub mod Crashes
+pub mod SlotRows
 pub mod Opening
 pub mod Answers
 pub mod Bodies
@@ -24,6 +25,7 @@ pub mod Retries
 pub mod OwnRequests
 pub mod Beginnings
 mod Examples
+mod AlikeExamples
 pub mod Calls
 pub mod Faults
 pub mod Messages

@@ -22,6 +22,7 @@ use Rattle.room_wire.specs.Serving.Outputs.{Outputs}
 use Rattle.room_desk.specs.AnswerModel.{AnswerModel, Refused}
 use Rattle.room_desk.specs.History.{History}
 use Rattle.room_desk.specs.Representation.{StandsFor}
+use Rattle.room_wire.proofs.Lemmas.Serving.Rounds.{no_output, first_answered, with_first}
 use Rattle.room_desk.specs.Serving.{AnswersOrDelays, AnswersMessage, DeskCall, Answered, IsLeftAlone}
 use Rattle.room_desk.specs.Serving.{MayAnswer}
 use Rattle.room_desk.proofs.Calls.{no_call, calls_then}
@@ -84,18 +85,19 @@ module _ {S : Type 0} (view : S → View) where
 
   pub served : (users : List SubjectModel) (before : S) (ms : List MessageModel) (out : List ℕ) (after : S)
       → Outputs (MayAnswer view users) before ms out after → Served users before ms out after
-  served users before [] out after h = rw h.1 (record {
+  served users before [] out after all = let h = no_output (MayAnswer view users) all in rw h.1 (record {
     frame = no_call (view before);
-    run = λ k start past stands. (past, (h.0, refl), stands);
+    run = λ k start past stands. (past, ([], refl, h.0), stands);
   })
-  served users before (m ∷ ms) out after h =
+  served users before (m ∷ ms) out after all =
+      let h = first_answered (MayAnswer view users) m ms all in
       let first = h.3 in
       let then = served users h.1 ms h.2 after h.4 in record {
         frame = calls_then _ _ _ then.frame first.frame;
         run = λ k start past stands.
             let one = first.step (then.frame.was_intact k) start past stands in
             let rest = then.run k start one.0 one.2 in
-            (rest.0, (h.0, one.0, h.2, one.1, rest.1, h.5), rest.2);
+            (rest.0, with_first (AnswersMessage users start) m ms (h.0, one.0, h.2, one.1, rest.1, h.5), rest.2);
       }
 
   -- the shelf after a stream that was served
@@ -122,7 +124,7 @@ module _ {S : Type 0} (view : S → View) where
 pub memory_end : (users : List SubjectModel) (start : Room) (past : History) (left old : Option (List ℕ))
     → Serves (AnswersMessage users start) past past left left old old W.Memory 0
 memory_end users start past left old =
-    ([], [], [], [], Consumes-nil left, (refl, refl), omega arith, (refl, refl, Appends-nil old))
+    ([], [], [], [], Consumes-nil left, ([], refl, refl), omega arith, (refl, refl, Appends-nil old))
 
 -- an answer leaves the history or puts one event before it
 one_step : (start : Room) (past next : History) (ask : Result AskModel WireFault) (answered : AnswerModel)
@@ -136,8 +138,9 @@ one_step start past next (Err f) answered (inl h) = ([], h.1)
 pub goes_on : (users : List SubjectModel) (start : Room) (past : History) (ms : List MessageModel)
     (out : List ℕ) (next : History) → Outputs (AnswersMessage users start) past ms out next
     → (events : List EventModel) × (next ≡ events ++ past)
-goes_on users start past [] out next h = ([], h.1)
-goes_on users start past (m ∷ ms) out next h =
+goes_on users start past [] out next h = ([], (no_output (AnswersMessage users start) h).1)
+goes_on users start past (m ∷ ms) out next run =
+    let h = first_answered (AnswersMessage users start) m ms run in
     let first = one_step start past h.1 (ask_of users m) h.0 h.3 in
     let rest = goes_on users start h.1 ms h.2 next h.4 in
     (rest.0 ++ first.0, rest.1 ∙ ap (λ b. rest.0 ++ b) first.1 ∙ sym (append_assoc rest.0 first.0 past))

@@ -19,6 +19,7 @@ use Rattle.room_desk.specs.History.{History, session_of, accepted, answer_to}
 use Rattle.room_desk.specs.Representation.{RepresentsHistory, session_row_of, slot_row_of, StandsWith}
 use Rattle.room_desk.specs.SessionRows.{opened_row}
 use Rattle.room_desk.proofs.Idle.{itself}
+use Rattle.room_desk.proofs.SlotRows.{slot_rules}
 use Rattle.room_desk.proofs.Answers.{no_session}
 use Rattle.room_commands.specs.ReplyModel.{Opened}
 use Rattle.room_wire.specs.Forms.Texts.{reply_text}
@@ -69,7 +70,7 @@ module _ {start : Room} {r : Records} {past : History} (stand : RepresentsHistor
   pub open_rules : RulesHold (apply_change (PutSession opened) r)
   open_rules = record {
     objects = stand.room.rules;
-    slots = rules_put_session r opened stand.rules (λ old stands. absurd (none-some old (sym none ∙ stands)));
+    slots = rules_put_session r opened (slot_rules stand) (λ old stands. absurd (none-some old (sym none ∙ stands)));
   }
 
   session_opened : (sid : List ℕ) → r.session sid ≡ option_map (session_row_of sid) (session_of past sid)
@@ -87,7 +88,6 @@ module _ {start : Room} {r : Records} {past : History} (stand : RepresentsHistor
     rw unused,
     record {
       room = stand.room;
-      rules = open_rules.slots;
       sessions = λ sid. session_opened sid (stand.sessions sid);
       slots = λ sid slot. slot_opened sid slot (stand.slots sid slot);
       lawful = stand.lawful;

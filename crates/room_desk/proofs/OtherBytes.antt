@@ -1,5 +1,5 @@
 -- The bytes of documents show to reads alone.
-use Rattle.std.proofs.Common.{◌≡◌, ℕ, ◌+◌, ◌%◌, ◌^◌, refl, ap, sym, ◌∙◌, arith, inl, inr, ◌⊎◌, Bool, true, false}
+use Rattle.std.proofs.Common.{◌≡◌, ℕ, refl, ap, sym, ◌∙◌, arith, inl, inr, ◌⊎◌, Bool, true, false}
 use Rattle.std.proofs.Common.{not, ◌&&◌, cond}
 use Rattle.std.proofs.Common.{List, [], ◌∷◌, map, length, nat_lt}
 use Rattle.std.specs.Prelude.{◌==◌, ⊤, suc}
@@ -26,9 +26,8 @@ use Rattle.room_desk.specs.History.{History, Accepted, session_of, is_open_for, 
 use Rattle.room_desk.specs.History.{is_accepted, state_after, original_reply}
 use Rattle.room_desk.specs.History.{answer_unaccepted, answer_to}
 use Rattle.room_desk.specs.AlikePasts.{caller_of}
-use Rattle.room_desk.specs.OtherBytes.{DifferInBytes, Begin, Same, Written, TellsOfRead}
+use Rattle.room_desk.specs.OtherBytes.{DifferInBytes, NoEvents, Same, Written, TellsOfRead}
 use Rattle.room_desk.proofs.Idle.{itself, accepted_after_idle}
-use Rattle.room_desk.proofs.Numbers.{accepted_are_numbered}
 use Rattle.room_desk.proofs.OwnRequests.{Owned, own, accepted_are_owned}
 use Rattle.room_desk.proofs.Secrets.{row_in, row_then, row_is_open_for, row_slots, open_by_row, slots_by_row}
 use Rattle.room_desk.proofs.Secrets.{open_answer, close_answer, open_answered, close_answered}
@@ -51,7 +50,7 @@ module _ (caller : SubjectModel) (a b : Room) (alike : room_with blank a ≡ roo
   request_row past q sid = grind (arith, common_steps)
 
   rows : (past other : History) → DifferInBytes caller past other → (sid : List ℕ) → row_in past sid ≡ row_in other sid
-  rows past other Begin sid = refl
+  rows past other NoEvents sid = refl
   rows past other (Same p o event like) sid = row_then p o event sid (rows p o like sid)
   rows past other (Written p o q command another same like) sid =
       request_row p q sid ∙ rows p o like sid ∙ sym (request_row o (record q { command = command }) sid)
@@ -105,7 +104,7 @@ module _ (caller : SubjectModel) (a b : Room) (alike : room_with blank a ≡ roo
 
   requests_alike : (past other : History) → DifferInBytes caller past other → (sid : List ℕ) (slot : ℕ)
       → LikeRequests (accepted past sid slot) (accepted other sid slot)
-  requests_alike past other Begin sid slot = tt
+  requests_alike past other NoEvents sid slot = tt
   requests_alike past other (Same p o (Open c name n) like) sid slot = requests_alike p o like sid slot
   requests_alike past other (Same p o (Close c name) like) sid slot = requests_alike p o like sid slot
   requests_alike past other (Same p o (Slot q) like) sid slot =
@@ -150,7 +149,7 @@ module _ (caller : SubjectModel) (a b : Room) (alike : room_with blank a ≡ roo
 
   states : (past other : History) → DifferInBytes caller past other
       → room_with blank (state_after a past) ≡ room_with blank (state_after b other)
-  states past other Begin = alike
+  states past other NoEvents = alike
   states past other (Same p o (Open c name n) like) = states p o like
   states past other (Same p o (Close c name) like) = states p o like
   states past other (Same p o (Slot q) like) = requested p o like (states p o like) q q.command refl
@@ -200,37 +199,37 @@ module _ (caller : SubjectModel) (a b : Room) (alike : room_with blank a ≡ roo
 
   -- and the request asks for it again
   abbrev AgainOf : Request → Accepted → List Accepted → AnswerModel → Type 0
-  AgainOf q x xs answered = ((q.seq == (length (x ∷ xs) % 2 ^ 32)) ≡ true)
+  AgainOf q x xs answered = ((q.seq == x.request.seq) ≡ true)
       × (bytes_eq (command_text q.command) (command_text x.request.command) ≡ true) × ReadOf x answered
 
   unaccepted : (q : Request) (x y : Accepted) (xs ys : List Accepted) → x.request ≡ y.request
-      → DifferInBytes caller x.before y.before → length (x ∷ xs) ≡ length (y ∷ ys)
+      → DifferInBytes caller x.before y.before
       → (answer_unaccepted a q (x ∷ xs) ≡ answer_unaccepted b q (y ∷ ys))
       ⊎ AgainOf q x xs (answer_unaccepted a q (x ∷ xs))
-  unaccepted q x y xs ys is like long = elim (again x y is like) [
-    | inl one ↦ inl (λ i. cond (q.seq == (long i % 2 ^ 32))
+  unaccepted q x y xs ys is like = elim (again x y is like) [
+    | inl one ↦ inl (λ i. cond (q.seq == (is i).seq)
         (cond (bytes_eq (command_text q.command) (command_text (is i).command)) (one i) (Refused SeqFalseRetry))
         (Refused SeqMisordered))
-    | inr read ↦ by_number (q.seq == (length (x ∷ xs) % 2 ^ 32))
+    | inr read ↦ by_number (q.seq == x.request.seq)
         (bytes_eq (command_text q.command) (command_text x.request.command)) refl refl read
   ]
     where
-      right : (t u : Bool) → (q.seq == (length (x ∷ xs) % 2 ^ 32)) ≡ t
+      right : (t u : Bool) → (q.seq == x.request.seq) ≡ t
           → bytes_eq (command_text q.command) (command_text x.request.command) ≡ u
           → answer_unaccepted b q (y ∷ ys)
           ≡ cond t (cond u (replay b y) (Refused SeqFalseRetry)) (Refused SeqMisordered)
-      right t u number text = (λ i. cond ((ap (λ n. q.seq == (n % 2 ^ 32)) (sym long) ∙ number) i)
+      right t u number text = (λ i. cond ((ap (λ (r : Request). q.seq == r.seq) (sym is) ∙ number) i)
           (cond ((ap (λ (r : Request). bytes_eq (command_text q.command) (command_text r.command)) (sym is) ∙ text) i)
           (replay b y) (Refused SeqFalseRetry)) (Refused SeqMisordered))
 
-      left : (t u : Bool) → (q.seq == (length (x ∷ xs) % 2 ^ 32)) ≡ t
+      left : (t u : Bool) → (q.seq == x.request.seq) ≡ t
           → bytes_eq (command_text q.command) (command_text x.request.command) ≡ u
           → answer_unaccepted a q (x ∷ xs)
           ≡ cond t (cond u (replay a x) (Refused SeqFalseRetry)) (Refused SeqMisordered)
       left t u number text = (λ i. cond (number i) (cond (text i) (replay a x) (Refused SeqFalseRetry))
           (Refused SeqMisordered))
 
-      by_number : (t u : Bool) → (q.seq == (length (x ∷ xs) % 2 ^ 32)) ≡ t
+      by_number : (t u : Bool) → (q.seq == x.request.seq) ≡ t
           → bytes_eq (command_text q.command) (command_text x.request.command) ≡ u → ReadOf x (replay a x)
           → (answer_unaccepted a q (x ∷ xs) ≡ answer_unaccepted b q (y ∷ ys))
           ⊎ AgainOf q x xs (answer_unaccepted a q (x ∷ xs))
@@ -238,13 +237,6 @@ module _ (caller : SubjectModel) (a b : Room) (alike : room_with blank a ≡ roo
           inr (number, text, (read.0, read.1, read.2, left true true number text ∙ read.3))
       by_number true false number text read = inl (left true false number text ∙ sym (right true false number text))
       by_number false u number text read = inl (left false u number text ∙ sym (right false u number text))
-
-  -- the number of the last request of a slot is that of how many there were
-  last_number : (n seq last : ℕ) → (seq == (suc n % 2 ^ 32)) ≡ true → last ≡ next_number n → seq ≡ last
-  last_number n seq last number numbered =
-      let sent : seq ≡ suc n % 2 ^ 32 = eqb-true seq (suc n % 2 ^ 32) number in
-      let kept : last ≡ (n + 1) % 2 ^ 32 = numbered in
-      omega (arith, sent, kept)
 
   module _ (past other : History) (like : DifferInBytes caller past other) where
     abbrev Alike : EventModel → AnswerModel → AnswerModel → Type 0
@@ -262,7 +254,7 @@ module _ (caller : SubjectModel) (a b : Room) (alike : room_with blank a ≡ roo
       refl,
       accepted_after_idle past (Slot q) old q.sid q.slot ∙ is,
       own a past q (session_of past q.sid) x xs usable owned,
-      last_number (length xs) q.seq x.request.seq again_of.0 (rw is at (accepted_are_numbered past q.sid q.slot)).0,
+      eqb-true q.seq x.request.seq again_of.0,
       (bytes_decides (command_text q.command) (command_text x.request.command)).0 again_of.1,
       again_of.2.1,
       again_of.2.2,
@@ -277,7 +269,7 @@ module _ (caller : SubjectModel) (a b : Room) (alike : room_with blank a ≡ roo
     by_requests q its usable old [] (y ∷ ys) at owned requests = absurd requests
     by_requests q its usable old (x ∷ xs) [] at owned requests = absurd requests
     by_requests q its usable old (x ∷ xs) (y ∷ ys) at owned requests = elim requests.0 [
-      | inl is ↦ elim (unaccepted q x y xs ys is requests.1 (as_many (x ∷ xs) (y ∷ ys) requests)) [
+      | inl is ↦ elim (unaccepted q x y xs ys is requests.1) [
         | inl one ↦ inl one
         | inr read ↦ inr (sent_again q usable old x xs at owned (answer_unaccepted a q (x ∷ xs)) read)
       ]

@@ -109,7 +109,6 @@ commits {r} {from} {room} {p} {q} {outcome} {row} {changes} asked same stand slo
         session = still.sessions;
         kept = still.slots;
         objects = rw (objects_of_changes outcome.changes.items r) plans.leads;
-        rules = put_slot_rules _ (ran_row room q) (rules_still still slots) (has_still still has);
         leaves = after ∙ rw (same, changes_are, kept) (changes_then outcome.changes.items (PutSlot (ran_row room q)) r);
         says = refl;
         lawful = lawful;

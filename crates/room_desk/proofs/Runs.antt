@@ -5,7 +5,7 @@ use Rattle.room_wire.specs.Asks.EventModel.{EventModel, event_model}
 use Rattle.room_wire.specs.declared.asks.event.Event.{Event}
 use Rattle.room_wire.specs.declared.answers.answer.Answer.{Answer}
 use Rattle.room_desk.specs.AnswerModel.{AnswerModel, answer_model}
-use Rattle.room_desk.specs.Representation.{InTurn}
+use Rattle.room_wire.specs.Serving.Outputs.{InTurn}
 
 module _ {S : Type 0} (answers : S → EventModel → AnswerModel → S → Type 0) where
   pub in_turn_more : (before mid after : S) (events : List EventModel)

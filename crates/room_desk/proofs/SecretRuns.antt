@@ -11,13 +11,13 @@ use Rattle.room_wire.specs.declared.fault.WireFault.{WireFault}
 use Rattle.room_wire.specs.Asks.AskOf.{AskModel, Check, Event, ask_of}
 use Rattle.room_wire.specs.Asks.EventModel.{EventModel}
 use Rattle.room_wire.specs.Messages.MessageModel.{MessageModel}
+use Rattle.room_wire.specs.Serving.Outputs.{InTurn, Writes}
 use Rattle.room_desk.specs.AnswerModel.{AnswerModel}
 use Rattle.room_desk.specs.History.{History, answer_to}
-use Rattle.room_desk.specs.Representation.{Run, Step}
-use Rattle.room_desk.specs.Serving.{AnswersOrDelays, IsRun}
+use Rattle.room_desk.specs.Serving.{AnswersOrDelays, AnswersMessage, IsRun, Run, Step}
 use Rattle.room_desk.specs.Stops.{is_delay}
 use Rattle.room_desk.specs.AlikePasts.{AlikePasts, Begin, Both, First, Second, Others, caller_of, sid_of}
-use Rattle.room_desk.specs.AlikePasts.{LeavesSessions, is_own, asks_own, told, Writes}
+use Rattle.room_desk.specs.AlikePasts.{LeavesSessions, is_own, asks_own, told}
 use Rattle.room_desk.proofs.Stops.{never_delay}
 use Rattle.room_desk.proofs.Secrets.{answers_alike}
 
@@ -137,27 +137,16 @@ module _ (caller : SubjectModel) (is_own_name : List ℕ → Bool) where
     ask_adds start past next (Err fault) answered (inl joins) = ap (told_of start) joins.1
     ask_adds start past next (Err fault) answered (inr delay) = ap (told_of start) delay.1
 
-    -- the answers of a stream
-    abbrev pub stream_answers : (start : Room) (past next : History) (ms : List MessageModel) (out : List ℕ)
-        → IsRun users start past ms out next → List AnswerModel
-    stream_answers start past next [] out run = []
-    stream_answers start past next (m ∷ ms) out run = run.0 ∷ stream_answers start run.1 next ms run.2 run.4
-
-    pub stream_writes : (start : Room) (past next : History) (ms : List MessageModel) (out : List ℕ)
-        (run : IsRun users start past ms out next) → Writes ms (stream_answers start past next ms out run) out
-    stream_writes start past next [] out run = run.0
-    stream_writes start past next (m ∷ ms) out run = (run.2, run.5, stream_writes start run.1 next ms run.2 run.4)
-
-    stream_adds : (start : Room) (past next : History) (ms : List MessageModel) (out : List ℕ)
-        (run : IsRun users start past ms out next)
-        → onto (told own_message ms (stream_answers start past next ms out run)) (told_of start past)
-        ≡ told_of start next
-    stream_adds start past next [] out run = ap (told_of start) (sym run.1)
-    stream_adds start past next (m ∷ ms) out run =
-        let answers = stream_answers start run.1 next ms run.2 run.4 in
-        added_first (own_message m) run.0 (told own_message ms answers) (told_of start past)
-        ∙ ap (onto (told own_message ms answers)) (sym (ask_adds start past run.1 (ask_of users m) run.0 run.3))
-        ∙ stream_adds start run.1 next ms run.2 run.4
+    stream_adds : (start : Room) (past next : History) (ms : List MessageModel) (answers : List AnswerModel)
+        → InTurn (AnswersMessage users start) past ms answers next
+        → onto (told own_message ms answers) (told_of start past) ≡ told_of start next
+    stream_adds start past next [] [] is = ap (told_of start) (sym is)
+    stream_adds start past next [] (answered ∷ answers) none = absurd none
+    stream_adds start past next (m ∷ ms) [] none = absurd none
+    stream_adds start past next (m ∷ ms) (answered ∷ answers) (mid, step, run) =
+        added_first (own_message m) answered (told own_message ms answers) (told_of start past)
+        ∙ ap (onto (told own_message ms answers)) (sym (ask_adds start past mid (ask_of users m) answered step))
+        ∙ stream_adds start mid next ms answers run
 
   module _ (a b : Room) (room_a : IsRoom a) (room_b : IsRoom b) (past other next last : History)
       (alike : AlikePasts caller is_own_name a b past other) (later : AlikePasts caller is_own_name a b next last) where
@@ -177,10 +166,10 @@ module _ (caller : SubjectModel) (is_own_name : List ℕ → Bool) where
         → IsRun users a past ms out next → IsRun users' b other ks put last
         → (answers answers' : List AnswerModel) × Writes ms answers out × Writes ks answers' put
         × (told (own_message users) ms answers ≡ told (own_message users') ks answers')
-    streams_tell users users' ms ks out put run run' = (
-      stream_answers users a past next ms out run,
-      stream_answers users' b other last ks put run',
-      stream_writes users a past next ms out run,
-      stream_writes users' b other last ks put run',
-      told_same _ _ (stream_adds users a past next ms out run) (stream_adds users' b other last ks put run'),
+    streams_tell users users' ms ks out put (answers, turn, writes) (answers', turn', writes') = (
+      answers,
+      answers',
+      writes,
+      writes',
+      told_same _ _ (stream_adds users a past next ms answers turn) (stream_adds users' b other last ks answers' turn'),
     )

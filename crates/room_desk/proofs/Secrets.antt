@@ -1,5 +1,5 @@
 -- What a caller may not see of a history does not show in the answers to it.
-use Rattle.std.proofs.Common.{◌≡◌, ℕ, ◌%◌, ◌^◌, refl, ap, sym, subst, ◌∙◌, arith, Bool, true, false, not, ◌&&◌, cond}
+use Rattle.std.proofs.Common.{◌≡◌, ℕ, refl, ap, sym, subst, ◌∙◌, arith, Bool, true, false, not, ◌&&◌, cond}
 use Rattle.std.proofs.Common.{List, [], ◌∷◌, length, Option, None, Some, nat_lt, option_map, inl, inr}
 use Rattle.std.specs.Prelude.{◌==◌, IsTrue, ⊤, suc, if◌then◌else◌}
 use Rattle.std.specs.Str.{bytes_eq}
@@ -272,9 +272,8 @@ module _ (caller : SubjectModel) (is_own : List ℕ → Bool) (a b : Room) where
         → answer_unaccepted a q xs ≡ answer_unaccepted b q ys
     unaccepted_alike q [] [] like = refl
     unaccepted_alike q (x ∷ xs) (y ∷ ys) like =
-        let lengths = length_alike (x ∷ xs) (y ∷ ys) like in
         let again = again_alike x y like.0 like.1 like.2 like.3 in
-        (λ i. cond (q.seq == (lengths i % 2 ^ 32))
+        (λ i. cond (q.seq == (like.0 i).seq)
         (cond (bytes_eq (command_text q.command) (command_text (like.0 i).command)) (again i) (Refused SeqFalseRetry))
         (Refused SeqMisordered))
     unaccepted_alike q [] (y ∷ ys) like = absurd like

@@ -1,5 +1,5 @@
 -- Names, for proofs alone, of parts of definitions.
-use Rattle.std.specs.Prelude.{ℕ, ◌%◌, ◌^◌, List, ◌∷◌, length, map, Option, Result}
+use Rattle.std.specs.Prelude.{ℕ, List, ◌∷◌, map, Option, Result}
 use Rattle.std.specs.List.{AllByRecursion}
 use Rattle.std.specs.Option.{option_map, option_map_or, option_or}
 use Rattle.room_records.specs.Records.{Records}
@@ -19,9 +19,6 @@ use Rattle.room_desk.specs.Serving.{by_event}
 abbrev pub with_event : Option Session → Option Session → EventModel → Option Session
 with_event found opening event =
     option_or (option_map (λ (session : Session). record session { since = event ∷ session.since }) found) opening
-
-abbrev pub last_number : List Accepted → ℕ
-last_number requests = length requests % 2 ^ 32
 
 abbrev pub commands_of : List Accepted → List CommandModel
 commands_of requests = map (λ (a : Accepted). a.request.command) requests

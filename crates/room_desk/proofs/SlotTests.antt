@@ -44,7 +44,7 @@ module _ {start : Room} {r : Records} {past : History} (stand : RepresentsHistor
   -- the number that the slot keeps tells alone whether a request is accepted
   pub accepted_by_number : is_accepted past q ≡ is_next (kept_seq (r.slot q.sid q.slot)) q.seq
   accepted_by_number = by_number ∙ rw kept_is (sym (next_by_count
-      (kept_after start (accepted past q.sid q.slot)) _ q.seq (keeps_count start (accepted past q.sid q.slot))))
+      (kept_after start (accepted past q.sid q.slot)) _ q.seq (keeps_count start past q.sid q.slot)))
 
   pub new_answer : is_accepted past q ≡ true → answer_to start past (Slot q)
       ≡ Reply (reply_text (effect (state_after start past) q.caller q.command).reply)
@@ -53,5 +53,5 @@ module _ {start : Room} {r : Records} {past : History} (stand : RepresentsHistor
   pub old_answer : is_accepted past q ≡ false
       → answer_to start past (Slot q) ≡ answer_kept (r.slot q.sid q.slot) q.seq (command_text q.command)
   old_answer other =
-      rw (other, usable, below, kept_is, verdict_is start q (accepted past q.sid q.slot), sym by_number ∙ other)
+      rw (other, usable, below, kept_is, verdict_is start past q, sym by_number ∙ other)
       (unaccepted_is start q (accepted past q.sid q.slot))

@@ -8,10 +8,11 @@ use Rattle.room_records.specs.Shelf.{View, LeavesNew}
 use Rattle.room_wire.specs.declared.answers.code.Code.TheVariants.{Delay, RetryUncached}
 use Rattle.room_wire.specs.Asks.AskOf.{Event}
 use Rattle.room_wire.specs.Asks.EventModel.{EventModel}
+use Rattle.room_wire.specs.Serving.Outputs.{InTurn}
 use Rattle.room_desk.specs.AnswerModel.{AnswerModel, Refused}
 use Rattle.room_desk.specs.History.{History, answer_to, leaves_no_reply}
-use Rattle.room_desk.specs.Representation.{RepresentsHistory, StandsFor, InTurn, Run, Step}
-use Rattle.room_desk.specs.Serving.{Answered, EventAnswered}
+use Rattle.room_desk.specs.Representation.{RepresentsHistory, StandsFor}
+use Rattle.room_desk.specs.Serving.{Answered, EventAnswered, Run, Step}
 use Rattle.room_desk.specs.Stops.{is_delay, AreDelayed, in_doubt, doubt_after, StandsInDoubt}
 use Rattle.room_desk.proofs.Repeats.{again_is_idle, same_answer_again, uncached_again}
 use Rattle.room_desk.proofs.Alike.{alike_after_idle, alike_swapped, stand_alike}

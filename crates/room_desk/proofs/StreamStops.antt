@@ -13,6 +13,7 @@ use Rattle.room_wire.specs.Asks.AskOf.{AskModel, Check, Event, ask_of}
 use Rattle.room_wire.specs.Asks.EventModel.{EventModel}
 use Rattle.room_wire.specs.Messages.MessageModel.{MessageModel, IsMessage}
 use Rattle.room_wire.specs.Serving.Outputs.{Outputs}
+use Rattle.room_wire.proofs.Lemmas.Serving.Rounds.{no_output, first_answered, with_first}
 use Rattle.room_desk.specs.AnswerModel.{AnswerModel, Refused}
 use Rattle.room_desk.specs.History.{History}
 use Rattle.room_desk.specs.Representation.{StandsFor}
@@ -23,16 +24,19 @@ use Rattle.room_desk.proofs.Stops.{after_event, at_rest, one_more, is_delayed}
 module _ {S : Type 0} (view : S → View) (users : List SubjectModel) where
   pub intact_before : (before after : S) (ms : List MessageModel) (out : List ℕ)
       → Outputs (MayAnswer view users) before ms out after → (view after).is_intact → (view before).is_intact
-  intact_before before after [] out run intact = rw run.1 at intact
-  intact_before before after (m ∷ ms) out run intact =
+  intact_before before after [] out run intact = let none = no_output (MayAnswer view users) run in rw none.1 at intact
+  intact_before before after (m ∷ ms) out all intact =
+      let run = first_answered (MayAnswer view users) m ms all in
       run.3.frame.was_intact (intact_before run.1 after ms run.2 run.4 intact)
 
   -- what a crash leaves stays laid out over messages
   pub laid_out_in_stream : (before after : S) (ms : List MessageModel) (out : List ℕ) (start : Room) (past : History)
       → Outputs (MayAnswer view users) before ms out after → (view after).is_intact
       → StandsFor start past (view before) → (view before).leaves_laid_out → (view after).leaves_laid_out
-  laid_out_in_stream before after [] out start past run intact stands laid = rw run.1 laid
-  laid_out_in_stream before after (m ∷ ms) out start past run intact stands laid =
+  laid_out_in_stream before after [] out start past run intact stands laid =
+      let none = no_output (MayAnswer view users) run in rw none.1 laid
+  laid_out_in_stream before after (m ∷ ms) out start past all intact stands laid =
+      let run = first_answered (MayAnswer view users) m ms all in
       let was = intact_before run.1 after ms run.2 run.4 intact in
       let (next, step, stand) = run.3.step was start past stands in
       laid_out_in_stream run.1 after ms run.2 start next run.4 intact stand
@@ -43,8 +47,10 @@ module _ {S : Type 0} (view : S → View) (users : List SubjectModel) where
       → ((view before).is_available → ⊥) → Outputs (MayAnswer view users) before ms out after
       → (view after).is_intact → ((view after).is_available → ⊥)
       × ((left : Records) → (view after).crash_may_leave left → (view before).crash_may_leave left)
-  after_shut before after [] out start past gone run intact = rw run.1 (gone, λ left may. may)
-  after_shut before after (m ∷ ms) out start past gone run intact =
+  after_shut before after [] out start past gone run intact =
+      let none = no_output (MayAnswer view users) run in rw none.1 (gone, λ left may. may)
+  after_shut before after (m ∷ ms) out start past gone all intact =
+      let run = first_answered (MayAnswer view users) m ms all in
       let was = intact_before run.1 after ms run.2 run.4 intact in
       let later = after_shut run.1 after ms run.2 start past
       (λ there. gone (run.3.frame.was_available there)) run.4 intact in (
@@ -91,14 +97,17 @@ module _ {S : Type 0} (view : S → View)
         → (next : Doubt) × Outputs (AnswersInDoubt users start) known ms out next
         × StandsFor start next.past (view after) × LeavesNew (view after) (StandsInDoubt start next.past next.doubted)
     stream_in_doubt before after [] out start known run intact stands leaves =
-        (known, (run.0, refl), rw run.1 stands, rw run.1 leaves)
-    stream_in_doubt before after (m ∷ ms) out start known run intact stands leaves =
+        let none = no_output (MayAnswer view users) run in
+        (known, ([], refl, none.0), rw none.1 stands, rw none.1 leaves)
+    stream_in_doubt before after (m ∷ ms) out start known all intact stands leaves =
+        let run = first_answered (MayAnswer view users) m ms all in
         let one = after_ask start known.past known.doubted before run.1 run.0
         (intact_before view users run.1 after ms run.2 run.4 intact) stands leaves (ask_of users m) run.3 in
         let mid : Doubt =
         record { past = one.0; doubted = doubt_after known.doubted (ask_of users m) run.0 } in
         let later = stream_in_doubt run.1 after ms run.2 start mid run.4 intact one.2 one.3 in
-        (later.0, (run.0, mid, run.2, (one.1, refl), later.1, run.5), later.2, later.3)
+        let out_of = with_first (AnswersInDoubt users start) m ms (run.0, mid, run.2, (one.1, refl), later.1, run.5) in
+        (later.0, out_of, later.2, later.3)
 
     -- and from a store that is there
     pub stream_from_there : (before after : S) (ms : List MessageModel) (out : List ℕ) (start : Room) (past : History)
@@ -130,9 +139,12 @@ module _ {S : Type 0} (view : S → View)
 pub by_answers : (users : List SubjectModel) (start : Room) (known : Doubt) (ms : List MessageModel) (out : List ℕ)
     (next : Doubt) → Outputs (AnswersInDoubt users start) known ms out next
     → Outputs (AnswersMessage users start) known.past ms out next.past
-by_answers users start known [] out next run = (run.0, ap (λ (d : Doubt). d.past) run.1)
-by_answers users start known (m ∷ ms) out next run =
-    (run.0, run.1.past, run.2, run.3.0, by_answers users start run.1 ms run.2 next run.4, run.5)
+by_answers users start known [] out next run =
+    let none = no_output (AnswersInDoubt users start) run in ([], ap (λ (d : Doubt). d.past) none.1, none.0)
+by_answers users start known (m ∷ ms) out next all =
+    let run = first_answered (AnswersInDoubt users start) m ms all in
+    let later = by_answers users start run.1 ms run.2 next run.4 in
+    with_first (AnswersMessage users start) m ms (run.0, run.1.past, run.2, run.3.0, later, run.5)
 
 -- these events were asked by messages of these users
 abbrev pub AreAsked : List SubjectModel → List EventModel → Type 0
@@ -164,7 +176,8 @@ pub asked_in_stream : (users : List SubjectModel) (start : Room) (known : Doubt)
     (next : Doubt) → AllByRecursion IsMessage ms → Outputs (AnswersInDoubt users start) known ms out next
     → AreAsked users known.doubted → AreAsked users next.doubted
 asked_in_stream users start known [] out next lawful run asked =
-    subst (λ (d : Doubt). AreAsked users d.doubted) (sym run.1) asked
-asked_in_stream users start known (m ∷ ms) out next lawful run asked =
+    subst (λ (d : Doubt). AreAsked users d.doubted) (sym (no_output (AnswersInDoubt users start) run).1) asked
+asked_in_stream users start known (m ∷ ms) out next lawful all asked =
+    let run = first_answered (AnswersInDoubt users start) m ms all in
     asked_in_stream users start run.1 ms run.2 next lawful.1 run.4 (subst (AreAsked users) (sym run.3.1)
     (asked_then users m (ask_of users m) known.doubted run.0 lawful.0 refl asked))

@@ -1,5 +1,5 @@
 -- Histories that one caller cannot tell apart.
-use Rattle.std.specs.Prelude.{◌≡◌, ◌⊎◌, ℕ, Bool, false, not, ◌&&◌, List, [], ◌∷◌, ◌++◌, IsTrue, Result, Ok, Err}
+use Rattle.std.specs.Prelude.{◌≡◌, ◌⊎◌, ℕ, Bool, false, not, ◌&&◌, List, [], ◌∷◌, IsTrue, Result}
 use Rattle.std.specs.Prelude.{if◌then◌else◌}
 use Rattle.std.specs.Str.{bytes_eq}
 use Rattle.room_acl.specs.SubjectModel.{SubjectModel}
@@ -7,15 +7,12 @@ use Rattle.room_records.specs.Room.{Room}
 use Rattle.room_commands.specs.Lawful.{IsLawful}
 use Rattle.room_commands.specs.Sight.{StayAlike}
 use Rattle.room_wire.specs.declared.fault.WireFault.{WireFault}
-use Rattle.room_wire.specs.Asks.AskOf.{AskModel, Check, Event}
+use Rattle.room_wire.specs.Asks.AskOf.{AskModel}
 use Rattle.room_wire.specs.Asks.EventModel.{EventModel, Open, Close, Slot}
-use Rattle.room_wire.specs.Messages.MessageModel.{MessageModel}
-use Rattle.room_wire.specs.Messages.Stream.{is_last}
 use Rattle.room_desk.specs.AnswerModel.{AnswerModel}
 use Rattle.room_desk.specs.History.{History, state_after, changes_rows}
 use Rattle.room_desk.specs.Serving.{by_event}
 use Rattle.room_desk.specs.Stops.{is_delay}
-use Rattle.room_wire.specs.Answers.AnswerModel.{answer_bytes}
 
 -- who asks, and which session name is used
 abbrev pub caller_of : EventModel → SubjectModel
@@ -32,8 +29,8 @@ abbrev pub asks_lawfully : EventModel → Type 0
 asks_lawfully (Slot q) = IsLawful q.command
 asks_lawfully event = Unit {0}
 
--- an event is another's, and leaves the caller's sessions alone: it uses another session name, or changes nothing that
--- is kept, as where it is refused because the name is taken
+-- an event leaves the caller's sessions alone: it uses no session name of the caller's own, whoever sends it; or it is
+-- another's and changes nothing that is kept, as where it is refused because the name is taken
 abbrev pub LeavesSessions : SubjectModel → (List ℕ → Bool) → History → EventModel → Type 0
 LeavesSessions caller is_own_name past event = IsTrue (not (is_own_name (sid_of event)))
     ⊎ ((bytes_eq caller.name (caller_of event).name ≡ false) × (changes_rows past event ≡ false))
@@ -54,7 +51,7 @@ pub data AlikePasts (caller : SubjectModel) (is_own_name : List ℕ → Bool) (a
       → LeavesSessions caller is_own_name other event
       → StayAlike caller (state_after b other) (state_after b (event ∷ other))
       → AlikePasts caller is_own_name a b past other → AlikePasts caller is_own_name a b past (event ∷ other)
-  -- what others do in both may be seen, where the rooms look alike after it
+  -- what others do in both may be seen, where the rooms stay alike after it
   Others : (past other : History) (event event' : EventModel) → asks_lawfully event → asks_lawfully event'
       → LeavesSessions caller is_own_name past event → LeavesSessions caller is_own_name other event'
       → StayAlike caller (state_after a (event ∷ past)) (state_after b (event' ∷ other))
@@ -69,15 +66,8 @@ abbrev pub asks_own : SubjectModel → (List ℕ → Bool) → Result AskModel W
 asks_own caller is_own_name ask = by_event (is_own caller is_own_name) false ask
 
 -- the answers to those of some events, or messages, that are the caller's own. DELAY is left out: what is answered so
--- has not joined the history, and tells nothing
+-- has not joined the history, and these laws do not speak of DELAY
 abbrev pub told : {X : Type 0} → (is_its_own : X → Bool) → List X → List AnswerModel → List AnswerModel
 told is_its_own (x ∷ xs) (answered ∷ answers) = if is_its_own x && not (is_delay answered)
     then answered ∷ told is_its_own xs answers else told is_its_own xs answers
 told is_its_own xs answers = []
-
--- the output is that of these answers, one for each message
-abbrev pub Writes : List MessageModel → List AnswerModel → (out : List ℕ) → Type 0
-Writes [] [] out = out ≡ []
-Writes (m ∷ ms) (answered ∷ answers) out =
-    (later : List ℕ) × (out ≡ answer_bytes answered (is_last m) ++ later) × Writes ms answers later
-Writes ms answers out = ⊥

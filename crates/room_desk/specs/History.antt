@@ -1,7 +1,7 @@
 -- Histories: whose a session is, which requests are accepted, what the room is, and what is answered. Slots and their
 -- numbers are those of RFC 8881, sections 2.10.6.1 and 18.46; who owns a session name, when it is open, and that the
 -- first number is 1 are our own rules.
-use Rattle.std.specs.Prelude.{ℕ, ◌%◌, ◌^◌, Bool, true, false, not, ◌&&◌, ◌==◌, List, [], ◌∷◌, length, map, Option}
+use Rattle.std.specs.Prelude.{ℕ, Bool, false, not, ◌&&◌, ◌==◌, List, [], ◌∷◌, length, map, Option}
 use Rattle.std.specs.Prelude.{None, Some, if◌then◌else◌, nat_lt, is_some}
 use Rattle.std.specs.List.{AllByRecursion, list_any}
 use Rattle.std.specs.Bool.{then_some}
@@ -10,7 +10,6 @@ use Rattle.std.specs.Str.{bytes_eq}
 use Rattle.room_acl.specs.SubjectModel.{SubjectModel}
 use Rattle.room_slots.specs.Slots.{next_number}
 use Rattle.room_records.specs.Room.{Room}
-use Rattle.room_commands.specs.CommandModel.{CommandModel}
 use Rattle.room_commands.specs.ReplyModel.{Done, Opened}
 use Rattle.room_commands.specs.Lawful.{IsLawful}
 use Rattle.room_commands.specs.Effect.{effect}
@@ -43,13 +42,14 @@ session_of (event ∷ past) sid =
     option_or (option_map (λ (session : Session). record session { since = event ∷ session.since })
     (session_of past sid)) (opened_by sid event)
 
-abbrev pub closes : List ℕ → List ℕ → EventModel → Bool
-closes sid owner (Close caller name) = bytes_eq sid name && bytes_eq owner caller.name
-closes sid owner event = false
+-- the event is a CLOSE of the session by its owner
+abbrev pub ends_session : List ℕ → List ℕ → EventModel → Bool
+ends_session sid owner (Close caller name) = bytes_eq sid name && bytes_eq owner caller.name
+ends_session sid owner event = false
 
 -- it is open until a CLOSE by its owner, and never afterwards (our own rule)
 abbrev pub is_open : List ℕ → Session → Bool
-is_open sid session = not (list_any (closes sid session.owner) session.since)
+is_open sid session = not (list_any (ends_session sid session.owner) session.since)
 
 abbrev pub is_open_for : List ℕ → SubjectModel → Option Session → Bool
 is_open_for sid caller None = false
@@ -105,12 +105,12 @@ abbrev pub kept_reply : Room → Accepted → Option (List ℕ)
 kept_reply start a = then_some a.request.keep (original_reply start a)
 
 -- a request that is not accepted, in a session that its caller may use: a repeat, a false retry (RFC 8881, section
--- 2.10.6.1.3.1) or misordered. The number of the last request is the count of all, modulo 2^32. A repeat is answered by
--- the original reply where that is kept (section 2.10.6.1), and else refused (section 2.10.6.1.3)
+-- 2.10.6.1.3.1) or misordered. A repeat is answered by the original reply where that is kept (section 2.10.6.1), and
+-- else refused (section 2.10.6.1.3)
 abbrev pub answer_unaccepted : Room → Request → List Accepted → AnswerModel
 answer_unaccepted start q [] = Refused SeqMisordered
 answer_unaccepted start q (last ∷ earlier) =
-    if q.seq == length (last ∷ earlier) % 2 ^ 32
+    if q.seq == last.request.seq
     then (if bytes_eq (command_text q.command) (command_text last.request.command)
     then option_map_or Reply (kept_reply start last) (Refused RetryUncached) else Refused SeqFalseRetry)
     else Refused SeqMisordered

@@ -15,7 +15,7 @@ use Rattle.room_desk.specs.History.{History, Accepted, accepted, state_after, or
 
 -- two pasts of the same events, save that requests of others may ask to write other bytes, as many
 pub data DifferInBytes (caller : SubjectModel) : History → History → Type 0 where
-  Begin : DifferInBytes caller [] []
+  NoEvents : DifferInBytes caller [] []
   Same : (past other : History) (event : EventModel) → DifferInBytes caller past other
       → DifferInBytes caller (event ∷ past) (event ∷ other)
   Written : (past other : History) (q : Request) (command : CommandModel)

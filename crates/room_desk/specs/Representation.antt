@@ -1,36 +1,38 @@
--- Rows that stand for a history, and runs (our own rules).
-use Rattle.std.specs.Prelude.{◌≡◌, ◌⊎◌, ℕ, ◌%◌, ◌^◌, length, Bool, true, false, List, [], ◌∷◌, Option}
+-- Rows that stand for a history (our own rules).
+use Rattle.std.specs.Prelude.{◌≡◌, ℕ, true, false, List, [], ◌∷◌, Option}
 use Rattle.std.specs.Prelude.{None, Some, if◌then◌else◌}
+use Rattle.std.specs.Bool.{then_some}
 use Rattle.std.specs.Option.{option_map, option_map_or}
 use Rattle.room_slots.specs.KeptModel.{KeptModel}
 use Rattle.room_records.specs.declared.session.SessionRow.{SessionRow}
 use Rattle.room_records.specs.Records.{Records}
-use Rattle.room_records.specs.Rules.{SlotRules}
 use Rattle.room_records.specs.Room.{Room}
 use Rattle.room_records.specs.Representation.{RepresentsRoom}
 use Rattle.room_records.specs.Shelf.{View}
-use Rattle.room_commands.specs.ReplyModel.{IsRefused}
+use Rattle.room_commands.specs.ReplyModel.{IsNotDone}
 use Rattle.room_commands.specs.Effect.{effect}
 use Rattle.room_commands.specs.Needs.{NeedsAllowed}
-use Rattle.room_wire.specs.declared.answers.code.Code.TheVariants.{Delay}
-use Rattle.room_wire.specs.Asks.EventModel.{EventModel, Open, Close, Slot}
-use Rattle.room_wire.specs.Forms.Texts.{command_text}
-use Rattle.room_desk.specs.AnswerModel.{AnswerModel, Refused}
+use Rattle.room_wire.specs.Asks.EventModel.{EventModel, Request, Slot}
+use Rattle.room_wire.specs.Forms.Texts.{command_text, reply_text}
 use Rattle.room_desk.specs.History.{History, Session, session_of, is_open, Accepted, accepted, is_accepted, state_after}
-use Rattle.room_desk.specs.History.{AcceptsLawful, kept_reply, answer_to, changes_rows}
+use Rattle.room_desk.specs.History.{AcceptsLawful, changes_rows}
 
 abbrev pub session_row_of : List ℕ → Session → SessionRow
 session_row_of sid session =
     record { sid = sid; owner = session.owner; slots = session.slots; is_open = is_open sid session }
 
--- what a slot keeps: the count of its accepted requests, the last one, and its reply where that one asked so
+-- what a slot keeps of a request that is accepted over this room: its number and command, and the reply if it asks so
+abbrev pub kept_of_request : Room → Request → KeptModel
+kept_of_request room q = record {
+  seq = q.seq;
+  request = command_text q.command;
+  reply = then_some q.keep (reply_text (effect room q.caller q.command).reply);
+}
+
+-- what a slot keeps: nothing, or the last of its accepted requests
 abbrev pub kept_after : Room → List Accepted → Option KeptModel
 kept_after start [] = None
-kept_after start (last ∷ earlier) = Some (record {
-  seq = length (last ∷ earlier) % 2 ^ 32;
-  request = command_text last.request.command;
-  reply = kept_reply start last;
-})
+kept_after start (last ∷ earlier) = Some (kept_of_request (state_after start last.before) last.request)
 
 -- a slot row is kept while its session is open, once a request was accepted
 abbrev pub slot_row_of : Room → History → List ℕ → ℕ → Option KeptModel
@@ -40,7 +42,6 @@ slot_row_of start past sid slot =
 -- the rows stand for a history that began with this room, and the commands that it accepted are lawful
 pub record RepresentsHistory (start : Room) (r : Records) (past : History) : Type 0 where
   pub room : RepresentsRoom r.objects (state_after start past)
-  pub rules : SlotRules r
   pub sessions : (sid : List ℕ) → r.session sid ≡ option_map (session_row_of sid) (session_of past sid)
   pub slots : (sid : List ℕ) (slot : ℕ) → r.slot sid slot ≡ slot_row_of start past sid slot
   -- so the text that a slot keeps is a body that asks its command
@@ -54,26 +55,9 @@ StandsWith start past event r = (changes_rows past event ≡ true) × Represents
 abbrev pub StandsFor : Room → History → View → Type 0
 StandsFor start past shelf = shelf.is_available → shelf.is_laid_out × RepresentsHistory start shelf.records past
 
--- an event is answered as the history says and joins it, or is answered DELAY and does not
-abbrev pub Step : Room → History → EventModel → AnswerModel → History → Type 0
-Step start past event answered next =
-    ((answered ≡ answer_to start past event) × (next ≡ event ∷ past)) ⊎ ((answered ≡ Refused Delay) × (next ≡ past))
-
--- events in turn, with one answer for each: each is answered from what the one before it left
-abbrev pub InTurn : {S : Type 0} → (S → EventModel → AnswerModel → S → Type 0)
-    → S → List EventModel → List AnswerModel → S → Type 0
-InTurn answers before [] [] after = after ≡ before
-InTurn {S} answers before (event ∷ events) (answered ∷ later) after =
-    (next : S) × answers before event answered next × InTurn answers next events later after
-InTurn answers before events later after = ⊥
-
--- a run of a history: one step after another
-abbrev pub Run : Room → History → List EventModel → List AnswerModel → History → Type 0
-Run start past events answers next = InTurn (Step start) past events answers next
-
 -- an accepted request that is not refused had every right that its command needs, by the lists then
 abbrev pub WasAllowed : Room → History → EventModel → Type 0
 WasAllowed start past (Slot q) =
-    is_accepted past q ≡ true → (IsRefused (effect (state_after start past) q.caller q.command).reply → ⊥)
+    is_accepted past q ≡ true → (IsNotDone (effect (state_after start past) q.caller q.command).reply → ⊥)
     → NeedsAllowed (state_after start past) q.caller q.command
 WasAllowed start past event = Unit {0}

@@ -2,7 +2,6 @@
 use Rattle.std.specs.Prelude.{◌≡◌, ◌<◌, ℕ, List, [], ◌∷◌, ◌++◌, Bool, true, not, ◌==◌}
 use Rattle.std.specs.Prelude.{◌&&◌, nat_lt, Option, None, Some, if◌then◌else◌}
 use Rattle.std.specs.List.{AllByRecursion}
-use Rattle.std.specs.Bool.{then_some}
 use Rattle.std.specs.Option.{option_map_or}
 use Rattle.std.specs.Str.{bytes_eq}
 use Rattle.room_acl.specs.SubjectModel.{SubjectModel}
@@ -15,7 +14,6 @@ use Rattle.room_records.specs.declared.session.SlotRow.{SlotRow}
 use Rattle.room_records.specs.declared.change.Change.{Change}
 use Rattle.room_records.specs.declared.change.Change.TheVariants.{PutSlot}
 use Rattle.room_records.specs.Records.{Records}
-use Rattle.room_records.specs.Rules.{SlotRules}
 use Rattle.room_records.specs.Changes.{apply_change, apply_changes, apply_all_to_objects, IsOfObjects}
 use Rattle.room_records.specs.Room.{Room}
 use Rattle.room_records.specs.Representation.{RepresentsRoom}
@@ -26,12 +24,13 @@ use Rattle.room_wire.specs.declared.answers.code.Code.TheVariants.{BadSession, B
 use Rattle.room_wire.specs.declared.answers.code.Code.TheVariants.{SessionTaken, RetryUncached}
 use Rattle.room_tree.specs.Plans.{KeepsNumbers, most_rows}
 use Rattle.room_tree.specs.Renewals.{ChangesFewRows}
-use Rattle.room_wire.specs.Asks.EventModel.{EventModel, Request, Open, Close, Slot}
-use Rattle.room_wire.specs.Forms.Texts.{command_text, reply_text}
+use Rattle.room_wire.specs.Asks.EventModel.{EventModel, Request, Slot}
+use Rattle.room_wire.specs.Forms.Texts.{reply_text}
 use Rattle.room_desk.specs.declared.requests.Found.{Found}
 use Rattle.room_desk.specs.declared.requests.Found.TheVariants as F
 use Rattle.room_desk.specs.AnswerModel.{AnswerModel, Reply, Refused}
 use Rattle.room_desk.specs.History.{History, is_accepted, state_after}
+use Rattle.room_desk.specs.Representation.{kept_of_request}
 
 -- an OPEN of a name that was opened before
 abbrev pub answer_open_again : SubjectModel → ℕ → SessionRow → AnswerModel
@@ -52,15 +51,7 @@ pub record HasSlot (r : Records) (sid : List ℕ) (slot : ℕ) : Type 0 where
   pub below : slot < row.slots
 
 abbrev pub ran_row : Room → Request → SlotRow
-ran_row room q = record {
-  sid = q.sid;
-  slot = q.slot;
-  kept = record {
-    seq = q.seq;
-    request = command_text q.command;
-    reply = then_some q.keep (reply_text (effect room q.caller q.command).reply);
-  };
-}
+ran_row room q = record { sid = q.sid; slot = q.slot; kept = kept_of_request room q }
 
 -- what an accepted request changes: objects, by these changes, and the row of its slot. A list is put where it changes
 -- and once, few other rows change, and each object that stays keeps its number
@@ -82,7 +73,6 @@ pub record Ran (r : Records) (room : Room) (q : Request) (answered : AnswerModel
   pub session : changed.session ≡ r.session
   pub kept : changed.slot ≡ r.slot
   pub objects : RepresentsRoom changed.objects (effect room q.caller q.command).room
-  pub rules : SlotRules (apply_change (PutSlot (ran_row room q)) changed)
   pub leaves : new ≡ apply_change (PutSlot (ran_row room q)) changed
   pub says : answered ≡ Reply (reply_text (effect room q.caller q.command).reply)
   pub lawful : IsLawful q.command

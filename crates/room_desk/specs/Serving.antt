@@ -13,7 +13,7 @@ use Rattle.room_wire.specs.Asks.AskOf.{AskModel, Check, Event, ask_of}
 use Rattle.room_wire.specs.Questions.CheckAnswers.{answer_text}
 use Rattle.room_wire.specs.Serving.CheckService.{fault_code}
 use Rattle.room_wire.specs.Messages.MessageModel.{MessageModel}
-use Rattle.room_wire.specs.Serving.Outputs.{Outputs}
+use Rattle.room_wire.specs.Serving.Outputs.{InTurn, Outputs}
 use Rattle.room_desk.specs.AnswerModel.{AnswerModel, Reply, Refused, IsTurnedAway}
 use Rattle.room_desk.specs.History.{History, answer_to, changes_rows}
 use Rattle.room_desk.specs.Representation.{RepresentsHistory, StandsFor, StandsWith}
@@ -32,6 +32,14 @@ AnswersOrDelays start past ask answered next =
 
 abbrev pub AnswersMessage : List SubjectModel → Room → History → MessageModel → AnswerModel → History → Type 0
 AnswersMessage users start past m answered next = AnswersOrDelays start past (ask_of users m) answered next
+
+-- an event is answered as the history says, and joins it; or it is answered DELAY, and does not
+abbrev pub Step : Room → History → EventModel → AnswerModel → History → Type 0
+Step start past event answered next = AnswersOrDelays start past (Ok (Event event)) answered next
+
+-- a run of a history: one step after another
+abbrev pub Run : Room → History → List EventModel → List AnswerModel → History → Type 0
+Run start past events answers next = InTurn (Step start) past events answers next
 
 -- a run over messages from a history to a history, with its output
 abbrev pub IsRun : List SubjectModel → Room → History → List MessageModel → (out : List ℕ) → History → Type 0

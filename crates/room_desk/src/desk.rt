@@ -3,10 +3,11 @@ ghost use Rattle.std.specs.Prelude.{◌≡◌, ◌≢◌, List, [], ◌∷◌, �
 ghost use Rattle.room_records.specs.Room.{Room};
 ghost use Rattle.room_wire.specs.Asks.EventModel.{event_model};
 ghost use Rattle.room_wire.specs.declared.answers.code.Code.TheVariants.{Delay};
+ghost use Rattle.room_wire.specs.Serving.Outputs.{InTurn};
 ghost use Rattle.room_desk.specs.AnswerModel.{AnswerModel, Refused, answer_model};
 ghost use Rattle.room_desk.specs.History.{History};
-ghost use Rattle.room_desk.specs.Representation.{StandsFor, WasAllowed, InTurn, Run};
-ghost use Rattle.room_desk.specs.Serving.{DeskCall, EventAnswered};
+ghost use Rattle.room_desk.specs.Representation.{StandsFor, WasAllowed};
+ghost use Rattle.room_desk.specs.Serving.{DeskCall, EventAnswered, Run};
 ghost use Rattle.room_desk.specs.Trying.{EventTried};
 
 use crate::requests::{SlotRequest, request};

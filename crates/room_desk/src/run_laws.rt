@@ -5,11 +5,11 @@ ghost use Rattle.room_records.specs.Room.{Room, IsRoom};
 ghost use Rattle.room_wire.specs.Asks.AskOf.{ask_of};
 ghost use Rattle.room_wire.specs.Asks.EventModel.{EventModel};
 ghost use Rattle.room_wire.specs.Messages.MessageModel.{MessageModel};
-ghost use Rattle.room_desk.specs.AlikePasts.{AlikePasts, is_own, asks_own, told, Writes};
+ghost use Rattle.room_wire.specs.Serving.Outputs.{Writes};
+ghost use Rattle.room_desk.specs.AlikePasts.{AlikePasts, is_own, asks_own, told};
 ghost use Rattle.room_desk.specs.AnswerModel.{AnswerModel};
 ghost use Rattle.room_desk.specs.History.{History};
-ghost use Rattle.room_desk.specs.Representation.{Run};
-ghost use Rattle.room_desk.specs.Serving.{IsRun};
+ghost use Rattle.room_desk.specs.Serving.{IsRun, Run};
 
 /// Two streams that are served in turn are one run, with one output after the other.
 pub fn runs_in_turn_are_one_run()

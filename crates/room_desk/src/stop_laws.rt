@@ -7,11 +7,11 @@ ghost use Rattle.room_wire.specs.Asks.AskOf.{Event, ask_of};
 ghost use Rattle.room_wire.specs.Asks.EventModel.{EventModel};
 ghost use Rattle.room_wire.specs.declared.answers.code.Code.TheVariants.{Delay, RetryUncached};
 ghost use Rattle.room_wire.specs.Messages.MessageModel.{MessageModel};
-ghost use Rattle.room_wire.specs.Serving.Outputs.{Outputs};
+ghost use Rattle.room_wire.specs.Serving.Outputs.{InTurn, Outputs};
 ghost use Rattle.room_desk.specs.AnswerModel.{AnswerModel, Refused};
 ghost use Rattle.room_desk.specs.History.{History, answer_to, leaves_no_reply};
-ghost use Rattle.room_desk.specs.Representation.{RepresentsHistory, StandsFor, InTurn, Run};
-ghost use Rattle.room_desk.specs.Serving.{EventAnswered, MayAnswer};
+ghost use Rattle.room_desk.specs.Representation.{RepresentsHistory, StandsFor};
+ghost use Rattle.room_desk.specs.Serving.{EventAnswered, MayAnswer, Run};
 ghost use Rattle.room_desk.specs.Stops.{StandsInDoubt, in_doubt, Doubt, no_doubt, AnswersInDoubt, AreDelayed};
 
 use room_records::Shelf;

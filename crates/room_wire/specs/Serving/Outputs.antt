@@ -11,14 +11,26 @@ use Rattle.room_wire.specs.declared.messages.message.Message.{Message}
 use Rattle.room_wire.specs.declared.serving.stop.RoundsEnd.{RoundsEnd}
 use Rattle.room_wire.specs.declared.serving.stop.RoundsEnd.TheVariants.{NeedsMore, Broken, Last, NotWritten}
 
--- the answers to these messages, one after another, and the service after them
+-- things that are asked in turn, with one answer for each: each is answered from what the one before it left
+abbrev pub InTurn : {S Asked : Type 0} → (S → Asked → AnswerModel → S → Type 0)
+    → S → List Asked → List AnswerModel → S → Type 0
+InTurn answers before [] [] after = after ≡ before
+InTurn {S} answers before (asked ∷ rest) (answered ∷ later) after =
+    (next : S) × answers before asked answered next × InTurn answers next rest later after
+InTurn answers before rest later after = ⊥
+
+-- the output is that of these answers, one for each message
+abbrev pub Writes : List MessageModel → List AnswerModel → (out : List ℕ) → Type 0
+Writes [] [] out = out ≡ []
+Writes (m ∷ ms) (answered ∷ answers) out =
+    (later : List ℕ) × (out ≡ answer_bytes answered (is_last m) ++ later) × Writes ms answers later
+Writes ms answers out = ⊥
+
+-- these messages are answered in turn, and the output is that of the answers
 abbrev pub Outputs : {S : Type 0} → (S → MessageModel → AnswerModel → S → Type 0)
     → S → List MessageModel → List ℕ → S → Type 0
-Outputs may_answer before [] out after = (out ≡ []) × (after ≡ before)
-Outputs {S} may_answer before (m ∷ ms) out after =
-    (answer : AnswerModel) × (next : S) × (later : List ℕ)
-    × may_answer before m answer next × Outputs may_answer next ms later after
-    × (out ≡ answer_bytes answer (is_last m) ++ later)
+Outputs may_answer before ms out after =
+    (answers : List AnswerModel) × InTurn may_answer before ms answers after × Writes ms answers out
 
 -- an answer to the message was sent, or a beginning of it
 abbrev pub AnswersOne : {S : Type 0} → (S → MessageModel → AnswerModel → S → Type 0)

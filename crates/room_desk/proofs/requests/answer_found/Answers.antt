@@ -5,6 +5,7 @@ use Rattle.room_desk.proofs.Acceptance.{stand_after_run}
 use Rattle.room_desk.proofs.Found.{Says, said}
 use Rattle.room_desk.proofs.Idle.{refused_is_idle}
 use Rattle.room_desk.proofs.Results.{if_ok_then}
+use Rattle.room_desk.proofs.SlotRows.{slot_rules}
 use Rattle.room_desk.proofs.Trying.{joins_at_once, joins_by_commit}
 use Rattle.room_desk.proofs.requests.answer_found.Goals as goal
 
@@ -15,9 +16,9 @@ returns-in-New-clause-joins g c = λ there d start past stand found.
     let (has, new, says) = subst (Says start (g.S.Shelf.view c.args.shelf.now).records past q)
     (sym found ∙ c.in-New.is) (said stand q) in
     joins_by_commit there new (λ left ran. stand_after_run start past q new stand ran) (λ left ran new. ran.made)
-    (λ h. if_ok_then c.run_new.result (c.run_new.ensures.ok h d room stand.room stand.rules has)
+    (λ h. if_ok_then c.run_new.result (c.run_new.ensures.ok h d room stand.room (slot_rules stand) has)
     (λ answer ran. (ran.says ∙ sym says, rw ran.says at ran)))
-    (λ k. c.run_new.ensures.crash k there d room stand.room stand.rules has)
+    (λ k. c.run_new.ensures.crash k there d room stand.room (slot_rules stand) has)
     (λ k. c.run_new.ensures.frame.left_laid_out k there d)
 
 pub returns-in-Refused-clause-joins : goal.returns-in-Refused-clause-joins

@@ -20,13 +20,38 @@ pub shown_last : (message : Message) (m : MessageModel) (last : Bool) → Shows 
     → last ≡ is_last m
 shown_last message m last s e = e ∙ (λ i. (s.minor i == 0) || asks_to_close (s.fields i))
 
+-- the answer to the first message, and the output of the rest
+abbrev pub FirstAnswered : {S : Type 0} → (S → MessageModel → AnswerModel → S → Type 0)
+    → S → MessageModel → List MessageModel → List ℕ → S → Type 0
+FirstAnswered {S} may before m ms out after =
+    (answer : AnswerModel) × (next : S) × (later : List ℕ)
+    × may before m answer next × Outputs may next ms later after
+    × (out ≡ answer_bytes answer (is_last m) ++ later)
+
+module _ {S : Type 0} (may : S → MessageModel → AnswerModel → S → Type 0) {before after : S} {out : List ℕ} where
+  pub no_output : Outputs may before [] out after → (out ≡ []) × (after ≡ before)
+  no_output ([], same, none) = (none, same)
+  no_output (answer ∷ answers, none, written) = absurd none
+
+  pub first_answered : (m : MessageModel) (ms : List MessageModel) → Outputs may before (m ∷ ms) out after
+      → FirstAnswered may before m ms out after
+  first_answered m ms ([], none, written) = absurd none
+  first_answered m ms (answer ∷ answers, (next, one, turn), (later, is, written)) =
+      (answer, next, later, one, (answers, turn, written), is)
+
+  pub with_first : (m : MessageModel) (ms : List MessageModel) → FirstAnswered may before m ms out after
+      → Outputs may before (m ∷ ms) out after
+  with_first m ms (answer, next, later, one, (answers, turn, written), is) =
+      (answer ∷ answers, (next, one, turn), (later, is, written))
+
 -- the answers to some messages, and then to others
 pub outputs_then : {S : Type 0} (may : S → MessageModel → AnswerModel → S → Type 0)
     (s t u : S) (ms ks : List MessageModel) (a b : List ℕ)
     → Outputs may s ms a t → Outputs may t ks b u → Outputs may s (ms ++ ks) (a ++ b) u
-outputs_then may s t u [] ks a b x y =
+outputs_then may s t u [] ks a b z y =
+    let x = no_output may z in
     subst (λ v. Outputs may v ks (a ++ b) u) x.1 (subst (λ v. Outputs may t ks (v ++ b) u) (sym x.0) y)
-outputs_then may s t u (m ∷ ms) ks a b x y = (
+outputs_then may s t u (m ∷ ms) ks a b z y = let x = first_answered may m ms z in with_first may m (ms ++ ks) (
   x.0,
   x.1,
   x.2 ++ b,
@@ -48,12 +73,12 @@ pub shown_answer : {S : Type 0} (may : S → MessageModel → AnswerModel → S 
     → AnswersOne may before after message last old new ok → Answered may before after old new m v
 shown_answer may before after message m last ok v old new s e f a = record {
   text = answer_bytes a.0 last;
-  output = (
+  output = with_first may m [] (
     a.0,
     after,
     [],
     a.1 m s,
-    (refl, refl),
+    ([], refl, refl),
     ap (answer_bytes a.0) e ∙ sym (append-nil (answer_bytes a.0 (is_last m))),
   );
   sent = subst (Sent old new (answer_bytes a.0 last)) f a.2;

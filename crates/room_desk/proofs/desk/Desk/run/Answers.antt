@@ -2,8 +2,7 @@ use Rattle.std.proofs.Common.{◌≡◌, [], ◌∷◌, ◌++◌, length, ap, �
 use Rattle.std.proofs.lemmas.List.{take_all, map-append, length_push, same_from_push}
 use Rattle.room_wire.specs.Asks.EventModel.{event_model}
 use Rattle.room_desk.specs.AnswerModel.{answer_model}
-use Rattle.room_desk.specs.Representation.{Step}
-use Rattle.room_desk.specs.Serving.{EventAnswered}
+use Rattle.room_desk.specs.Serving.{EventAnswered, Step}
 use Rattle.room_desk.proofs.Calls.{no_call, calls_then}
 use Rattle.room_desk.proofs.Runs.{in_turn_at}
 use Rattle.room_desk.proofs.desk.Desk.run.Goals as goal

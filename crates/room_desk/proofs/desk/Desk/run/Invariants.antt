@@ -2,10 +2,11 @@ use Rattle.std.proofs.Common.{◌≡◌, ◌≢◌, ◌≤◌, List, [], ◌∷�
 use Rattle.room_records.specs.Room.{Room}
 use Rattle.room_wire.specs.Asks.EventModel.{event_model}
 use Rattle.room_wire.specs.declared.answers.code.Code.TheVariants.{Delay}
+use Rattle.room_wire.specs.Serving.Outputs.{InTurn}
 use Rattle.room_desk.specs.AnswerModel.{AnswerModel, Refused, answer_model}
 use Rattle.room_desk.specs.History.{History}
-use Rattle.room_desk.specs.Representation.{StandsFor, InTurn, Run}
-use Rattle.room_desk.specs.Serving.{DeskCall, EventAnswered}
+use Rattle.room_desk.specs.Representation.{StandsFor}
+use Rattle.room_desk.specs.Serving.{DeskCall, EventAnswered, Run}
 use Rattle.room_desk.proofs.desk.Desk.run.Given as goal
 
 -- the answers so far are a run over the events so far

@@ -20,3 +20,7 @@ returns-clause-frame g c = rw (c.self.view_is, ← c.take_workspace.ensures)
 pub returns-clause-run : goal.returns-clause-run
 returns-clause-run g c = rw (c.self.view_is, ← c.take_workspace.ensures)
     (served_stream g.S.Shelf.view c.args.roster.now _ _ _ _ _ _ _ _ c.serve_messages-end.ensures).run
+
+pub returns-clause-messages : goal.returns-clause-messages
+returns-clause-messages g c =
+    rw (c.self.view_is, ← c.take_workspace.ensures) c.serve_messages-end.ensures

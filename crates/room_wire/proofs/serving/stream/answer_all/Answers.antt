@@ -7,7 +7,7 @@ use Rattle.room_wire.proofs.Lemmas.Messages.Streams.{follows_then, follows_one}
 use Rattle.room_wire.proofs.serving.stream.answer_all.Goals as goal
 
 pub rounds-init : goal.rounds-init
-rounds-init g c = ([], [], refl, (refl, refl), Appends-nil _, omega (arith, c.ranges.start.fits))
+rounds-init g c = ([], [], refl, ([], refl, refl), Appends-nil _, omega (arith, c.ranges.start.fits))
 
 pub returns-then-not-sent : goal.returns-then-not-sent
 returns-then-not-sent g c =

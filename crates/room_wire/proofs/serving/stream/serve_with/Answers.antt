@@ -16,7 +16,7 @@ reads-init g c = (
   [],
   [],
   sym c.requires,
-  (refl, refl),
+  ([], refl, refl),
   none_empty _ (ap length c.requires),
   (let e = ap length c.requires in omega arith),
   Consumes-nil _,
