@@ -1,11 +1,12 @@
 -- A decision over the rows that were read so far, and the frame of a query whose rows are read one at a time.
 use Rattle.std.proofs.Common.{◌≡◌, ◌⊎◌, ℕ, pos, false, List, [], ◌∷◌, ◌++◌, map, Result, Ok, Err, IsErr, OnOk}
-use Rattle.std.proofs.Common.{refl, sym, ◌∙◌, append-nil}
+use Rattle.std.proofs.Common.{◌<◌, ◌-◌, ◌^◌, length, refl, sym, ap, subst, ◌∙◌, append-nil, length-append, arith}
+use Rattle.std.specs.List.{AllByRecursion}
 use Rattle.std.proofs.lemmas.Result.{IfOk-from_err}
 use Rattle.std.proofs.lemmas.List.{map-append, append_assoc}
 use Rattle.sqlite_value.specs.declared.value.Value.TheVariants.{Int}
 use Rattle.sqlite_value.specs.Order.{Row}
-use Rattle.sqlite.specs.Effect.{IsDatabase}
+use Rattle.sqlite.specs.Effect.{Database, IsDatabase}
 use Rattle.sqlite.specs.State.{State, HasCleanDisk, IsLive, IsUnchanged, IsRolledBack, Survives, Shown, Begins}
 use Rattle.sqlite.specs.declared.error.Error.{Error}
 use Rattle.sqlite.proofs.StateLemmas.{survives_then}
@@ -16,6 +17,8 @@ use Rattle.room_acl.specs.Access.{decision}
 use Rattle.room_acl.specs.Pending.{PendingModel, decision_with}
 use Rattle.room_tables.specs.Layout.{IsRoomDatabase}
 use Rattle.room_tables.specs.Rows.{entry_of, entry_rows}
+use Rattle.room_tables.specs.Steps.{ShowsEntry, AreEntries}
+use Rattle.room_tables.proofs.EntryRows.{next_shows}
 use Rattle.room_tables.proofs.Texts.{read_entries_text}
 use Rattle.room_tables.proofs.Queries.{left_open, left_now}
 use Rattle.room_tables.proofs.Reading.{read_begins, read_ends}
@@ -101,3 +104,27 @@ module _ {caller : SubjectModel} {standing : Standing} {wanted : ℕ} where
         ≡ decision (map entry_of (entry_rows old.now.trees id)) caller standing wanted
     ended new shown =
         was.answers [] ∙ rw (append-nil, read_ends now new id given room_now sound_now shown, same.0.now_is) refl
+
+-- ---- rows that were given are the first of the object's
+
+module _ {old now : State} (id : ℕ) (given : List Row)
+    (room : IsRoomDatabase old.now) (live : IsLive old) (same : IsUnchanged old now)
+    (begins : Begins read_entries_text (Int (pos id) ∷ []) now given) where
+  front : (tail : List Row) × (given ++ tail ≡ entry_rows old.now.trees id)
+  front =
+      let read = read_begins now id given (rw (same.0.now_is) room) (rw (same.0.now_is) (live same.0.was_open).0)
+      begins in
+      (read.0, read.1 ∙ ap (λ (d : Database). entry_rows d.trees id) same.0.now_is)
+
+  pub given_few : AreEntries (entry_rows old.now.trees id) → length given < 2 ^ 64 - 1
+  given_few are =
+      let long = length-append given front.0 in let all = ap length front.1 in
+      let few = are.few in omega (arith, long, all, few)
+
+-- the last of them shows an entry
+pub last_shows : {old now : State} (id : ℕ) (given : List Row) (row : Row) → IsRoomDatabase old.now → IsLive old
+    → IsUnchanged old now → Begins read_entries_text (Int (pos id) ∷ []) now (given ++ row ∷ [])
+    → AreEntries (entry_rows old.now.trees id) → ShowsEntry row
+last_shows {old = old} id given row room live same begins are =
+    let it = front id (given ++ row ∷ []) room live same begins in
+    next_shows given row it.0 (subst (AllByRecursion ShowsEntry) (sym it.1) are.each)

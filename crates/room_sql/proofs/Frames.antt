@@ -1,8 +1,8 @@
 -- The frames of calls.
 use Rattle.std.proofs.Common.{◌≡◌, ◌∙◌, true, false, Vec, Result, Ok, Err, IfOk, IfErr, IsErr, OnOk}
-use Rattle.std.proofs.Common.{refl, ap, arith, ◌⊎◌, inl, inr}
+use Rattle.std.proofs.Common.{◌≢◌, refl, sym, ap, subst, arith, ◌⊎◌, inl, inr}
 use Rattle.std.specs.declared.alloc.Global.{Global}
-use Rattle.std.specs.Prelude.{List, ℕ}
+use Rattle.std.specs.Prelude.{List, ℕ, IsErrAnd}
 use Rattle.std.proofs.lemmas.Result.{IfOk-from_err}
 use Rattle.sqlite_value.specs.Order.{Row}
 use Rattle.sqlite_trees.specs.declared.store.Store.{Ghosts}
@@ -11,6 +11,8 @@ use Rattle.sqlite.specs.State.{State, HasCleanDisk, Survives, Shown, FailsToQuer
 use Rattle.sqlite.specs.State.{ExecutesInside, KeepsCommit, IsTooLate}
 use Rattle.sqlite.specs.Held.{Held, state}
 use Rattle.sqlite.specs.declared.error.Error.{Error}
+use Rattle.sqlite.specs.declared.error.Error.TheVariants.{SqliteFailure}
+use Rattle.sqlite.specs.declared.error.ErrorCode.TheVariants.{OutOfMemory}
 use Rattle.sqlite.specs.declared.rows.Row.{Row as Answer}
 use Rattle.sqlite.specs.declared.transaction.Transaction.{Transaction}
 use Rattle.sqlite_trees.specs.Tree.{Trees}
@@ -20,6 +22,7 @@ use Rattle.sqlite.proofs.InsideLemmas.{keeps_then, unchanged_keeps}
 use Rattle.room_tables.proofs.Changes.{keeps_all, was_inside}
 use Rattle.room_tables.proofs.Queries.{is_query_text, query_keeps, query_left, query_answered, query_open}
 use Rattle.room_tables.proofs.Queries.{query_leaves, fails_leaves}
+use Rattle.room_sql.specs.Faults.{ErrMeans}
 use Rattle.room_sql.specs.Frames.{QueryFrame, InsideFrame, CommitFrame}
 
 -- what holds after an Ok
@@ -30,6 +33,13 @@ ok_then (Err e) h f = h
 pub both : {X E : Type 0} (r : Result X E) (P Q : Type 0) → OnOk r P → OnOk r Q → OnOk r (P × Q)
 both (Ok x) P Q p q = (p, q)
 both (Err e) P Q p q = tt
+
+-- an error that is handed on means what it meant
+pub handed_on : {T : Type 0} (Means : Error → Type 0) (r : Result T Error) (error : Error)
+    → IsErrAnd r (λ e. e ≡ error) → (error ≢ SqliteFailure OutOfMemory → Means error) → ErrMeans r Means
+handed_on Means (Ok x) error is means = tt
+handed_on Means (Err e) error is means =
+    subst (λ f. f ≢ SqliteFailure OutOfMemory → Means f) (sym is) means
 
 -- a disk that has returned what was written had done so before
 pub was_clean : {a b : State} {P : Trees → Type 0} → Survives a b P → HasCleanDisk b → HasCleanDisk a

@@ -1,6 +1,6 @@
 -- A room of version 1 that is upgraded, by the rows that were read before.
 use Rattle.std.proofs.Common.{◌≡◌, ◌∙◌, ℕ, List, [], ◌∷◌, option_map, unwrap_or, refl, sym, ap, IsPermutation}
-use Rattle.std.proofs.Common.{true, false, true≢false, IsTrue}
+use Rattle.std.proofs.Common.{false, true≢false, IsTrue}
 use Rattle.sqlite_value.specs.Order.{Row, column}
 use Rattle.sqlite_trees.specs.Tree.{Trees}
 use Rattle.sqlite.specs.Table.{Table}

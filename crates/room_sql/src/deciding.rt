@@ -6,6 +6,8 @@ ghost use Rattle.sqlite.specs.Held.{state};
 ghost use Rattle.room_acl.specs.Access.{decision};
 ghost use Rattle.room_tables.specs.Layout.{IsRoomDatabase};
 ghost use Rattle.room_tables.specs.Rows.{entry_of, entry_rows};
+ghost use Rattle.room_tables.specs.Steps.{AreEntries};
+ghost use Rattle.room_sql.specs.Faults.{ErrMeans, FailsToReadEntries};
 ghost use Rattle.room_sql.specs.Frames.{QueryFrame};
 
 use crate::rows::entry_of;
@@ -27,6 +29,9 @@ pub(crate) fn decide_entries<S: Alter>(
     ensures value { HasCleanDisk (state S.Store conn.new) → IsRoomDatabase (state S.Store conn.old).now
         → IfOk result (λ found. found ≡ decision (map entry_of (entry_rows (state S.Store conn.old).now.trees id))
         subject.now standing.now wanted) }
+    ensures told { HasCleanDisk (state S.Store conn.new) → IsRoomDatabase (state S.Store conn.old).now
+        → AreEntries (entry_rows (state S.Store conn.old).now.trees id)
+        → ErrMeans result (FailsToReadEntries id (state S.Store conn.old) (state S.Store conn.new)) }
 {
     let _live = conn.schema();
     let mut pending = Pending::new(wanted, subject, standing);

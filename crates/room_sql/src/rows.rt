@@ -1,16 +1,18 @@
 //! Rows of the tables, read as values of a room. A row that is no value of its type is an error.
 
-ghost use Rattle.std.specs.Prelude.{◌≡◌, ◌≢◌, ◌==◌, ◌<◌, ◌-◌, ◌^◌, ℕ, pos, [], ◌∷◌, Some, None, map, slice_get};
-ghost use Rattle.std.specs.Prelude.{unwrap_or, option_map, IfOk, IfErr, string_bytes, true};
+ghost use Rattle.std.specs.Prelude.{◌≡◌, ◌≢◌, ◌==◌, ◌<◌, ◌-◌, ◌^◌, ℕ, pos, List, [], ◌∷◌, Some, None, map, slice_get};
+ghost use Rattle.std.specs.Prelude.{unwrap_or, option_map, IfOk, IfErr, IsUtf8, string_bytes, Bool, true};
 ghost use Rattle.std.specs.List.{AllByRecursion, filter_map};
 ghost use Rattle.sqlite_value.specs.Order.{column};
 ghost use Rattle.sqlite_value.specs.declared.value.Value.TheVariants.{Int, Text};
+ghost use Rattle.room_acl.specs.Bits.{IsFlags, IsMask};
 ghost use Rattle.room_acl.specs.Entries.{who_from, who_text};
 ghost use Rattle.room_tables.specs.Rows.{number_in, text_in, name_of_text, name_stored, parent_in, blob_in, reply_in};
 ghost use Rattle.room_tables.specs.Rows.{kind_stored, who_of, only, node_of, entry_of, session_stored, kept_of};
 ghost use Rattle.room_tables.specs.Rows.{listed_of, seq_stored, size_in, five_columns, HasEntryColumns};
 ghost use Rattle.room_tables.specs.Names.{counted_row};
-ghost use Rattle.room_tables.specs.Steps.{flag_of, type_of, shown_as, placed, IsReadBack};
+ghost use Rattle.room_tables.specs.Steps.{flag_of, type_of, shown_as, placed, IsReadBack, ShowsEntry};
+ghost use Rattle.room_sql.specs.Faults.{ErrMeans};
 
 use room_acl::{Entry, Flags, Kind, ListFlags, Mask, Principal, Who};
 use room_records::{FileName, Node, SessionRow, Sid, SlotCount};
@@ -25,12 +27,14 @@ pub(crate) fn bad_value() -> Error {
 
 fn number_at(row: &Row, at: usize) -> Result<u32, Error>
     ensures value { IfOk result (λ n. column row.now at ≡ Int (pos n)) }
+    ensures told { ErrMeans result (λ _. (n : ℕ) → n < 2 ^ 32 → column row.now at ≢ Int (pos n)) }
 {
     row.get(at)
 }
 
 fn text_at(row: &Row, at: usize) -> Result<String, Error>
     ensures value { IfOk result (λ s. column row.now at ≡ Text (string_bytes s)) }
+    ensures told { ErrMeans result (λ _. (text : List ℕ) → IsUtf8 text → column row.now at ≢ Text text) }
 {
     row.get(at)
 }
@@ -72,6 +76,7 @@ fn name_at(alloc: Global, row: &Row, at: usize) -> Result<Option<FileName>, Erro
 fn flag_at(row: &Row, at: usize) -> Result<bool, Error>
     ensures value { IfOk result (λ flag. flag ≡ (number_in (column row.now at) == 1)) }
     ensures typed { IfOk result (λ flag. column row.now at ≡ Int (pos (flag_of flag))) }
+    ensures told { ErrMeans result (λ _. (flag : Bool) → column row.now at ≢ Int (pos (flag_of flag))) }
 {
     match number_at(row, at)? {
         0 => Ok(false),
@@ -126,12 +131,14 @@ pub(crate) fn node_of(alloc: Global, row: &Row) -> Result<Node, Error>
 fn allow_at(row: &Row, at: usize) -> Result<bool, Error>
     ensures value { IfOk result (λ allow. allow ≡ (number_in (column row.now at) == 0)) }
     ensures stored { IfOk result (λ allow. column row.now at ≡ Int (pos (type_of allow))) }
+    ensures told { ErrMeans result (λ _. (flag : Bool) → column row.now at ≢ Int (pos (flag_of flag))) }
 {
     Ok(!flag_at(row, at)?)
 }
 
 fn flags_at(row: &Row, at: usize) -> Result<Flags, Error>
     ensures value { IfOk result (λ flags. column row.now at ≡ Int (pos flags)) }
+    ensures told { ErrMeans result (λ _. (flags : ℕ) → IsFlags flags → column row.now at ≢ Int (pos flags)) }
 {
     let number = number_at(row, at)?;
     let Ok(bits) = u8::try_from(number) else {
@@ -142,6 +149,7 @@ fn flags_at(row: &Row, at: usize) -> Result<Flags, Error>
 
 fn mask_at(row: &Row, at: usize) -> Result<Mask, Error>
     ensures value { IfOk result (λ mask. column row.now at ≡ Int (pos mask)) }
+    ensures told { ErrMeans result (λ _. (mask : ℕ) → IsMask mask → column row.now at ≢ Int (pos mask)) }
 {
     let number = number_at(row, at)?;
     Mask::new(number).ok_or(bad_value())
@@ -151,6 +159,7 @@ fn who_from(alloc: Global, flags: Flags, text: &str) -> Result<Who, Error>
     ensures value { IfOk result (λ who. who ≡ who_of flags text.now) }
     ensures found { IfOk result (λ who. who_from flags text.now ≡ Some who) }
     ensures text { IfOk result (λ who. who_text who ≡ text.now) }
+    ensures told { ErrMeans result (λ _. who_from flags text.now ≡ None) }
 {
     Who::read(alloc, flags, text)?.ok_or(bad_value())
 }
@@ -161,6 +170,7 @@ pub(crate) fn entry_of(alloc: Global, row: &Row) -> Result<Entry, Error>
     ensures typed { IfOk result (λ _. HasEntryColumns row.now) }
     ensures shown { IfOk result (λ entry. five_columns row.now ≡ shown_as (number_in (column row.now 0)) entry) }
     ensures back { IfOk result IsReadBack }
+    ensures told { ErrMeans result (λ _. ¬ ShowsEntry row.now) }
 {
     let _place = number_at(row, 0)?;
     let allow = allow_at(row, 1)?;
@@ -191,6 +201,7 @@ pub(crate) fn all_entries(alloc: Global, rows: &[Row]) -> Result<StoredList, Err
     ensures shown { IfOk result (λ list. list.is_placed ≡ true
         → map five_columns rows.now ≡ placed 0 list.entries.items) }
     ensures back { IfOk result (λ list. AllByRecursion IsReadBack list.entries.items) }
+    ensures told { ErrMeans result (λ _. ¬ AllByRecursion ShowsEntry rows.now) }
 {
     let mut entries = Vec::new(alloc);
     let mut is_placed = true;

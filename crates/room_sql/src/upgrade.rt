@@ -1,13 +1,13 @@
 //! A room of version 1 becomes one of version 2.
 
-ghost use Rattle.std.specs.Prelude.{◌≡◌, OnOk, OnErr, IfOk, true, false, IsTrue, MatchBool};
+ghost use Rattle.std.specs.Prelude.{◌≡◌, ◌≢◌, ◌≤◌, ◌-◌, ◌^◌, length, OnOk, OnErr, IfOk, true, false, IsTrue, MatchBool};
 ghost use Rattle.sqlite.specs.Effect.{Database, IsDatabase};
 ghost use Rattle.sqlite.specs.State.{HasCleanDisk};
 ghost use Rattle.sqlite.specs.Held.{state};
 ghost use Rattle.room_tables.specs.Rows.{records_of};
 ghost use Rattle.room_tables.specs.Layout.{IsRoomOfVersion1};
-ghost use Rattle.room_tables.specs.Upgrade.{others_than, IsShared, IsMoving, IsMovedOut, CopiesRow, IsMoved};
-ghost use Rattle.room_tables.specs.Upgrade.{IsUpgraded, MayBeUpgraded, MayBeMovedWith};
+ghost use Rattle.room_tables.specs.Upgrade.{others_than, LeavesFewer, IsShared, IsMoving, IsMovedOut, CopiesRow};
+ghost use Rattle.room_tables.specs.Upgrade.{IsMoved, IsUpgraded, MayBeUpgraded, MayBeMovedWith};
 ghost use Rattle.room_sql.specs.Frames.{InsideFrame, CommitFrame};
 
 use crate::reads::next_rows;
@@ -22,6 +22,10 @@ fn copy_row<S: Alter>(tx: &mut Transaction<'_, S>) -> Result<(), Error>
     ensures ok { HasCleanDisk (state S.Store tx.new.conn.now)
         → OnOk result ((before : Database) → IsMoving before (state S.Store tx.old.conn.now).now →
         CopiesRow before (state S.Store tx.new.conn.now)) }
+    ensures fewer { HasCleanDisk (state S.Store tx.new.conn.now)
+        → OnOk result ((before : Database) → IsMoving before (state S.Store tx.old.conn.now).now →
+        (state S.Store tx.new.conn.now).changes ≢ 0 → LeavesFewer (state S.Store tx.old.conn.now).now
+        (others_than (state S.Store tx.new.conn.now).last_rowid ((state S.Store tx.new.conn.now).now.trees 8))) }
 {
     run(
         tx,
@@ -38,6 +42,10 @@ fn take_row<S: Alter>(tx: &mut Transaction<'_, S>, id: i64) -> Result<(), Error>
         → OnOk result ((before : Database) → IsShared before (state S.Store tx.old.conn.now).now
         (others_than id ((state S.Store tx.old.conn.now).now.trees 8)) →
         IsMoving before (state S.Store tx.new.conn.now).now) }
+    ensures left { HasCleanDisk (state S.Store tx.new.conn.now)
+        → OnOk result ((before : Database) → IsShared before (state S.Store tx.old.conn.now).now
+        (others_than id ((state S.Store tx.old.conn.now).now.trees 8)) → (state S.Store tx.new.conn.now).now.trees 8
+        ≡ others_than id ((state S.Store tx.old.conn.now).now.trees 8)) }
 {
     run(tx, "DELETE FROM slot WHERE rowid = ?1", params![id])
 }
@@ -50,6 +58,9 @@ fn move_row<S: Alter>(tx: &mut Transaction<'_, S>) -> Result<bool, Error>
         → IfOk result (λ more. (before : Database) → IsMoving before (state S.Store tx.old.conn.now).now →
         MatchBool more (IsMoving before (state S.Store tx.new.conn.now).now)
         (IsMovedOut before (state S.Store tx.new.conn.now).now)) }
+    ensures fewer { HasCleanDisk (state S.Store tx.new.conn.now)
+        → IfOk result (λ more. (before : Database) → IsMoving before (state S.Store tx.old.conn.now).now → IsTrue more →
+        LeavesFewer (state S.Store tx.old.conn.now).now ((state S.Store tx.new.conn.now).now.trees 8)) }
 {
     copy_row(tx)?;
     if tx.changes() == 0 {
@@ -63,21 +74,22 @@ fn move_row<S: Alter>(tx: &mut Transaction<'_, S>) -> Result<bool, Error>
     Ok(true)
 }
 
-/// Moves row after row until none is left, so that never more than one of them is in memory. Each pass takes one away,
-/// and the bound is more than a file holds.
-fn move_rows<S: Alter>(tx: &mut Transaction<'_, S>) -> Result<(), Error>
+/// Moves row after row until none is left, so that never more than one of them is in memory. Each pass takes one away.
+/// Answers false where there are 2^64 - 1 rows or more, which is more than a file holds.
+fn move_rows<S: Alter>(tx: &mut Transaction<'_, S>) -> Result<bool, Error>
     requires { HasCleanDisk (state S.Store tx.old.conn.now) → tx.old.conn.now.in_transaction ≡ true }
     ensures frame { InsideFrame S.Store tx.old tx.new result }
     ensures ok { HasCleanDisk (state S.Store tx.new.conn.now)
-        → OnOk result ((before : Database) → IsMoving before (state S.Store tx.old.conn.now).now →
-        IsMovedOut before (state S.Store tx.new.conn.now).now) }
+        → IfOk result (λ all. (before : Database) → IsMoving before (state S.Store tx.old.conn.now).now →
+        MatchBool all (IsMovedOut before (state S.Store tx.new.conn.now).now)
+        (2 ^ 64 - 1 ≤ length ((state S.Store tx.old.conn.now).now.trees 8))) }
 {
     'rows: for _ in 0..u64::MAX {
         if !move_row(tx)? {
-            return Ok(());
+            return Ok(true);
         }
     }
-    Err(Error::SqliteFailure(ErrorCode::TooBig))
+    Ok(false)
 }
 
 /// Moves what slots keep from the one table to the other. The table `slot` stays, and is not read again.
@@ -89,7 +101,11 @@ fn move_slots<S: Alter>(tx: &mut Transaction<'_, S>) -> Result<(), Error>
         IsMoved (state S.Store tx.old.conn.now).now (state S.Store tx.new.conn.now).now)) }
 {
     make_kept(tx)?;
-    move_rows(tx)
+    if move_rows(tx)? {
+        Ok(())
+    } else {
+        Err(Error::SqliteFailure(ErrorCode::TooBig))
+    }
 }
 
 /// Moves the slots, and sets the version beside the next number that is there.

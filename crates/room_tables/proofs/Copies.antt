@@ -40,7 +40,7 @@ use Rattle.room_tables.specs.Tables.{Upgraded, room_schema, slot_table, slots_ta
 use Rattle.room_tables.proofs.Texts.{copy_row_text, copy_row_query, take_row_text}
 use Rattle.room_tables.specs.Rows.{is_slot, shown_slot}
 use Rattle.room_tables.specs.Layout.{IsKeyed}
-use Rattle.room_tables.specs.Upgrade.{shows, has_id, others_than, IsShared, IsMoving, CopiesRow}
+use Rattle.room_tables.specs.Upgrade.{shows, has_id, others_than, LeavesFewer, IsShared, IsMoving, CopiesRow}
 use Rattle.room_tables.proofs.Each.{by_name, from_both}
 use Rattle.room_tables.proofs.Meaning.{copy_row_means}
 use Rattle.room_tables.proofs.Queries.{answer_of, found, and_true}
@@ -297,3 +297,25 @@ take_moves before id old new count it h =
         slots = λ far. absurd (far refl);
       };
     }
+
+-- the row that was copied is one of `slot`, so the others are fewer
+pub copy_leaves : (before : Database) (old new : State) (count : ℕ) → IsMoving before old.now
+    → Executes copy_row_text [] old new (Ok count) → new.changes ≢ 0
+    → LeavesFewer old.now (others_than new.last_rowid (new.now.trees 8))
+copy_leaves before old new count it h some =
+    let c = copies old new count it.schema it.sound it.slot_keyed h in
+    let same : new.now.trees 8 ≡ old.now.trees 8 = c.others.1.1.1.1.1.0 (omega arith) in
+    elim c.which [
+      | inl none ↦ absurd (some none.0)
+      | inr one ↦
+          let long = length_permutation _ _
+          (split new.last_rowid (old.now.trees 8) one.0 it.slot_keyed one.2 one.3) in
+          rw same (omega (arith, long))
+    ]
+
+-- and these are left
+pub take_leaves : (before : Database) (id : ℤ) (old new : State) (count : ℕ)
+    → IsShared before old.now (others_than id (old.now.trees 8))
+    → Executes take_row_text (Int id ∷ []) old new (Ok count)
+    → new.now.trees 8 ≡ others_than id (old.now.trees 8)
+take_leaves before id old new count it h = (takes id old new count it.schema it.slot_keyed h).rows_are

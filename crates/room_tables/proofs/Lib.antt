@@ -18,6 +18,7 @@ pub mod Kept
 pub mod Sessions
 pub mod Slots
 pub mod Placed
+pub mod EntryRows
 pub mod InPlace
 pub mod Neighbours
 pub mod Drops

@@ -1,6 +1,6 @@
 -- A room of version 1 becomes one of version 2 that has the same records.
-use Rattle.std.proofs.Common.{◌≡◌, ℕ, ℤ, List, [], ◌∷◌, ◌++◌, Option, option_map, Ok, refl, sym, ap, ap₂, subst, ◌∙◌}
-use Rattle.std.proofs.Common.{IsPermutation}
+use Rattle.std.proofs.Common.{◌≡◌, ◌≢◌, ℕ, ℤ, List, [], ◌∷◌, ◌++◌, Option, option_map, Ok, refl, sym, ap, ap₂, subst}
+use Rattle.std.proofs.Common.{◌∙◌, IsPermutation}
 use Rattle.std.proofs.lemmas.List.{append-nil}
 use Rattle.std.proofs.lemmas.List.Sorted.{IsPermutation-refl}
 use Rattle.std.specs.List.{AllByRecursion}
@@ -21,11 +21,11 @@ use Rattle.room_tables.proofs.Texts.{copy_row_text, take_row_text}
 use Rattle.room_tables.specs.Rows.{only, kept_of, records_of, version_rows, IsVersion}
 use Rattle.room_tables.specs.Layout.{IsKeyed, HasNumbers, IsRoomOfVersion1, IsRoomOfVersion2}
 use Rattle.room_tables.specs.Steps.{Steps}
-use Rattle.room_tables.specs.Upgrade.{shows, others_than, IsWidened, IsShared, IsMoving, IsMovedOut, CopiesRow}
-use Rattle.room_tables.specs.Upgrade.{IsMoved, IsUpgraded}
+use Rattle.room_tables.specs.Upgrade.{shows, others_than, LeavesFewer, IsWidened, IsShared, IsMoving, IsMovedOut}
+use Rattle.room_tables.specs.Upgrade.{CopiesRow, IsMoved, IsUpgraded}
 use Rattle.room_tables.proofs.Making.{kept_beside}
 use Rattle.room_tables.proofs.Creates.{makes}
-use Rattle.room_tables.proofs.Copies.{copy_moves, take_moves}
+use Rattle.room_tables.proofs.Copies.{copy_moves, take_moves, copy_leaves, take_leaves}
 use Rattle.room_tables.proofs.TreeNames.{slots_listed, slot_listed}
 use Rattle.room_tables.proofs.Queries.{only_permuted}
 use Rattle.room_tables.proofs.Effects.{same_records, read_same, after, each_after}
@@ -49,6 +49,18 @@ pub taken : (before : Database) (id : ℤ) (old new : State) (count : ℕ)
     → IsShared before old.now (others_than id (old.now.trees 8)) → IsMoving before new.now
 taken before id old new count h it =
     take_moves before id old new count it h.0
+
+-- the row that is copied is to leave fewer
+pub copied_one : (before : Database) (old new : State) (count : ℕ)
+    → ExecutesInside 0 copy_row_text [] old new (Ok count) → IsMoving before old.now → new.changes ≢ 0
+    → LeavesFewer old.now (others_than new.last_rowid (new.now.trees 8))
+copied_one before old new count h it = copy_leaves before old new count it h.0
+
+pub taken_out : (before : Database) (id : ℤ) (old new : State) (count : ℕ)
+    → ExecutesInside 0 take_row_text (Int id ∷ []) old new (Ok count)
+    → IsShared before old.now (others_than id (old.now.trees 8))
+    → new.now.trees 8 ≡ others_than id (old.now.trees 8)
+taken_out before id old new count h it = take_leaves before id old new count it h.0
 
 -- ---- one after another
 

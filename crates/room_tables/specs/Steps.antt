@@ -1,5 +1,6 @@
 -- Steps of a transaction on the records.
-use Rattle.std.specs.Prelude.{◌≡◌, ◌≢◌, ℕ, suc, pos, Bool, List, [], ◌∷◌, if◌then◌else◌, IsTrue}
+use Rattle.std.specs.Prelude.{◌≡◌, ◌≢◌, ◌<◌, ◌-◌, ◌^◌, ℕ, suc, pos, Bool, List, [], ◌∷◌, length}
+use Rattle.std.specs.Prelude.{if◌then◌else◌, IsTrue}
 use Rattle.std.specs.List.{AllByRecursion}
 use Rattle.sqlite_value.specs.declared.value.Value.TheVariants.{Int, Text}
 use Rattle.sqlite_value.specs.Order.{Row}
@@ -8,7 +9,7 @@ use Rattle.sqlite.specs.Effect.{Database, IsDatabase}
 use Rattle.sqlite.specs.State.{State}
 use Rattle.room_acl.specs.declared.subject.Kind.{Kind}
 use Rattle.room_acl.specs.declared.subject.Kind.TheVariants.{File, Folder}
-use Rattle.room_acl.specs.Entries.{EntryModel, who_text}
+use Rattle.room_acl.specs.Entries.{EntryModel, IsEntry, who_text}
 use Rattle.room_records.specs.declared.change.Change.{Change}
 use Rattle.room_records.specs.Records.{Records}
 use Rattle.room_records.specs.Changes.{apply_changes}
@@ -39,6 +40,19 @@ shown_as place e = Int (pos place) ∷ Int (pos (type_of e.allow))
 abbrev pub placed : ℕ → List EntryModel → List Row
 placed at [] = []
 placed at (e ∷ es) = shown_as at e ∷ placed (suc at) es
+
+-- the row shows a lawful entry, at a place of 32 bits
+pub record ShowsEntry (row : Row) : Type 0 where
+  pub place : ℕ
+  pub fits : place < 2 ^ 32
+  pub entry : EntryModel
+  pub lawful : IsEntry entry
+  pub is : row ≡ shown_as place entry
+
+-- each row shows one, and they can be counted in 64 bits
+pub record AreEntries (rows : List Row) : Type 0 where
+  pub each : AllByRecursion ShowsEntry rows
+  pub few : length rows < 2 ^ 64 - 1
 
 -- ---- steps
 

@@ -1,5 +1,6 @@
 -- What becomes of a room of version 1, statement by statement.
-use Rattle.std.specs.Prelude.{◌≡◌, ◌≢◌, ◌==◌, ◌++◌, IsPermutation, MatchBool, ℕ, ℤ, Bool, not, List, [], map, filter}
+use Rattle.std.specs.Prelude.{◌≡◌, ◌≢◌, ◌<◌, ◌==◌, ◌++◌, IsPermutation, MatchBool, ℕ, ℤ, Bool, not, List, [], length}
+use Rattle.std.specs.Prelude.{map, filter}
 use Rattle.sqlite_value.specs.declared.value.Value.TheVariants.{Int}
 use Rattle.sqlite_value.specs.declared.keys.Collation.TheVariants.{Binary}
 use Rattle.sqlite_value.specs.Order.{Row}
@@ -30,6 +31,10 @@ has_id id row = equal Binary (rowid row) (Int id)
 
 abbrev pub others_than : ℤ → List Row → List Row
 others_than id = filter (λ row. not (has_id id row))
+
+-- these rows are fewer than `slot` has
+abbrev pub LeavesFewer : Database → List Row → Type 0
+LeavesFewer db rows = length rows < length (db.trees 8)
 
 -- `kept` has taken over some rows of `slot`, of which these are left: together they show what `slot` showed before
 pub record IsShared (old new : Database) (left : List Row) : Type 0 where

@@ -1,4 +1,5 @@
-use Rattle.std.proofs.Common.{◌≡◌, rules, refl, sym, ◌∙◌, pos, [], ◌∷◌, ◌++◌}
+use Rattle.std.proofs.Common.{◌<◌, ◌≤◌, ◌-◌, ◌^◌, ℕ}
+use Rattle.std.proofs.Common.{◌≡◌, rules, refl, sym, ◌∙◌, pos, [], ◌∷◌, ◌++◌, length-append, arith}
 use Rattle.sqlite_value.specs.declared.value.Value.TheVariants.{Int}
 use Rattle.sqlite.specs.State.{HasCleanDisk, IsUnchanged}
 use Rattle.sqlite.specs.Given.{HasGiven}
@@ -8,8 +9,10 @@ use Rattle.room_tables.proofs.Texts.{read_entries_text}
 use Rattle.room_tables.proofs.Queries.{query_keeps, fails_leaves}
 use Rattle.room_tables.proofs.Selects.{read_entries_selects}
 use Rattle.room_tables.proofs.Onward.{query_begins, fails_on}
-use Rattle.room_sql.proofs.Decisions.{frame_same, frame_failed, survives_on, taken, stopped, ended}
-use Rattle.room_sql.proofs.Frames.{was_clean}
+use Rattle.room_sql.specs.Faults.{FailsToReadEntries}
+use Rattle.room_sql.proofs.Decisions.{frame_same, frame_failed, survives_on, taken, stopped, ended, given_few}
+use Rattle.room_sql.proofs.Decisions.{last_shows}
+use Rattle.room_sql.proofs.Frames.{was_clean, handed_on}
 use Rattle.room_sql.proofs.deciding.decide_entries.Goals as goal
 
 -- ---- the query was refused
@@ -35,7 +38,7 @@ rows-init g c =
       query_keeps read_entries_text _ _ _ read_entries_selects made.survives,
       λ clean. (begun clean).1,
       made.mode,
-      λ clean. ([], (begun clean).0, record { answers = c.new-pending.ensures.answers }),
+      λ clean. ([], (begun clean).0, record { answers = c.new-pending.ensures.answers }, refl),
     )
 
 pub rows-preserved : goal.rows-preserved
@@ -53,6 +56,7 @@ rows-preserved g c =
             (rw (c.in_ok-row.was, c.in-Some.is) at (moved.ok late)) read_entries_text (Int (pos c.args.id) ∷ [])
                 was.0 was.1,
             taken was.0 row was.2 c.in_ok-entry.ensures.value c.take.ensures.answers,
+            (let long = length-append was.0 (row ∷ []) in let were = was.3 in omega (arith, long, were)),
           ),
     )
 
@@ -88,6 +92,19 @@ returns-in_err-row-clause-frame g c =
     (fails_on read_entries_text _ _ _ _ _ _ read_entries_selects (c.rows.invariant.2 early) c.rows.invariant.1
     ((rw c.in_err-row.was at (moved.err late)) read_entries_text (Int (pos c.args.id) ∷ []) was.0 was.1))))
 
+pub returns-in_err-row-clause-told : goal.returns-in_err-row-clause-told
+returns-in_err-row-clause-told g c clean room are =
+    let moved = c.next.follows.holds-at-none in
+    let end : c.next.follows.lender-at-none.conn.now ≡ c.conn-in_err-row-1.given.0 = search rules in
+    let late = rw (← end) at clean in
+    let early = was_clean moved.survives late in
+    let was = c.rows.invariant.4 early in
+    rw (← end) (handed_on (FailsToReadEntries c.args.id (state g.S.Store c.args.conn.now)
+    (state g.S.Store c.next.follows.lender-at-none.conn.now)) c.from_residual-in_err-row.result _
+    c.from_residual-in_err-row.ensures.1 (λ other.
+    fails_on read_entries_text _ _ _ _ _ _ read_entries_selects (c.rows.invariant.2 early) c.rows.invariant.1
+    ((rw c.in_err-row.was at (moved.err late)) read_entries_text (Int (pos c.args.id) ∷ []) was.0 was.1)))
+
 -- ---- no row is left
 
 pub returns-in_default-clause-frame : goal.returns-in_default-clause-frame
@@ -120,9 +137,41 @@ returns-in_err-entry-clause-frame g c =
     (λ late. unchanged_then _ _ _ (c.rows.invariant.2 (was_clean moved.survives late))
     (rw c.in_ok-row.was at (moved.same late))))
 
+pub returns-in_err-entry-clause-told : goal.returns-in_err-entry-clause-told
+returns-in_err-entry-clause-told g c clean room are =
+    let moved = c.next.follows.holds-at-none in
+    let end : c.next.follows.lender-at-none.conn.now ≡ c.conn-in_err-entry-1.given.0 = search rules in
+    let late = rw (← end) at clean in
+    let early = was_clean moved.survives late in
+    let was = c.rows.invariant.4 early in
+    let row = c.in-Some.row.now in
+    let shows = last_shows c.args.id was.0 row room c.schema-live.ensures.live
+    (unchanged_then _ _ _ (c.rows.invariant.2 early) (rw c.in_ok-row.was at (moved.same late)))
+    (given_begin g.S.Store read_entries_text (Int (pos c.args.id) ∷ []) c.next.follows.lender-at-none.conn.now _
+    ((rw (c.in_ok-row.was, c.in-Some.is) at (moved.ok late)) read_entries_text (Int (pos c.args.id) ∷ []) was.0 was.1))
+    are in
+    handed_on (FailsToReadEntries c.args.id (state g.S.Store c.args.conn.now)
+    (state g.S.Store c.conn-in_err-entry-1.given.0)) c.from_residual-in_err-entry.result _
+    c.from_residual-in_err-entry.ensures.1
+    (λ other. absurd (c.in_err-entry.ensures.told other shows))
+
 -- ---- so many rows
 
 pub returns-clause-frame : goal.returns-clause-frame
 returns-clause-frame g c =
     let end : c.rows.rows.conn.now ≡ c.conn-2-1.given.0 = search rules in
     rw (← end) (frame_same c.rows.invariant.1 c.rows.invariant.3 c.rows.invariant.2)
+
+-- fewer rows than the loop's end, and as many
+never_so_many : (n counter : ℕ) → n < 2 ^ 64 - 1 → n ≡ counter → 2 ^ 64 - 1 ≤ counter → ⊥
+never_so_many n counter few same all = omega (arith, few, same, all)
+
+pub returns-clause-told : goal.returns-clause-told
+returns-clause-told g c clean room are other =
+    let all : 2 ^ 64 - 1 ≤ c.rows.counter = omega (arith, c.rows.auto.counter-end, c.rows-test.false) in
+    let end : c.rows.rows.conn.now ≡ c.conn-2-1.given.0 = search rules in
+    let late = rw (← end) at clean in
+    let was = c.rows.invariant.4 late in
+    absurd (never_so_many _ _ (given_few c.args.id was.0 room c.schema-live.ensures.live (c.rows.invariant.2 late)
+    (given_begin g.S.Store read_entries_text (Int (pos c.args.id) ∷ []) c.rows.rows.conn.now was.0 was.1) are)
+    was.3 all)

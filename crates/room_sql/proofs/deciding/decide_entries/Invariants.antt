@@ -1,4 +1,4 @@
-use Rattle.std.proofs.Common.{◌≡◌, false, pos, List, [], ◌∷◌}
+use Rattle.std.proofs.Common.{◌≡◌, false, pos, List, [], ◌∷◌, length}
 use Rattle.sqlite_value.specs.declared.value.Value.TheVariants.{Int}
 use Rattle.sqlite_value.specs.Order.{Row}
 use Rattle.sqlite.specs.State.{HasCleanDisk, IsUnchanged, Survives}
@@ -18,4 +18,4 @@ invariant-rows g l =
     × (l.fn.conn.in_transaction ≡ false → l.rows.conn.now.in_transaction ≡ false)
     × (HasCleanDisk now → (given : List Row)
     × HasGiven g.S.Store read_entries_text (Int (pos l.id) ∷ []) l.rows.conn.now given
-    × IsAfter l.subject l.standing l.fn.wanted given l.pending)
+    × IsAfter l.subject l.standing l.fn.wanted given l.pending × (length given ≡ l.counter))

@@ -1,4 +1,4 @@
-use Rattle.std.proofs.Common.{Ok}
+use Rattle.std.proofs.Common.{◌+◌, ◌≤◌, length, Ok}
 use Rattle.sqlite.specs.State.{HasCleanDisk}
 use Rattle.sqlite.specs.Held.{state}
 use Rattle.sqlite.specs.Effect.{Database}
@@ -13,4 +13,6 @@ invariant-rows g l =
     record {
       frame : InsideFrame g.S.Store {T = Unit {0}} l.fn.tx l.tx (Ok tt);
       moving : HasCleanDisk now → (before : Database) → IsMoving before old.now → IsMoving before now.now;
+      fewer : HasCleanDisk now → (before : Database) → IsMoving before old.now
+          → length (now.now.trees 8) + l.counter ≤ length (old.now.trees 8);
     }

@@ -1,4 +1,3 @@
-use Rattle.std.proofs.Common.{sym, subst}
 use Rattle.sqlite.specs.Held.{state}
 use Rattle.room_tables.proofs.Placed.{lists_stored}
 use Rattle.room_sql.proofs.Frames.{ok_then}

@@ -1,4 +1,5 @@
 use Rattle.std.proofs.Common.{◌∙◌, ap, option_map, slice_get, ◌≡◌, Err, not, rules}
+use Rattle.room_records.proofs.PathParts.{name_parts}
 use Rattle.room_tables.specs.Rows.{node_of}
 use Rattle.room_tables.proofs.Children.{named_found}
 use Rattle.room_sql.proofs.Calls.{read, read_err, read_told}
@@ -6,7 +7,7 @@ use Rattle.room_sql.proofs.sql_shelf.SqlShelfShelf.child.Goals as goal
 
 pub returns-clause-value : goal.returns-clause-value
 returns-clause-value g c available laid_out =
-    let name = c.text.ensures.lawful in
+    let name = name_parts c.args.name.now c.text.ensures.lawful in
     let rows = rw (c.text.ensures.value, c.in_ok-rows.ensures.ok)
     at (c.named_rows-rows.ensures.rows available.0 laid_out.0.room) in
     read _ c.or_fault-2.ensures.ok (λ found is.

@@ -1,5 +1,5 @@
 use Rattle.room_sql.specs.Facts.{AreTrueOf}
-use Rattle.std.proofs.Common.{◌≡◌, ◌∙◌, Err, refl, sym, subst, ap, not, rules}
+use Rattle.std.proofs.Common.{◌≡◌, ◌∙◌, Err, refl, ap, not, rules}
 use Rattle.sqlite.specs.Held.{state}
 use Rattle.room_tables.proofs.InPlace.{rows_stored}
 use Rattle.room_sql.proofs.Calls.{read_ok, read_err}
