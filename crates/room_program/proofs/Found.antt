@@ -240,7 +240,7 @@ module _ {D : Type 0} (g : Ghosts D) where
         sound = (live is_open).0;
       }
   closed_holds stays closed (Uncopied why it) found image (live, kept, fails) is_open rests (clean, left) =
-      kept_holds stays closed it image live kept is_open rests left.numbered left.may
+      kept_holds stays closed it image live kept is_open rests left.numbered left.left
   closed_holds stays closed (Unopened rest) found image none is_open rests at = absurd none
   closed_holds stays closed (Kept it) found image none is_open rests at = absurd none
   closed_holds stays closed Nothing found image none is_open rests at = absurd none
@@ -260,7 +260,7 @@ module _ {D : Type 0} (g : Ghosts D) where
   closed_in closed (Copied files) found image (live, copied) (clean, at) =
       ((copied clean).was_clean, inl (copied clean).was_open)
   closed_in closed (Uncopied why it) found image (live, kept, fails) (clean, left) =
-      let all : KeptIn closed image = (it, (kept, clean), left.numbered, left.may) in
+      let all : KeptIn closed image = (it, (kept, clean), left.numbered, left.left) in
       (was_sure closed image all, inr all)
   closed_in closed (Unopened rest) found image none at = absurd none
   closed_in closed (Kept it) found image none at = absurd none
@@ -382,7 +382,7 @@ module _ {D M : Type 0} (g : Ghosts D) (image : Image) (does : M → Call (Held 
           λ one at. subst (Holds one) shows (left_holds g stays let_go (left later) image one
               (tells begun later (leaves let_go) gone) is_open (rests clean is_open) at),
         );
-    room = λ start past held one at.
+    room = λ one at start past held.
         let (clean, (it, (closed, at_it), numbered, may)) =
         kept_in g let_go (left later) image one (tells begun later (leaves let_go) gone) at in
         let was = was_clean survives clean in

@@ -51,11 +51,11 @@ module _ {M C Shelf : Type 0} (m : Means M C Shelf) (before later : M) where
   pub ran_report : (job : Job) (db roster : String Global) (kind : ReportKind) (d r : List ℕ)
       (input output written errors told : Option (List ℕ)) (status : ℕ) → job ≡ Report db roster kind
       → d ≡ string_bytes db → r ≡ string_bytes roster
-      → Ends (Reports m.does m.takes m.store m.view d r kind before later output written) errors told status
+      → Ends (Reports m.does m.takes m.store m.seen d r kind before later output written) errors told status
       → RunsJob m before later job (streams input output errors) (streams input written told) status
   ran_report job db roster kind d r input output written errors told status is is_db is_roster ends =
       let May : List ℕ → List ℕ → Type 0 = λ d r.
-      Ends (Reports m.does m.takes m.store m.view d r kind before later output written) errors told status in
+      Ends (Reports m.does m.takes m.store m.seen d r kind before later output written) errors told status in
       let Ran : Job → Type 0 = λ job.
       RunsJob m before later job (streams input output errors) (streams input written told) status in
       subst Ran (sym is) (refl, of_two May d r _ _ is_db is_roster ends)
@@ -76,12 +76,12 @@ module _ {M C Shelf : Type 0} (m : Means M C Shelf) (before later : M) where
   pub ran_serve : (job : Job) (db roster : String Global) (port count : ℕ) (d r : List ℕ)
       (input output errors told : Option (List ℕ)) (status : ℕ) → job ≡ Serve db roster port count
       → d ≡ string_bytes db → r ≡ string_bytes roster
-      → Ends (ServesRoom m.does m.accepts m.fails m.takes m.store m.view d r port count before later)
+      → Ends (ServesRoom m.does m.connects m.fails m.takes m.store m.seen d r port count before later)
       errors told status
       → RunsJob m before later job (streams input output errors) (streams input output told) status
   ran_serve job db roster port count d r input output errors told status is is_db is_roster ends =
       let May : List ℕ → List ℕ → Type 0 = λ d r.
-      Ends (ServesRoom m.does m.accepts m.fails m.takes m.store m.view d r port count before later)
+      Ends (ServesRoom m.does m.connects m.fails m.takes m.store m.seen d r port count before later)
       errors told status in
       let Ran : Job → Type 0 = λ job.
       RunsJob m before later job (streams input output errors) (streams input output told) status in

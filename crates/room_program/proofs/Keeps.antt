@@ -25,8 +25,8 @@ use Rattle.room_program.specs.Machines.Call.{closes}
 use Rattle.room_program.specs.Ends.{InitEnds}
 use Rattle.room_program.specs.Files.{Takes, TakesRoster, Made, Unmade}
 use Rattle.room_program.specs.Rooms.{Reports, ServesRoom}
-use Rattle.room_program.specs.Found.{IsLeftBy, ActsOn, SeesSums}
-use Rattle.room_program.specs.Restarts.{KeepsRoomOrMore, HoldsStill}
+use Rattle.room_program.specs.Found.{HoldsStill, IsLeftBy, ActsOn, SeesSums}
+use Rattle.room_program.specs.Restarts.{KeepsRoomOrMore}
 use Rattle.room_program.specs.Runs.{Means, Streams, Runs, RunsJob, means}
 use Rattle.room_program.proofs.Found.{closed_in, made_on, roster_left, replay_left, selftest_left}
 use Rattle.room_program.proofs.Restarts.{as_found, unopened_still, served_shut, reported_run, untaken_run, unmade_run}

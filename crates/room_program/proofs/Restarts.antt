@@ -44,8 +44,9 @@ use Rattle.room_words.specs.declared.job.ReportKind.{ReportKind}
 use Rattle.room_program.specs.Ends.{InitEnds}
 use Rattle.room_program.specs.Files.{Adopted, Takes, TakesRoom, OpensStore, Untaken, Made, Unmade}
 use Rattle.room_program.specs.Streams.{GoesOn, Served}
-use Rattle.room_program.specs.Found.{IsOpenedOver, Holds, HoldsRoom, IsLeftBy, ActsOn, MayBeLeft, SeesSums, SparesRoom}
-use Rattle.room_program.specs.Restarts.{ActsOnce, Steps, KeepsRoom, KeepsRoomOrMore, HoldsStill}
+use Rattle.room_program.specs.Found.{IsOpenedOver, Holds, HoldsRoom, HoldsStill, IsLeftBy, ActsOn, MayBeLeft, SeesSums}
+use Rattle.room_program.specs.Found.{SparesRoom}
+use Rattle.room_program.specs.Restarts.{ActsOnce, Steps, KeepsRoom, KeepsRoomOrMore}
 use Rattle.room_program.specs.Restarts.{GoesOnOrMore, AnswersOrMore}
 use Rattle.room_program.proofs.Found.{stands, closed_holds, closed_in, kept_in, unopened, served, read_stands}
 use Rattle.room_program.proofs.Streams.{stays, connections_answered}
@@ -146,9 +147,9 @@ module _ {D : Type 0} (g : Ghosts D) (found left : Image) (opened : Held (FileSt
         rows = rows;
       } in elim (left_so (records_of trees) (clean, (trees, may, refl))) [
         | inl rows ↦ (next, (next, goes, inl refl), room next rows)
-        | inr (m, event, lawful, asks, (changes, rows)) ↦ (
+        | inr (event, asked, (changes, rows)) ↦ (
           event ∷ next,
-          (next, goes, inr (m, event, lawful, asks, changes, refl)),
+          (next, goes, inr (event, asked, changes, refl)),
           room (event ∷ next) rows,
         )
       ]
@@ -327,8 +328,7 @@ module _ {D M : Type 0} (g : Ghosts D) (image : Image) (does : M → Call (Held 
     room = held.room;
     rows = held.rows;
   } ∣₁
-  spared_run read later one none sees at (inr (inr (begun, (let_go, gone, is)))) =
-      λ start past held. is.room start past held one at
+  spared_run read later one none sees at (inr (inr (begun, (let_go, gone, is)))) = is.room one at
 
   -- a room that was not taken
   pub untaken_run : (db : List ℕ) (read later : M) (why : Fault) (one : Image)

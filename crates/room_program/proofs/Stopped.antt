@@ -39,10 +39,11 @@ use Rattle.room_program.specs.declared.fault.Fault.{Fault}
 use Rattle.room_program.specs.declared.fault.Fault.TheVariants as fault
 use Rattle.room_program.specs.declared.left.Left.{Left}
 use Rattle.room_program.specs.Files.{Adopted, Made, Takes, Unmade}
-use Rattle.room_program.specs.Found.{Closes, Holds, HoldsNothing, HoldsRoom, IsLeftBy, IsOpenedOver, MayBeLeft}
+use Rattle.room_program.specs.Found.{Closes, Holds, HoldsNothing, HoldsRoom, HoldsStill, IsLeftBy, IsOpenedOver}
+use Rattle.room_program.specs.Found.{MayBeLeft}
 use Rattle.room_program.specs.Halts.{StandsOrWith, HoldsOldOrNew, HoldsFreshOrNone, HoldsRoomWith, IsTakenOut}
 use Rattle.room_program.specs.Halts.{HoldsOldOrBeside, connection_of}
-use Rattle.room_program.specs.Restarts.{AnswersOrMore, HoldsStill, KeepsRoomOrMore}
+use Rattle.room_program.specs.Restarts.{AnswersOrMore, KeepsRoomOrMore}
 use Rattle.room_program.proofs.Found.{may_room, was_sound, has_none, found_nothing, closed_holds, closed_in}
 use Rattle.room_program.proofs.Found.{found_database}
 use Rattle.room_words.specs.declared.job.ReportKind.{ReportKind}

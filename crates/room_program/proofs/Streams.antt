@@ -8,7 +8,6 @@ use Rattle.room_acl.specs.SubjectModel.{SubjectModel}
 use Rattle.room_records.specs.Records.{Records}
 use Rattle.room_records.specs.Room.{Room}
 use Rattle.room_records.specs.Shelf.{View, LeavesNew}
-use Rattle.room_wire.specs.Asks.AskOf.{Event, ask_of}
 use Rattle.room_wire.specs.Asks.EventModel.{EventModel}
 use Rattle.room_wire.specs.declared.serving.stop.Why.{Why}
 use Rattle.room_wire.specs.declared.serving.stop.Why.TheVariants.{Closed, BadMessage, ReadFailed, WriteFailed, Memory}
@@ -31,7 +30,7 @@ use Rattle.room_program.specs.declared.fault.Fault.{Fault}
 use Rattle.room_program.specs.Calls.{Exchange, ServesEach, AcceptsEach}
 use Rattle.room_program.specs.Rooms.{ServesAll}
 use Rattle.room_program.specs.Streams.{GoesOn, Carries, Served, ServesSome}
-use Rattle.room_program.specs.Restarts.{AnswersOrMore}
+use Rattle.room_program.specs.Restarts.{AnswersOrMore, MayAsk}
 
 -- what stands at the front of a stream are messages
 follow_lawful : (bytes : List ℕ) (ms : List MessageModel) (rest : List ℕ) → Follows bytes ms rest
@@ -81,7 +80,7 @@ ran users start past ms out next lawful run =
 -- no message was served
 pub stays : (users : List SubjectModel) (start : Room) (past : History) → GoesOn users start past past
 stays users start past =
-    record { messages = []; lawful = tt; output = []; run = (refl, refl); events = []; on = refl }
+    record { messages = []; lawful = tt; output = []; run = ([], refl, refl); events = []; on = refl }
 
 goes_further : (users : List SubjectModel) (start : Room) (past next last : History)
     → GoesOn users start past next → GoesOn users start next last → GoesOn users start past last
@@ -193,8 +192,8 @@ module _ {S : Type 0} (view : S → View) (settled : (s : S) (left : Records) �
         → (view between).is_intact → (view after).is_intact → (view before).is_available
         → StandsFor start past (view before) → (view before).leaves_laid_out
         → (next : History) × GoesOn users start past next × LeavesNew (view after) (λ left.
-        RepresentsHistory start left next ⊎ ((m : MessageModel) × (event : EventModel) × IsMessage m
-        × (ask_of users m ≡ Ok (Event event)) × StandsWith start next event left))
+        RepresentsHistory start left next ⊎ ((event : EventModel) × MayAsk users event
+        × StandsWith start next event left))
         × (view after).leaves_laid_out
     answers_or_more n last between after ms out past each lawful run was intact there stands laid =
         let (mid, goes, known) = each_in_doubt n last between each was (no_doubt past) (
@@ -209,7 +208,7 @@ module _ {S : Type 0} (view : S → View) (settled : (s : S) (left : Records) �
           goes_further users start past mid.past next.past goes on,
           λ left may. elim (leaves left may) [
             | inl rows ↦ inl rows
-            | inr (event, at, rows) ↦ (let (m, is_one, asks) = asked event at in inr (m, event, is_one, asks, rows))
+            | inr (event, at, rows) ↦ inr (event, asked event at, rows)
           ],
           kept,
         )

@@ -128,6 +128,6 @@ stay_unopened g image why (leftover.Unopened now) stays (files, opened, so) sees
       ]
     ]
 stay_unopened g image why (leftover.Store it) stays (files, opened, so) sees db holds after (clean, may) =
-    may_hold g it after db may.may may.numbered holds.sound (λ trees found.
+    may_hold g it after db may.left may.numbered holds.sound (λ trees found.
     ∥∥₁_elim holds.trees (Trees-set _ _) (λ held. ((so clean).1 trees found).1 db.trees
     (subst (λ i. HoldsDatabase i db.trees) (sym opened.shown) held)))

@@ -97,6 +97,11 @@ pub record HoldsRoom (image : Image) (start : Room) (past : History) : Type 0 wh
   pub room : IsRoomOfVersion2 db ⊎ IsRoomOfVersion1 db
   pub rows : RepresentsHistory start (records_of db.trees) past
 
+-- a room that the files held is in those that were left, with the same history
+abbrev pub HoldsStill : (found left : Image) → Type 0
+HoldsStill found left =
+    (start : Room) (past : History) → HoldsRoom found start past → ∥ HoldsRoom left start past ∥₁
+
 -- the database file is not there, or is empty
 abbrev pub HoldsNothing : Image → Type 0
 HoldsNothing image = image.db ≡ []
@@ -107,7 +112,7 @@ MayBeLeft it image = (store.state it).may_leave image
 -- the same of a store whose trees are numbered. A connection keeps that true of its store, and the toolchain tells it
 -- only as the store is taken out of it, and not where a close or an open fails
 pub record MayBeLeftNumbered {D : Type 0} {g : Ghosts D} (it : FileStore D g) (image : Image) : Type 0 where
-  pub may : MayBeLeft it image
+  pub left : MayBeLeft it image
   pub numbered : IsTrue (store.view it).is_numbered
 
 -- what two files may hold: as they read now, and as a crash leaves them
@@ -130,26 +135,28 @@ IsLeftBy {D} {g} found (Copied files) image = AreClean g files.log files.db × M
 IsLeftBy found (Uncopied why it) image = IsClean (store.view it) × MayBeLeftNumbered it image
 IsLeftBy found (Kept it) image = IsClean (store.view it) × MayBeLeft it image
 
--- Pages that end in sums, as the extension cksumvfs makes them and no room of ours, were taken for such by an open that
--- failed: it reads that off the file, and the toolchain's clause tells the other way round alone
+-- Where the files hold a database whose pages end in sums, as the extension cksumvfs makes them and no room of ours, an
+-- open that failed took them for such. It reads that off the file, and the toolchain tells only the converse
 abbrev pub SeesSums : {D : Type 0} {g : Ghosts D} → Image → Left D g → Type 0
 SeesSums found (Unopened (leftover.Unopened files)) = (trees : Trees) (held : HoldsDatabase found trees)
     → IsTrue (is_summed held.0) → IsTrue (is_summed (state_of files).page_size)
 SeesSums found other = Unit {0}
 
+-- the files that a run has given up hold this database
+abbrev pub LeavesHeld : {D : Type 0} {g : Ghosts D} → (found : Image) → Left D g → Database → Type 0
+LeavesHeld found left db = (after : Image) → IsLeftBy found left after → Holds after db
+
 -- no store was to be had in the files, and they hold what they held
 abbrev pub StayUnopened : {D : Type 0} {g : Ghosts D} → Image → Left D g → Type 0
-StayUnopened image left = SeesSums image left → (db : Database) → Holds image db
-    → (after : Image) → IsLeftBy image left after → Holds after db
+StayUnopened image left = SeesSums image left → (db : Database) → Holds image db → LeavesHeld image left db
 
 -- a store that was opened was let go: where no fault has shut it, it shows what the files held, and they hold it then;
 -- and a room that they held is in them with its history, of either version, also where a fault has shut the store
 pub record IsSparedIn {D : Type 0} {g : Ghosts D} (image : Image) (let_go : Held (FileStore D g)) (left : Left D g)
     : Type 0 where
   pub shown : HasCleanDisk (file_state let_go) → IsTrue (file_state let_go).is_open → (db : Database)
-      → Holds image db → ((file_state let_go).now ≡ db) × ((after : Image) → IsLeftBy image left after → Holds after db)
-  pub room : (start : Room) (past : History) → HoldsRoom image start past → (after : Image) → IsLeftBy image left after
-      → ∥ HoldsRoom after start past ∥₁
+      → Holds image db → ((file_state let_go).now ≡ db) × LeavesHeld image left db
+  pub room : (after : Image) → IsLeftBy image left after → HoldsStill image after
 
 -- no file was opened, or no store was to be had in them, or one was let go so
 abbrev pub SparesRoom : {M D : Type 0} {g : Ghosts D} → (does : M → Call (Held (FileStore D g)) → M → Type 0)

@@ -24,12 +24,16 @@ ActsOnce start past event answered after =
 
 -- ---- one run after another
 
+-- a message of these users asks this event
+abbrev pub MayAsk : List SubjectModel → EventModel → Type 0
+MayAsk users event = (m : MessageModel) × IsMessage m × (ask_of users m ≡ Ok (Event event))
+
 -- a history went on by messages of these users, and perhaps by one event more that such a message asked, which changes
 -- what is kept: it was under way as a fault shut the store
 abbrev pub GoesOnOrMore : List SubjectModel → Room → (past next : History) → Type 0
 GoesOnOrMore users start past next = (told : History) × GoesOn users start past told
-    × ((next ≡ told) ⊎ ((m : MessageModel) × (event : EventModel) × IsMessage m
-    × (ask_of users m ≡ Ok (Event event)) × (changes_rows told event ≡ true) × (next ≡ event ∷ told)))
+    × ((next ≡ told) ⊎ ((event : EventModel) × MayAsk users event × (changes_rows told event ≡ true)
+    × (next ≡ event ∷ told)))
 
 -- a room that the files held is in those that were left, and its history went on by messages of these users
 abbrev pub KeepsRoom : List SubjectModel → (found left : Image) → Type 0
@@ -40,11 +44,6 @@ KeepsRoom users found left = (start : Room) (past : History) → HoldsRoom found
 abbrev pub KeepsRoomOrMore : List SubjectModel → (found left : Image) → Type 0
 KeepsRoomOrMore users found left = (start : Room) (past : History) → HoldsRoom found start past
     → ∥ ((next : History) × GoesOnOrMore users start past next × HoldsRoom left start next) ∥₁
-
--- a room that the files held is in those that were left, with the same history
-abbrev pub HoldsStill : (found left : Image) → Type 0
-HoldsStill found left =
-    (start : Room) (past : History) → HoldsRoom found start past → ∥ HoldsRoom left start past ∥₁
 
 -- a step for each of these, one after another
 abbrev pub Steps : {U A : Type 0} → (U → A → A → Type 0) → List U → A → A → Type 0
@@ -57,6 +56,5 @@ abbrev pub AnswersOrMore : {S : Type 0} (view : S → View) → List SubjectMode
 AnswersOrMore view users before after = (start : Room) (past : History) → StandsFor start past (view before)
     → (next : History) × GoesOn users start past next
     × LeavesNew (view after) (λ left. RepresentsHistory start left next
-    ⊎ ((m : MessageModel) × (event : EventModel) × IsMessage m × (ask_of users m ≡ Ok (Event event))
-    × StandsWith start next event left))
+    ⊎ ((event : EventModel) × MayAsk users event × StandsWith start next event left))
     × (view after).leaves_laid_out

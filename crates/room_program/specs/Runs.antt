@@ -51,10 +51,10 @@ WritesText text old new status =
     (Appends old.output new.output text × EndsWith (Ok tt) old.errors new.errors status)
     ⊎ (AppendsFront old.output new.output text × EndsWith (Err fault.WriteFailed) old.errors new.errors status)
 
--- what a machine does, and what its stores are: `does` are its calls, `accepts` and `fails` those of its listener
+-- what a machine does, and what its stores are: `does` are its calls, `connects` and `fails` those of its listener
 pub record Means (M C Shelf : Type 0) : Type 1 where
   pub does : M → Call C → M → Type 0
-  pub accepts : M → Exchange → M → Type 0
+  pub connects : M → Exchange → M → Type 0
   pub fails : M → M → Type 0
   -- a store that was opened is taken as a shelf, or why not, and the one that is let go
   pub takes : C → Result Shelf (Fault × C) → Type 0
@@ -64,14 +64,16 @@ pub record Means (M C Shelf : Type 0) : Type 1 where
   pub made : (owner group : List ℕ) → C → C → Type 0
   -- none was made in it, and the store that is let go, with the fault that tells why
   pub unmade : (owner group : List ℕ) → C → C → Fault → Type 0
-  pub view : Shelf → View
+  -- what is seen of a shelf
+  pub seen : Shelf → View
 
 abbrev pub means : {M C Shelf : Type 0} → (does : M → Call C → M → Type 0)
-    → (accepts : M → Exchange → M → Type 0) → (fails : M → M → Type 0) → (takes : C → Result Shelf (Fault × C) → Type 0)
+    → (connects : M → Exchange → M → Type 0) → (fails : M → M → Type 0)
+    → (takes : C → Result Shelf (Fault × C) → Type 0)
     → (store : Shelf → C) → (made : (owner group : List ℕ) → C → C → Type 0)
-    → (unmade : (owner group : List ℕ) → C → C → Fault → Type 0) → (view : Shelf → View) → Means M C Shelf
-means d a f p s m u v =
-    record { does = d; accepts = a; fails = f; takes = p; store = s; made = m; unmade = u; view = v }
+    → (unmade : (owner group : List ℕ) → C → C → Fault → Type 0) → (seen : Shelf → View) → Means M C Shelf
+means d c f p s m u v =
+    record { does = d; connects = c; fails = f; takes = p; store = s; made = m; unmade = u; seen = v }
 
 -- the line `selftest ok` goes to the output after two connections were served, or a fault is told
 abbrev pub Tries : {M C : Type 0} → (does : M → Call C → M → Type 0) → (accepts : M → Exchange → M → Type 0)
@@ -92,7 +94,7 @@ RunsJob m before later (Init db owner group) old new status =
     old.errors new.errors status
 -- nothing is read, and the output is the report's
 RunsJob m before later (Report db roster kind) old new status =
-    (new.input ≡ old.input) × Ends (Reports m.does m.takes m.store m.view (string_bytes db)
+    (new.input ≡ old.input) × Ends (Reports m.does m.takes m.store m.seen (string_bytes db)
     (string_bytes roster) kind before later old.output new.output) old.errors new.errors status
 -- messages from the input are answered to the output
 RunsJob m before later (Replay roster owner group) old new status =
@@ -101,10 +103,10 @@ RunsJob m before later (Replay roster owner group) old new status =
 -- neither stream is touched
 RunsJob m before later (Serve db roster port count) old new status =
     (new.input ≡ old.input) × (new.output ≡ old.output)
-    × Ends (ServesRoom m.does m.accepts m.fails m.takes m.store m.view (string_bytes db)
+    × Ends (ServesRoom m.does m.connects m.fails m.takes m.store m.seen (string_bytes db)
     (string_bytes roster) port count before later) old.errors new.errors status
 RunsJob m before later Selftest old new status =
-    (new.input ≡ old.input) × Tries m.does m.accepts m.fails before later old new status
+    (new.input ≡ old.input) × Tries m.does m.connects m.fails before later old new status
 
 -- why words name no job; nothing is read
 abbrev pub RefusesWords : WordsFault → Streams → Streams → ℕ → Type 0

@@ -17,11 +17,11 @@ ghost use Rattle.room_words.specs.declared.job.ReportKind.{ReportKind};
 ghost use Rattle.room_program.specs.declared.fault.Fault.{Fault};
 ghost use Rattle.room_program.specs.Files.{Adopted, Made, Takes, Unmade};
 ghost use Rattle.room_program.specs.Found.{AreJustOpened, Holds, HoldsNothing, HoldsRoom, IsLeftBy, IsOpenedOver};
-ghost use Rattle.room_program.specs.Found.{SeesSums};
+ghost use Rattle.room_program.specs.Found.{HoldsStill, SeesSums};
 ghost use Rattle.room_program.specs.Rooms.{WritesReport};
 ghost use Rattle.room_program.specs.Halts.{WereClean, MayBeLeftThen, AnsweredThenLeft, HoldsOldOrNew, HoldsRoomWith};
 ghost use Rattle.room_program.specs.Halts.{connection_of, HoldsFreshOrNone, HoldsOldOrBeside};
-ghost use Rattle.room_program.specs.Restarts.{ActsOnce, AnswersOrMore, HoldsStill, KeepsRoomOrMore};
+ghost use Rattle.room_program.specs.Restarts.{ActsOnce, AnswersOrMore, KeepsRoomOrMore};
 
 use crate::left::{Left, closed_off, store_in, store_under};
 use room_cache::CachedShelf;

@@ -30,9 +30,9 @@ ghost use Rattle.room_program.specs.Rooms.{Listens, WritesReport, report_text};
 ghost use Rattle.room_words.specs.declared.job.ReportKind.{ReportKind};
 ghost use Rattle.room_program.specs.Streams.{GoesOn, Served};
 ghost use Rattle.room_program.specs.Found.{Holds, HoldsNothing, HoldsRoom, IsOpenedOver, IsLeftBy, MayBeLeft};
-ghost use Rattle.room_program.specs.Found.{SeesSums, SparesRoom};
+ghost use Rattle.room_program.specs.Found.{HoldsStill, SeesSums, SparesRoom};
 ghost use Rattle.room_program.specs.Restarts.{ActsOnce, AnswersOrMore};
-ghost use Rattle.room_program.specs.Restarts.{Steps, KeepsRoom, KeepsRoomOrMore, HoldsStill};
+ghost use Rattle.room_program.specs.Restarts.{Steps, KeepsRoom, KeepsRoomOrMore};
 ghost use Rattle.room_program.specs.Restarts.{GoesOnOrMore};
 
 use crate::host::{FileConnection, Host};
