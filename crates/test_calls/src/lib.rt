@@ -20,3 +20,5 @@ mod records;
 mod serving;
 #[cfg(test)]
 mod slots;
+#[cfg(test)]
+mod starting;
