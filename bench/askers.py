@@ -22,7 +22,7 @@ FILES = 20
 PAGE = "page.html"
 USER, PASSWORD = "ann", "a word of ann"
 LONGEST = 300  # seconds for an answer, and until all have begun
-LATER = 429  # the front's answer beyond 120 requests under way to one room
+LATER, MOST = 429, 120  # the front's answer beyond so many requests under way to one room
 PAUSES = [0.05, 0.1, 0.2, 0.4, 0.8, 1.6, 3.2, 5.0]  # seconds, as the client waits before it sends again
 FORK = multiprocessing.get_context("fork")
 numbers = itertools.count(1)  # of askers, each of which has a session and a folder of its own
@@ -31,6 +31,7 @@ numbers = itertools.count(1)  # of askers, each of which has a session and a fol
 class Asker:
     """A session of one room: straight at its port, or through the front to the room of a name."""
     change = {"cmd": "WRITE", "data": KIB}
+    may_wait = False  # whether the front may answer 429; else that ends the bench
 
     def __init__(self, number, port, name=None):
         self.pick, self.seq, self.last = random.Random(number), 0, None
@@ -43,7 +44,7 @@ class Asker:
         self.folder = f"/d{number}"
 
     def connect(self):
-        self.line = Line(self.port, f"127.{next(self.lines)}.{self.home}" if self.home else "127.0.0.1")
+        self.line = Line(self.port, f"127.{next(self.lines) % 256}.{self.home}" if self.home else "127.0.0.1")
         self.line.socket.settimeout(LONGEST)
 
     def reconnect(self):
@@ -57,15 +58,17 @@ class Asker:
         return got
 
     def seconds_of(self, whole, due):
-        """The seconds until this message was answered with the bytes that are due. Where the front answers 429 it is
-        sent again after a pause, as clients do."""
+        """The seconds until this message was answered with the bytes that are due. Where the front may answer 429 it is
+        then sent again after a pause, as clients do."""
         begin, pauses = time.perf_counter(), iter(PAUSES)
         got = self.answer(whole)
-        while got and got.status == LATER and time.perf_counter() - begin < LONGEST:
+        while self.may_wait and got and got.status == LATER and time.perf_counter() - begin < LONGEST:
             self.later.append(time.perf_counter())
             time.sleep(next(pauses, PAUSES[-1]) * self.pick.uniform(0.5, 1.0))
             got = self.answer(whole)
         seconds = time.perf_counter() - begin
+        if got and got.status == LATER:
+            sys.exit("bench: the front answered 429: a limit of its own would be measured, and no room")
         if not got or due not in got.body:
             sys.exit(f"bench: {whole[:300]} was answered {got}")
         return seconds
@@ -122,9 +125,10 @@ class Visitor(Asker):
         return self.seconds_of(message(None, "GET", f"/{PAGE}", fields=self.fields), bytes(1024))
 
 
-def work(kind, place, seconds, pace, begin, pipe):
+def work(kind, place, may_wait, seconds, pace, begin, pipe):
     signal.signal(signal.SIGTERM, signal.SIG_DFL)  # (it has no servers to end)
     asker = kind(*place)
+    asker.may_wait = may_wait
     asker.fill()
     pipe.send(None)  # (it is ready)
     begin.wait()
@@ -163,7 +167,7 @@ def measured(seconds, places, pace=0.0, kind=Asker, server=None):
     begin, pipes, end = FORK.Event(), [], time.perf_counter() + LONGEST
     for place in places:
         reader, writer = FORK.Pipe(False)
-        words = kind, (next(numbers), *place), seconds, pace, begin, writer
+        words = kind, (next(numbers), *place), places.count(place) > MOST, seconds, pace, begin, writer
         FORK.Process(target=work, args=words, daemon=True).start()
         writer.close()
         pipes.append(reader)
@@ -189,4 +193,4 @@ def front_before(names, folder):
     os.mkdir(page)
     with open(os.path.join(page, PAGE), "wb") as file:
         file.write(bytes(1024))
-    return Front(home, {USER: PASSWORD}, names, page, rate="1000000r/s", opens="1000000r/s")
+    return Front(home, {USER: PASSWORD}, names, page, rate="1000000r/s", opens="1000000r/s", bulk=1000000000)
