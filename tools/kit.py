@@ -7,7 +7,7 @@ import shutil
 import sys
 
 
-KIT = "rattle-kit-13f"  # for which the scripts were written
+KIT = "rattle-kit-13b"  # for which the scripts were written
 
 
 def load(who, used):
