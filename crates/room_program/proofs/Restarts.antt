@@ -265,7 +265,7 @@ module _ {D M : Type 0} (g : Ghosts D) (image : Image) (does : M → Call (Held 
         → (shown after).is_intact → AnswersOrMore shown users before after
     leave_answered users n old last before after each there intact =
         connections_answered shown settled leaves_laid_out accepts users n old last before after after [] [] each tt
-        (refl, refl) there intact
+        ([], refl, refl) there intact
 
     answered : (users : List SubjectModel) (port count : ℕ) (taken over : M) (shelf last : Taken)
         (done : Result (Unit {0}) Fault) → Listens does accepts fails shown users port count taken over shelf last done
