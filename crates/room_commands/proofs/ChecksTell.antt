@@ -1,8 +1,8 @@
 -- What a check that passes tells of the room.
-use Rattle.std.proofs.Common.{◌≡◌, ℕ, ◌+◌, ◌-◌, ◌<◌, ◌≤◌, refl, ap, sym, ◌∙◌, Bool, true, false, ◌&&◌, inl, inr}
+use Rattle.std.proofs.Common.{◌≡◌, ℕ, ◌+◌, ◌-◌, ◌<◌, ◌≤◌, refl, ap, sym, ◌∙◌, arith, Bool, true, false}
 use Rattle.std.proofs.Common.{List, [], ◌∷◌, ◌++◌, map, length, Option, None, Some, is_some, nat_lt, nat_le}
-use Rattle.std.specs.List.{AllByRecursion, list_any}
-use Rattle.std.proofs.lemmas.Bool.{ltb-false, leb-false, not-false, or_parts}
+use Rattle.std.specs.List.{AllByRecursion}
+use Rattle.std.proofs.lemmas.Bool.{ltb-false, leb-false, not-false}
 use Rattle.room_acl.specs.declared.subject.Kind.{Kind}
 use Rattle.room_acl.specs.declared.subject.Kind.TheVariants.{File, Folder}
 use Rattle.room_acl.specs.SubjectModel.{SubjectModel}
@@ -10,12 +10,13 @@ use Rattle.room_acl.specs.Bits.{execute}
 use Rattle.room_records.specs.Limits.{max_names, max_children, max_document}
 use Rattle.room_records.specs.Names.{Name, Path}
 use Rattle.room_records.specs.Room.{Object, Room, object_at, children}
-use Rattle.room_records.proofs.RoomsMap.{none_is_some, StandsIn, found_stands}
+use Rattle.room_records.proofs.RoomsMap.{none_is_some, found_stands}
 use Rattle.room_commands.specs.declared.reply.RefusalCode.{RefusalCode}
 use Rattle.room_commands.specs.Checks.{refuse_if, is_kind, is_file, check_exists, check_absent, check_folder}
 use Rattle.room_commands.specs.Checks.{check_file, check_right, walk, prefix_refusal, proper_prefixes, check_size}
-use Rattle.room_commands.specs.Checks.{check_folder_full, check_depth, is_at_or_below}
+use Rattle.room_commands.specs.Checks.{check_folder_full, check_depth, depth_in, is_at_or_below}
 use Rattle.room_commands.proofs.Rights.{all_none}
+use Rattle.room_commands.proofs.DepthTells.{within_depth}
 
 pub not_refused : (b : Bool) (code : RefusalCode) → refuse_if b code ≡ None → b ≡ false
 not_refused true code h = absurd (none_is_some _ (sym h))
@@ -93,21 +94,10 @@ module _ (room : Room) (caller : SubjectModel) where
       let above = exists_there room folder there in
       (above.0, above.1, folder_there room folder above.0 above.1 is_folder)
 
--- a test that no object passes fails where one stands
-fails_at : (test : Path × Object → Bool) (es : List (Path × Object)) → list_any test es ≡ false
-    → (path : Path) (o : Object) → StandsIn es path o → test (path, o) ≡ false
-fails_at test [] none path o stands = absurd stands
-fails_at test (e ∷ es) none path o (inl here) =
-    let same : e ≡ (path, o) = (λ i. (here.0 i, here.1 i)) in
-    ap test (sym same) ∙ (or_parts (test e) (list_any test es) none).0
-fails_at test (e ∷ es) none path o (inr there) =
-    fails_at test es (or_parts (test e) (list_any test es) none).1 path o there
-
 -- each object of a subtree that is moved keeps to the limit on names
 pub depth_there : (room : Room) (path to : Path) → check_depth room path to ≡ None
     → (q : Path) (o : Object) → object_at room q ≡ Some o → is_at_or_below q path ≡ true
     → length to + (length q - length path) ≤ max_names
 depth_there room path to h q o is below =
-    let off : (is_at_or_below q path && nat_lt max_names (length to + (length q - length path))) ≡ false =
-    fails_at _ room.objects (not_refused _ _ h) q o (found_stands room.objects q o is) in
-    ltb-false max_names (length to + (length q - length path)) (rw below at off)
+    let within = within_depth path room.objects q o (found_stands room.objects q o is) below in
+    omega (arith, within, ltb-false max_names (length to + depth_in path room.objects) (not_refused _ _ h))

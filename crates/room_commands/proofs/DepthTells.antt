@@ -1,21 +1,16 @@
--- How deep a subtree goes: it tells whether a folder is empty, and whether a move would be too deep.
-use Rattle.std.proofs.Common.{◌≡◌, ℕ, ◌+◌, ◌-◌, ◌<◌, ◌≤◌, refl, ap, sym, ◌∙◌, arith, true}
-use Rattle.std.proofs.Common.{◌&&◌, ◌||◌, inl, inr, List, [], ◌∷◌, ◌++◌, drop, length, Option, None, Some, nat_lt}
+-- How deep a subtree goes, and that this tells whether a folder is empty.
+use Rattle.std.proofs.Common.{◌≡◌, ℕ, ◌-◌, ◌<◌, ◌≤◌, refl, ap, sym, ◌∙◌, arith, true}
+use Rattle.std.proofs.Common.{inl, inr, List, [], ◌∷◌, ◌++◌, drop, length, Option, None, Some, nat_lt}
 use Rattle.std.proofs.Common.{append_assoc, cond, option_map, length-append}
-use Rattle.std.specs.Prelude.{max}
-use Rattle.std.specs.List.{list_any}
 use Rattle.std.specs.Map.{lookup}
 use Rattle.std.proofs.Math.Nat.{le-max_left, le-max_right, max-le}
 use Rattle.std.proofs.lemmas.Bool.{cases_Bool, cases_lt, lt-ltb, le-ltb}
-use Rattle.std.proofs.lemmas.Grind.{common_steps}
 use Rattle.room_acl.specs.declared.subject.Kind.{Kind}
-use Rattle.room_records.specs.Limits.{max_names}
 use Rattle.room_records.specs.Names.{Name, Path, name_eq}
 use Rattle.room_records.specs.Room.{Object, Room, IsRoom, object_at, children}
 use Rattle.room_records.proofs.RoomsMap.{none_is_some, StandsIn, found_stands, standing_found, nothing_below}
 use Rattle.room_records.proofs.RoomsChildren.{nothing_in_empty, kind_of_child, name_itself}
-use Rattle.room_commands.specs.Checks.{is_at_or_below}
-use Rattle.room_commands.specs.Sight.{depth_in}
+use Rattle.room_commands.specs.Checks.{is_at_or_below, depth_in}
 use Rattle.room_commands.proofs.Renaming.{at_behind}
 use Rattle.room_commands.proofs.RoomsRenamed.{rest_below}
 
@@ -42,24 +37,6 @@ no_deeper path (e ∷ es) n each =
     let rest = no_deeper path es n (λ k o there below. each k o (inr there) below) in
     elim (cases_Bool (is_at_or_below e.0 path)) [
       | inl inside ↦ rw inside (max-le (each e.0 e.1 (inl (refl, refl)) inside) rest)
-      | inr outside ↦ rw outside rest
-    ]
-
-either_above : (m n l d : ℕ) → (nat_lt m (n + l) || nat_lt m (n + d)) ≡ nat_lt m (n + max l d)
-either_above m n l d = grind (arith, common_steps)
-
--- a move is too deep where the depth and the names of the new place come to too many
-pub too_deep : (path to : Path) (es : List (Path × Object)) → length to ≤ max_names
-    → list_any (λ (e : Path × Object). is_at_or_below e.0 path
-    && nat_lt max_names (length to + (length e.0 - length path))) es
-    ≡ nat_lt max_names (length to + depth_in path es)
-too_deep path to [] short = sym (le-ltb max_names (length to + 0) (omega (arith, short)))
-too_deep path to (e ∷ es) short =
-    let rest = too_deep path to es short in
-    elim (cases_Bool (is_at_or_below e.0 path)) [
-      | inl inside ↦ rw inside (
-          ap (λ others. nat_lt max_names (length to + (length e.0 - length path)) || others) rest
-          ∙ either_above max_names (length to) (length e.0 - length path) (depth_in path es))
       | inr outside ↦ rw outside rest
     ]
 

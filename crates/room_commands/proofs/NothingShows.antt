@@ -10,10 +10,9 @@ use Rattle.room_acl.specs.SubjectModel.{SubjectModel}
 use Rattle.room_acl.specs.Access.{allowed_mask}
 use Rattle.room_acl.specs.Inheritance.{own_entries_fault}
 use Rattle.room_records.specs.Limits.{max_names}
-use Rattle.room_records.specs.Names.{Name, Path, IsPath, path_eq}
+use Rattle.room_records.specs.Names.{Name, Path, path_eq}
 use Rattle.room_records.specs.Room.{Room, IsRoom, object_at, children, list_of, standing_of, parent_of}
 use Rattle.room_records.proofs.RoomsMap.{some_is, none_is_some, parent_of_end, Ends}
-use Rattle.room_records.proofs.PathParts.{path_parts}
 use Rattle.room_commands.specs.CommandModel.{CommandModel}
 use Rattle.room_commands.specs.CommandModel as C
 use Rattle.room_commands.specs.ReplyModel.{Refusal, NotDone, About, Names, Size, Bytes, Entries}
@@ -33,7 +32,7 @@ use Rattle.room_commands.specs.Effect.{effect, effect_by, reply, attributes_of}
 use Rattle.room_commands.specs.Sight.{LooksAlike, Sight, may, may_remove, depth_in}
 use Rattle.room_commands.proofs.ChecksTell.{not_refused}
 use Rattle.room_commands.proofs.EffectIsRoom.{not_root_ends}
-use Rattle.room_commands.proofs.DepthTells.{depth_tells_empty, too_deep}
+use Rattle.room_commands.proofs.DepthTells.{depth_tells_empty}
 use Rattle.room_commands.proofs.Looks.{BothThere, both_there, way_alike, exists_alike, absent_alike, folder_alike}
 use Rattle.room_commands.proofs.Looks.{file_alike, right_alike, kind_of_alike, in_folder_alike}
 use Rattle.room_commands.proofs.Looks.{folder_full_alike, room_full_alike, shown_same}
@@ -195,12 +194,10 @@ module _ (a b : Room) (caller : SubjectModel) (room_a : IsRoom a) (room_b : IsRo
         (depth_tells_empty a room_a path ∙ ap (nat_lt 0) (depth_alike there right)
         ∙ sym (depth_tells_empty b room_b path))
 
-    too_deep_alike : (to : Path) → IsPath to → check_exists a path ≡ None → check_removal a caller path ≡ None
+    too_deep_alike : (to : Path) → check_exists a path ≡ None → check_removal a caller path ≡ None
         → check_depth a path to ≡ check_depth b path to
-    too_deep_alike to is_path there right = ap (λ test. refuse_if test TooDeep)
-        (too_deep path to a.objects (path_parts to is_path).short
-        ∙ ap (λ depth. nat_lt max_names (length to + depth)) (depth_alike there right)
-        ∙ sym (too_deep path to b.objects (path_parts to is_path).short))
+    too_deep_alike to there right =
+        ap (λ depth. refuse_if (nat_lt max_names (length to + depth)) TooDeep) (depth_alike there right)
 
   way : (path : Path) → walk a caller path ≡ walk b caller path
   way = way_alike a b caller alike
@@ -355,7 +352,7 @@ module _ (a b : Room) (caller : SubjectModel) (room_a : IsRoom a) (room_b : IsRo
                         ∙ ap (λ kind. check_right b caller (parent_of to) (right_to_add kind))
                         (kind_of_alike a b caller alike path walked),
                     λ adds. (
-                      too_deep_alike path end walked to lawful.1 there removal,
+                      too_deep_alike path end walked to there removal,
                       λ fits. (
                         ap (cond (path_eq (parent_of path) (parent_of to)) None) (full_above to end_to walked_to),
                         λ not_full.

@@ -1,9 +1,9 @@
 -- No check and no change looks at the bytes of a file.
-use Rattle.std.proofs.Common.{◌≡◌, ℕ, ◌+◌, ◌-◌, refl, ap, sym, ◌∙◌, arith, Bool, true, false, not, ◌&&◌, ◌||◌, cond}
+use Rattle.std.proofs.Common.{◌≡◌, ℕ, ◌+◌, ◌-◌, refl, ap, sym, ◌∙◌, arith, Bool, true, false, not, ◌||◌, cond}
 use Rattle.std.proofs.Common.{List, [], ◌∷◌, ◌++◌, map, length, Option, None, Some, nat_lt, nat_le, option_map}
-use Rattle.std.specs.Prelude.{bit_and, is_none}
+use Rattle.std.specs.Prelude.{bit_and, is_none, max}
 use Rattle.std.specs.Map.{lookup}
-use Rattle.std.specs.List.{filter, filter_map, list_any}
+use Rattle.std.specs.List.{filter, filter_map}
 use Rattle.std.proofs.lemmas.List.{map-append, length-map}
 use Rattle.room_acl.specs.declared.subject.Kind.{Kind}
 use Rattle.room_acl.specs.declared.subject.Kind.TheVariants.{File, Folder}
@@ -25,7 +25,7 @@ use Rattle.room_commands.specs.SetList.{own_entries_of_setlist}
 use Rattle.room_commands.specs.Checks.{first_refusal, checks, refuse_if, check_right, check_size, walk}
 use Rattle.room_commands.specs.Checks.{check_exists, check_absent, check_file, check_removal, check_depth}
 use Rattle.room_commands.specs.Checks.{check_folder_full, check_room_full, check_lawful, right_to_add}
-use Rattle.room_commands.specs.Checks.{bytes_at, is_root, is_at_or_below}
+use Rattle.room_commands.specs.Checks.{bytes_at, is_root, is_at_or_below, depth_in}
 use Rattle.room_commands.specs.Effect.{effect, effect_by, changed, reply, attributes_of, size_of}
 use Rattle.room_commands.specs.Effect.{with_new, moved, new_object}
 use Rattle.room_commands.specs.OtherBytes.{room_with, command_with, reply_with}
@@ -50,10 +50,10 @@ module _ (new : ℕ → ℕ) where
   listed_with folder [] = refl
   listed_with folder (e ∷ es) = grind (arith, listed_with folder es)
 
-  any_with : (test : Path → Bool) (es : List (Path × Object))
-      → list_any (λ (e : Path × Object). test e.0) (map entry_with es) ≡ list_any (λ (e : Path × Object). test e.0) es
-  any_with test [] = refl
-  any_with test (e ∷ es) = ap (λ t. test e.0 || t) (any_with test es)
+  depth_with : (path : Path) (es : List (Path × Object)) → depth_in path (map entry_with es) ≡ depth_in path es
+  depth_with path [] = refl
+  depth_with path (e ∷ es) =
+      ap (λ d. cond (is_at_or_below e.0 path) (max (length e.0 - length path) d) d) (depth_with path es)
 
   -- a change that does the same to an object with other bytes
   changed_with : (path : Path) (change then : Object → Object)
@@ -140,8 +140,8 @@ module _ (new : ℕ → ℕ) where
     kind q = ap kind_of (there q) ∙ kind_with (object_at room q)
 
     depth : (path to : Path) → check_depth other path to ≡ check_depth room path to
-    depth path to = ap (λ t. refuse_if t TooDeep) (any_with (λ q. is_at_or_below q path
-        && nat_lt max_names (length to + (length q - length path))) room.objects)
+    depth path to =
+        ap (λ d. refuse_if (nat_lt max_names (length to + d)) TooDeep) (depth_with path room.objects)
 
     checks_with : (command : CommandModel) → checks other caller (command_with new command) ≡ checks room caller command
     checks_with (C.Stat path) = (λ i. way path i ∷ exists path i ∷ right path read_attributes i ∷ [])

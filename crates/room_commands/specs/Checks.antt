@@ -1,9 +1,9 @@
 -- The checks of a command, in order. The first that fails gives the reply. Which right a command needs follows the
 -- meaning of the bits in RFC 8881, section 6.2.1.3.1; the order, the codes and the limits are our own rules.
-use Rattle.std.specs.Prelude.{ℕ, ◌+◌, ◌-◌, Bool, true, false, not, ◌&&◌, ◌||◌, List, [], ◌∷◌, map, length, Option, None}
-use Rattle.std.specs.Prelude.{Some, if◌then◌else◌, is_none, is_some, nat_lt, nat_le}
+use Rattle.std.specs.Prelude.{ℕ, ◌+◌, ◌-◌, Bool, true, false, not, ◌||◌, List, [], ◌∷◌, map, length, Option, None}
+use Rattle.std.specs.Prelude.{Some, if◌then◌else◌, is_none, is_some, max, nat_lt, nat_le}
 use Rattle.std.specs.Bool.{then_some}
-use Rattle.std.specs.List.{list_any, starts_with}
+use Rattle.std.specs.List.{starts_with}
 use Rattle.std.specs.Option.{option_map_or, unwrap_or}
 use Rattle.room_acl.specs.declared.subject.Kind.{Kind}
 use Rattle.room_acl.specs.declared.subject.Kind.TheVariants.{File, Folder}
@@ -137,11 +137,15 @@ abbrev pub right_to_add : Kind → ℕ
 right_to_add File = add_file
 right_to_add Folder = add_subdirectory
 
+-- how many names longer than a path the longest path at or below it is
+abbrev pub depth_in : Path → List (Path × Object) → ℕ
+depth_in path [] = 0
+depth_in path (e ∷ es) =
+    if is_at_or_below e.0 path then max (length e.0 - length path) (depth_in path es) else depth_in path es
+
 -- no object of the moved subtree would have too many names
 abbrev pub check_depth : Room → Path → Path → Option Refusal
-check_depth room path to =
-    refuse_if (list_any (λ (e : Path × Object).
-    is_at_or_below e.0 path && nat_lt max_names (length to + (length e.0 - length path))) room.objects) TooDeep
+check_depth room path to = refuse_if (nat_lt max_names (length to + depth_in path room.objects)) TooDeep
 
 -- how what is wrong with own entries is answered
 abbrev pub list_fault_code : ListFault → RefusalCode

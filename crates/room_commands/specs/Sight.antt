@@ -1,8 +1,8 @@
 -- What a caller may see of a room, and when two rooms look alike to it. Which right shows what follows the meaning of
 -- the bits in RFC 8881, section 6.2.1.3.1. What shows beyond that meaning follows from our own order of checks, and is
 -- named below: the first fault on the way, that something is there, `kind`, `rights`, `size`, `depth` and `full`.
-use Rattle.std.specs.Prelude.{◌≡◌, ℕ, ◌-◌, max, Bool, true, false, not, ◌&&◌, ◌||◌, List, [], ◌∷◌, ◌++◌}
-use Rattle.std.specs.Prelude.{length, Option, None, is_none, Result, Ok, Err, if◌then◌else◌, ⊤}
+use Rattle.std.specs.Prelude.{◌≡◌, ℕ, Bool, true, false, not, ◌&&◌, ◌||◌, List, [], ◌∷◌, ◌++◌}
+use Rattle.std.specs.Prelude.{length, Option, None, is_none, Result, Ok, Err, ⊤}
 use Rattle.std.specs.Bool.{then_some}
 use Rattle.std.specs.Option.{option_map, option_map_or}
 use Rattle.room_acl.specs.declared.subject.Kind.{Kind}
@@ -19,10 +19,9 @@ use Rattle.room_commands.specs.CommandModel.{CommandModel}
 use Rattle.room_commands.specs.CommandModel as C
 use Rattle.room_commands.specs.ReplyModel.{Refusal, Attributes, ReplyModel}
 use Rattle.room_commands.specs.Lawful.{IsLawful}
-use Rattle.room_commands.specs.Checks.{check_removal, walk, is_file, is_kind, is_root, is_at_or_below, right_to_add}
-use Rattle.room_commands.specs.Checks.{is_full}
+use Rattle.room_commands.specs.Checks.{check_removal, walk, is_file, is_kind, is_root, right_to_add, is_full}
 use Rattle.room_commands.specs.Checks.{object_or_default}
-pub use Rattle.room_commands.specs.Checks.{may}
+pub use Rattle.room_commands.specs.Checks.{may, depth_in}
 use Rattle.room_commands.specs.Effect.{attributes_of, effect}
 
 -- the caller may remove an object, or move it: by DELETE on it, or by DELETE_CHILD on its folder
@@ -36,12 +35,6 @@ may_add room caller path = may room caller path add_file || may room caller path
 -- or set its list or its owner
 abbrev pub may_set : Room → SubjectModel → Path → Bool
 may_set room caller path = may room caller path write_acl || may room caller path write_owner
-
--- how many names longer than a path the longest path at or below it is
-abbrev pub depth_in : Path → List (Path × Object) → ℕ
-depth_in path [] = 0
-depth_in path (e ∷ es) =
-    if is_at_or_below e.0 path then max (length e.0 - length path) (depth_in path es) else depth_in path es
 
 -- what a caller may see of an object that it can reach
 pub record Sight : Type 0 where

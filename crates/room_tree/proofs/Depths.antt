@@ -1,14 +1,12 @@
 -- How far down a subtree reaches: by its nodes, and as RENAME checks it.
 use Rattle.std.proofs.lemmas.Grind.{common_steps}
-use Rattle.std.proofs.Common.{◌≡◌, ℕ, ◌+◌, ◌-◌, ◌<◌, ◌≤◌, refl, ap, sym, ◌∙◌, subst, arith, Bool, true, false, ◌&&◌}
-use Rattle.std.proofs.Common.{◌||◌, inl, inr, List, [], ◌∷◌, ◌++◌, take, drop, length, append-nil, append_assoc}
-use Rattle.std.proofs.Common.{length-append, Option, None, Some, nat_lt}
-use Rattle.std.specs.List.{AllByRecursion, list_any}
+use Rattle.std.proofs.Common.{◌≡◌, ℕ, ◌+◌, ◌-◌, ◌<◌, ◌≤◌, refl, ap, sym, ◌∙◌, subst, arith, Bool, true, false}
+use Rattle.std.proofs.Common.{inl, inr, List, [], ◌∷◌, ◌++◌, take, drop, length, append-nil, append_assoc}
+use Rattle.std.proofs.Common.{length-append, Option, None, Some}
+use Rattle.std.specs.List.{AllByRecursion}
 use Rattle.std.proofs.lemmas.List.{take-append-drop, length-take}
-use Rattle.std.proofs.lemmas.Bool.{ltb-true}
-use Rattle.std.proofs.lemmas.Bool.Decides.{nat_tests}
+use Rattle.std.proofs.lemmas.Bool.{cases_lt, lt-ltb, le-ltb}
 use Rattle.std.specs.Prelude.{unwrap_or}
-use Rattle.std.proofs.Math.Bool.{or-true}
 use Rattle.room_acl.specs.declared.subject.Kind.TheVariants.{File, Folder}
 use Rattle.room_records.specs.declared.node.Node.{Node}
 use Rattle.room_records.specs.Limits.{max_names}
@@ -23,10 +21,11 @@ use Rattle.room_records.proofs.Paths.{child_is_at, object_at_node}
 use Rattle.room_records.proofs.RoomsMap.{none_is_some, nothing_below, nothing_in_a_file, StandsIn}
 use Rattle.room_records.proofs.RoomsMap.{found_stands, standing_found}
 use Rattle.room_commands.specs.declared.reply.RefusalCode.TheVariants.{TooDeep}
-use Rattle.room_commands.specs.Checks.{is_at_or_below, refuse_if, check_depth}
+use Rattle.room_commands.specs.Checks.{is_at_or_below, refuse_if, check_depth, depth_in}
 use Rattle.room_tree.specs.Depths.{StandsBelow, TellsBelow}
 use Rattle.room_commands.proofs.Renaming.{at_behind}
 use Rattle.room_commands.proofs.RoomsRenamed.{rest_below}
+use Rattle.room_commands.proofs.DepthTells.{within_depth, no_deeper}
 
 some_there : {X : Type 0} (o : Option X) → (o ≡ None → ⊥) → (x : X) × (o ≡ Some x)
 some_there None h = absurd (h refl)
@@ -110,40 +109,20 @@ module _ {t : ObjectRecords} {room : Room} (stand : RepresentsRoom t room) where
             deep = omega (arith, deep);
           })
 
--- a test on the list of objects
-any_of : (test : Path × Object → Bool) (es : List (Path × Object)) (q : Path) (o : Object)
-    → StandsIn es q o → test (q, o) ≡ true → list_any test es ≡ true
-any_of test [] q o stands passes = absurd stands
-any_of test (e ∷ es) q o (inl here) passes =
-    let same : e ≡ (q, o) = (λ i. (here.0 i, here.1 i)) in
-    ap (λ b. b || list_any test es) (ap test same ∙ passes)
-any_of test (e ∷ es) q o (inr there) passes =
-    ap (λ b. test e || b) (any_of test es q o there passes) ∙ or-true (test e)
-
-none_if : (test : Path × Object → Bool) (es : List (Path × Object))
-    → ((q : Path) (o : Object) → StandsIn es q o → test (q, o) ≡ false) → list_any test es ≡ false
-none_if test [] off = refl
-none_if test (e ∷ es) off =
-    ap (λ b. b || list_any test es) (off e.0 e.1 (inl (refl, refl)))
-    ∙ none_if test es (λ q o there. off q o (inr there))
-
-is_less : (m n : ℕ) → m < n → nat_lt m n ≡ true
-is_less m n h = grind (arith, nat_tests)
-
 -- the check of a move, by what stands one level too far down
 pub depth_check : (room : Room) → IsRoom room → (path to : Path) (b : Bool)
     → length to ≤ max_names → TellsBelow room path (17 - length to) b
     → check_depth room path to ≡ refuse_if b TooDeep
 depth_check room lawful path to true short below =
     let whole = found_stands room.objects (path ++ below.rest) below.object below.stands in
-    let long : max_names < length to + (length (path ++ below.rest) - length path) =
-    omega (arith, length-append path below.rest, below.deep, short) in
-    ap (λ b. refuse_if b TooDeep) (any_of _ room.objects (path ++ below.rest) below.object whole
-    (ap (λ b. b && nat_lt max_names (length to + (length (path ++ below.rest) - length path)))
-    (at_behind path below.rest) ∙ is_less _ _ long))
+    let within = within_depth path room.objects (path ++ below.rest) below.object whole (at_behind path below.rest) in
+    let long : max_names < length to + depth_in path room.objects =
+    omega (arith, length-append path below.rest, below.deep, short, within) in
+    ap (λ b. refuse_if b TooDeep) (lt-ltb _ _ long)
 depth_check room lawful path to false short none =
-    ap (λ b. refuse_if b TooDeep)
-    (none_if _ room.objects (λ q o stands. by_place q o stands (is_at_or_below q path) refl))
+    let within = no_deeper path room.objects (max_names - length to) enough_left in
+    let fits : length to + depth_in path room.objects ≤ max_names = omega (arith, within, short) in
+    ap (λ b. refuse_if b TooDeep) (le-ltb _ _ fits)
   where
     too_far : (q : Path) (o : Object) → StandsIn room.objects q o
         → is_at_or_below q path ≡ true → max_names < length to + (length q - length path) → ⊥
@@ -165,14 +144,9 @@ depth_check room lawful path to false short none =
           deep = omega (arith, length-take levels rest, enough);
         })
 
-    by_depth : (q : Path) (o : Object) → StandsIn room.objects q o → is_at_or_below q path ≡ true
-        → (b : Bool) → nat_lt max_names (length to + (length q - length path)) ≡ b → b ≡ false
-    by_depth q o stands below false is = refl
-    by_depth q o stands below true is =
-        absurd (too_far q o stands below (ltb-true max_names (length to + (length q - length path)) is))
-
-    by_place : (q : Path) (o : Object) → StandsIn room.objects q o → (b : Bool) → is_at_or_below q path ≡ b
-        → (b && nat_lt max_names (length to + (length q - length path))) ≡ false
-    by_place q o stands false off = refl
-    by_place q o stands true below =
-        by_depth q o stands below (nat_lt max_names (length to + (length q - length path))) refl
+    enough_left : (q : Path) (o : Object) → StandsIn room.objects q o → is_at_or_below q path ≡ true
+        → length q - length path ≤ max_names - length to
+    enough_left q o stands below = elim (cases_lt max_names (length to + (length q - length path))) [
+      | inl long ↦ absurd (too_far q o stands below long)
+      | inr fits ↦ omega (arith, fits)
+    ]
