@@ -30,7 +30,7 @@ use Rattle.room_commands.proofs.RoomsObject.{after_change, children_stay}
 use Rattle.room_commands.proofs.RoomLaws.{right_alike, walk_alike, bytes_stay_out}
 use Rattle.room_commands.proofs.NothingShows.{refused_alike, in_turn}
 use Rattle.room_commands.specs.Checks.{object_or_default}
-use Rattle.room_commands.proofs.Shorthands.{bytes_of, handed_by, if_reached, seen_less, or_no_object, removal_refusal}
+use Rattle.room_commands.proofs.Shorthands.{bytes_of, handed_by, if_reached, seen_less, or_no_object}
 use Rattle.std.specs.Bool.{then_some}
 
 -- what a sight is made of, besides the object
@@ -168,8 +168,8 @@ module _ (new : List ℕ → List ℕ) (count : ℕ → ℕ) (counts : (l : List
     facts_stay q = (λ i. record {
       list = lists_without_bytes later room out q i;
       may = λ wanted. is_none (right_stays q wanted i);
-      removes = not (is_root q) && is_none (removal_refusal q (right_stays q delete_object i)
-          (right_stays (parent_of q) delete_child i));
+      removes = not (is_root q) && (is_none (right_stays q delete_object i)
+          || is_none (right_stays (parent_of q) delete_child i));
       names = children_stay room path write_to (λ found. refl) q i;
       depth = depth_stays q room.objects i;
       full = nat_le max_objects room.made;

@@ -29,7 +29,7 @@ use Rattle.room_commands.specs.Effect.{effect, effect_by, changed, with_object, 
 use Rattle.room_commands.specs.Effect.{reply}
 use Rattle.room_commands.specs.Sight.{LooksAlike, StayAlike, SameBelow, may, may_remove, handed_to}
 use Rattle.room_commands.proofs.Shorthands.{replies}
-use Rattle.room_commands.proofs.Rights.{all_none}
+use Rattle.room_commands.proofs.Rights.{all_none, one_may}
 use Rattle.room_commands.proofs.ChecksTell.{absent_there, exists_there, not_refused}
 use Rattle.room_commands.proofs.Renaming.{at_behind}
 use Rattle.room_commands.proofs.RoomsNew.{elsewhere_as_before, new_there}
@@ -42,7 +42,7 @@ use Rattle.room_commands.proofs.EffectIsRoom.{effect_is_room, not_root_ends}
 use Rattle.room_commands.proofs.NothingShows.{refused_alike, in_turn, reply_alike}
 use Rattle.room_commands.proofs.Staying.{Off, Numbers, stay, region_at, front_is_off, off_front, list_out}
 use Rattle.room_commands.specs.Checks.{object_or_default}
-use Rattle.room_commands.proofs.Shorthands.{handed_by, kind_of, removal_refusal}
+use Rattle.room_commands.proofs.Shorthands.{handed_by, kind_of}
 
 -- where a folder stands at or below a path, there is one at the path
 folder_at : (room : Room) → IsRoom room → (p rest : Path) (o : Object) → object_at room (p ++ rest) ≡ Some o
@@ -305,8 +305,8 @@ module _ (a b : Room) (caller : SubjectModel) (room_a : IsRoom a) (room_b : IsRo
         );
     moving = λ q walked removes.
         after_both q (before.moving q (sym (way a q) ∙ walked) ((λ i. not (is_root q)
-        && is_none (removal_refusal q (sym (rights a q delete_object) i)
-        (sym (rights a (parent_of q) delete_child) i))) ∙ removes));
+        && (is_none (sym (rights a q delete_object) i) || is_none (sym (rights a (parent_of q) delete_child) i)))
+        ∙ removes));
     setting = λ q walked sets.
         let was = before.setting q (sym (way a q) ∙ walked)
         ((λ i. is_none (sym (rights a q write_acl) i) || is_none (sym (rights a q write_owner) i)) ∙ sets) in (
@@ -396,7 +396,7 @@ module _ (a b : Room) (caller : SubjectModel) (room_a : IsRoom a) (room_b : IsRo
       let roots = or_parts (is_root path) (is_root to) apart.0 in
       let found = exists_there a path there in
       object_moved path to (not_root_ends to roots.1) found.0 found.1 apart.1 (absent_there a to free)
-      (absent_there b to free_b) walked walked_to (and_from _ _ (ap not roots.0) (ap is_none removal)) adds
+      (absent_there b to free_b) walked walked_to (and_from _ _ (ap not roots.0) (one_may path _ removal)) adds
       later_a later_b
   change_stays (C.SetList aclflag entries path) passed passed_b later_a later_b =
       let (walked, (there, (right, _))) = all_none (checks a caller (C.SetList aclflag entries path)) passed in

@@ -21,7 +21,7 @@ use Rattle.room_commands.specs.declared.reply.RefusalCode.{RefusalCode}
 use Rattle.room_commands.specs.declared.reply.RefusalCode.TheVariants.{NotEmpty, TooDeep, Inval, Exist}
 use Rattle.room_commands.specs.Lawful.{IsLawful}
 use Rattle.room_commands.specs.SetList.{own_entries_of_setlist}
-use Rattle.room_commands.specs.Checks.{first_refusal, checks, refuse_if, check_right, check_removal}
+use Rattle.room_commands.specs.Checks.{first_refusal, checks, refuse_if, check_right, check_removal, may_delete}
 use Rattle.room_commands.specs.Checks.{walk}
 use Rattle.room_commands.specs.Checks.{check_exists, check_absent, check_folder, check_file, is_kind, is_file, is_root}
 use Rattle.room_commands.specs.Checks.{right_to_add, object_or_default}
@@ -30,6 +30,7 @@ use Rattle.room_commands.specs.Checks.{bytes_at}
 use Rattle.room_commands.specs.Checks.{is_at_or_below}
 use Rattle.room_commands.specs.Effect.{effect, effect_by, reply, attributes_of}
 use Rattle.room_commands.specs.Sight.{LooksAlike, Sight, may, may_remove, depth_in}
+use Rattle.room_commands.proofs.Rights.{one_may}
 use Rattle.room_commands.proofs.ChecksTell.{not_refused}
 use Rattle.room_commands.proofs.EffectIsRoom.{not_root_ends}
 use Rattle.room_commands.proofs.DepthTells.{depth_tells_empty}
@@ -176,8 +177,8 @@ module _ (a b : Room) (caller : SubjectModel) (room_a : IsRoom a) (room_b : IsRo
         (right_above delete_child i))
 
     removes : check_removal a caller path ≡ None → may_remove a caller path ≡ true
-    removes right = ap (λ p. not (is_root p) && is_none (check_removal a caller path)) end.is
-        ∙ and_from _ _ (below_root end.folder end.name) (is_there _ right)
+    removes right = ap (λ p. not (is_root p) && may_delete a caller path) end.is
+        ∙ and_from _ _ (below_root end.folder end.name) (one_may path _ right)
       where
         below_root : (folder : Path) (name : Name) → not (is_root (folder ++ name ∷ [])) ≡ true
         below_root [] name = refl

@@ -35,7 +35,7 @@ use Rattle.room_commands.specs.Sight.{HasNoPower, SameBelow}
 use Rattle.std.proofs.lemmas.Bool.{or_left, or_right}
 use Rattle.std.proofs.Common.{inl, inr}
 use Rattle.room_commands.proofs.Looks.{way_alike, right_alike, kind_alike, in_folder_alike, walk_to_folder}
-use Rattle.room_commands.proofs.Shorthands.{if_reached, removal_refusal}
+use Rattle.room_commands.proofs.Shorthands.{if_reached}
 use Rattle.std.specs.Bool.{then_some}
 use Rattle.room_commands.specs.Checks.{right_to_add}
 
@@ -54,8 +54,7 @@ module _ (a b : Room) (caller : SubjectModel) (alike : LooksAlike caller a b) wh
       ≡ check_right b caller (parent_of (first ∷ rest)) delete_child =
       rw folder (in_folder_alike a b caller alike end.folder end.name (ap (walk a caller) (sym end.is) ∙ walked)
       delete_child) in
-      (λ i. is_none (removal_refusal (first ∷ rest)
-      (right_alike a b caller alike (first ∷ rest) walked delete_object i) (above i)))
+      (λ i. is_none (right_alike a b caller alike (first ∷ rest) walked delete_object i) || is_none (above i))
 
   pub way_back : (path : Path) → walk b caller path ≡ None → walk a caller path ≡ None
   way_back path walked = way_alike a b caller alike path ∙ walked

@@ -27,6 +27,12 @@ all_none [] h = tt
 all_none (None ∷ others) h = (refl, all_none others h)
 all_none (Some x ∷ others) h = cc
 
+-- what is not refused may be removed
+pub one_may : (path : Path) (may : Bool) → (if may then None else denied_at path (Denied delete_object)) ≡ None
+    → may ≡ true
+one_may path true passed = refl
+one_may path false passed = cc
+
 module _ (room : Room) (caller : SubjectModel) where
   ways_none : (ways : List Path) → AllNone (map (prefix_refusal room caller) ways)
       → list_all (λ front. may room caller front execute) ways ≡ true
@@ -42,11 +48,6 @@ module _ (room : Room) (caller : SubjectModel) where
       list_all-append _ (proper_prefixes path) (proper_prefixes to)
       ∙ and_from _ _ (ways_none (proper_prefixes path) (all_none _ walked))
       (ways_none (proper_prefixes to) (all_none _ walked_to))
-
-  one_may : (path : Path) (may : Bool) → (if may then None else denied_at path (Denied delete_object)) ≡ None
-      → may ≡ true
-  one_may path true passed = refl
-  one_may path false passed = cc
 
   at_one : (path on : Path) (mask : ℕ) → check_right room caller on mask ≡ None → walk room caller path ≡ None
       → (may room caller on mask && list_all (λ front. may room caller front execute)

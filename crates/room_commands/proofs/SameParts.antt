@@ -26,7 +26,7 @@ use Rattle.room_commands.proofs.RoomsRenamed.{rest_below}
 use Rattle.room_commands.proofs.DepthTells.{within_depth, no_deeper}
 use Rattle.room_commands.proofs.Looks.{walk_end}
 use Rattle.room_commands.proofs.BytesAlone.{facts_at, sight_with, view_with, view_by_facts}
-use Rattle.room_commands.proofs.Shorthands.{handed_by, if_reached, removal_refusal, right_on}
+use Rattle.room_commands.proofs.Shorthands.{handed_by, if_reached, right_on}
 use Rattle.std.specs.Bool.{then_some}
 
 all_mapped : {X Y : Type 0} (P : Y → Type 0) (g : X → Y) (xs : List X)
@@ -192,8 +192,8 @@ module _ (x y : Room) (caller : SubjectModel) (room_x : IsRoom x) (room_y : IsRo
   facts_in rest = (λ i. record {
     list = list_in rest i;
     may = λ wanted. is_none (right_in rest wanted i);
-    removes = not (is_root (top ++ rest)) && is_none (removal_refusal (top ++ rest) (right_in rest delete_object i)
-        (above_in rest delete_child i));
+    removes = not (is_root (top ++ rest)) && (is_none (right_in rest delete_object i)
+        || is_none (above_in rest delete_child i));
     names = children_same x y caller (top ++ rest) (λ name.
         ap (option_map (λ (o : Object). o.kind)) (same_in rest (name ∷ []))) i;
     depth = depth_same x y room_x room_y (top ++ rest) (same_in rest) i;

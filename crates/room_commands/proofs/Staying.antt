@@ -30,7 +30,7 @@ use Rattle.room_commands.proofs.BytesAlone.{Facts, facts_at, sight_with, size_wi
 use Rattle.room_commands.proofs.SameParts.{right_same, prefix_same, walk_same, children_same, depth_same, Region}
 use Rattle.room_commands.proofs.SameParts.{list_in, same_in, view_in, handed_in, list_by_handed}
 use Rattle.room_commands.specs.Checks.{object_or_default}
-use Rattle.room_commands.proofs.Shorthands.{handed_by, if_reached, there_seen, or_no_object, removal_refusal}
+use Rattle.room_commands.proofs.Shorthands.{handed_by, if_reached, there_seen, or_no_object}
 use Rattle.std.specs.Bool.{then_some}
 use Rattle.room_commands.specs.Checks.{right_to_add}
 
@@ -138,8 +138,8 @@ module _ (r later : Room) (caller : SubjectModel) (p t : Path)
   facts_out q off = (λ i. record {
     list = list_out q off i;
     may = λ wanted. is_none (right_out q wanted off i);
-    removes = not (is_root q) && is_none (removal_refusal q (right_out q delete_object off i)
-        (above_out q delete_child off i));
+    removes = not (is_root q) && (is_none (right_out q delete_object off i)
+        || is_none (above_out q delete_child off i));
     names = children later q;
     depth = depth_in q later.objects;
     full = nat_le max_objects later.made;
@@ -471,9 +471,8 @@ module _ (a b a' b' : Room) (caller : SubjectModel) (p t : Path) (s : Step a b a
   may_before q off wanted = ap is_none (right_out a a' caller p t s.out_a q wanted off)
 
   removes_before : (q : Path) → Off p t q → may_remove a' caller q ≡ may_remove a caller q
-  removes_before q off = (λ i. not (is_root q) && is_none (removal_refusal q
-      (right_out a a' caller p t s.out_a q delete_object off i)
-      (above_out a a' caller p t s.out_a q delete_child off i)))
+  removes_before q off = (λ i. not (is_root q) && (is_none (right_out a a' caller p t s.out_a q delete_object off i)
+      || is_none (above_out a a' caller p t s.out_a q delete_child off i)))
 
   -- rooms that look alike to a caller, and will after its commands, do so after the change
   pub stay : StayAlike caller a' b'

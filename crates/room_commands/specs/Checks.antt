@@ -126,11 +126,14 @@ abbrev pub is_at_or_below : Path → Path → Bool
 is_at_or_below path top = starts_with name_eq path top
 
 -- DELETE on the object or DELETE_CHILD on its folder (RFC 8881, section 6.2.1.3.2, without its fallback to ADD_FILE).
--- One of them is enough to remove it; a refusal names the object and DELETE
+-- One of them is enough to remove it
+abbrev pub may_delete : Room → SubjectModel → Path → Bool
+may_delete room caller path = may room caller path delete_object || may room caller (parent_of path) delete_child
+
+-- a refusal names the object and DELETE
 abbrev pub check_removal : Room → SubjectModel → Path → Option Refusal
 check_removal room caller path =
-    if may room caller path delete_object || may room caller (parent_of path) delete_child then None
-    else denied_at path (Denied delete_object)
+    if may_delete room caller path then None else denied_at path (Denied delete_object)
 
 -- the right to add an object of a kind to a folder
 abbrev pub right_to_add : Kind → ℕ

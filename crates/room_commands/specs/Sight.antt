@@ -2,7 +2,7 @@
 -- the bits in RFC 8881, section 6.2.1.3.1. What shows beyond that meaning follows from our own order of checks, and is
 -- named below: the first fault on the way, that something is there, `kind`, `rights`, `size`, `depth` and `full`.
 use Rattle.std.specs.Prelude.{◌≡◌, ℕ, Bool, true, false, not, ◌&&◌, ◌||◌, List, [], ◌∷◌, ◌++◌}
-use Rattle.std.specs.Prelude.{length, Option, None, is_none, Result, Ok, Err, ⊤}
+use Rattle.std.specs.Prelude.{length, Option, None, Result, Ok, Err, ⊤}
 use Rattle.std.specs.Bool.{then_some}
 use Rattle.std.specs.Option.{option_map, option_map_or}
 use Rattle.room_acl.specs.declared.subject.Kind.{Kind}
@@ -19,14 +19,14 @@ use Rattle.room_commands.specs.CommandModel.{CommandModel}
 use Rattle.room_commands.specs.CommandModel as C
 use Rattle.room_commands.specs.ReplyModel.{Refusal, Attributes, ReplyModel}
 use Rattle.room_commands.specs.Lawful.{IsLawful}
-use Rattle.room_commands.specs.Checks.{check_removal, walk, is_file, is_kind, is_root, right_to_add, is_full}
+use Rattle.room_commands.specs.Checks.{may_delete, walk, is_file, is_kind, is_root, right_to_add, is_full}
 use Rattle.room_commands.specs.Checks.{object_or_default}
 pub use Rattle.room_commands.specs.Checks.{may, depth_in}
 use Rattle.room_commands.specs.Effect.{attributes_of, effect}
 
 -- the caller may remove an object, or move it: by DELETE on it, or by DELETE_CHILD on its folder
 abbrev pub may_remove : Room → SubjectModel → Path → Bool
-may_remove room caller path = not (is_root path) && is_none (check_removal room caller path)
+may_remove room caller path = not (is_root path) && may_delete room caller path
 
 -- or add to it, if it is a folder
 abbrev pub may_add : Room → SubjectModel → Path → Bool
