@@ -7,5 +7,6 @@ pub mod Decisions
 pub mod Travelling
 pub mod Marks
 pub mod OwnerRights
+pub mod WhoTexts
 mod Names
 mod Examples

@@ -1,6 +1,6 @@
 -- The rights of a mask, the flags of an entry, and the flags of a list.
-use Rattle.std.specs.Prelude.{◌≤◌, ℕ, ◌+◌, ◌-◌, ◌^◌, Bool, IsTrue, not, ◌&&◌, cond, List, [], ◌∷◌, ◌==◌}
-use Rattle.std.specs.Prelude.{bit_and, bit_or}
+use Rattle.std.specs.Prelude.{ℕ, ◌+◌, ◌-◌, ◌^◌, Bool, IsTrue, not, ◌&&◌, cond, List, [], ◌∷◌, ◌==◌}
+use Rattle.std.specs.Prelude.{nat_le, bit_and, bit_or}
 use Rattle.std.specs.Int.{bit_at}
 
 -- the sixteen rights, as masks (RFC 8881, section 6.2.1.3). Three have one name for a file and one for a folder
@@ -77,7 +77,7 @@ reading_rights = read_data + read_named_attrs + execute + read_attributes + read
 abbrev pub owner_rights : ℕ
 owner_rights = read_acl + write_acl
 
--- the sixteen rights again, as places of bits, the lowest first (`places_of_rights` of proofs/Names compares them)
+-- the sixteen rights as places of bits, the lowest first (`places_of_rights` of proofs/Names compares them)
 abbrev pub named_bits : List ℕ
 named_bits = 0 ∷ 1 ∷ 2 ∷ 3 ∷ 4 ∷ 5 ∷ 6 ∷ 7 ∷ 8 ∷ 9 ∷ 10 ∷ 16 ∷ 17 ∷ 18 ∷ 19 ∷ 20 ∷ []
 
@@ -142,8 +142,11 @@ defaulted_flag = 4
 abbrev pub all_list_flags : ℕ
 all_list_flags = auto_inherit_flag + protected_flag + defaulted_flag
 
+abbrev pub is_list_flags : ℕ → Bool
+is_list_flags bits = nat_le bits all_list_flags
+
 abbrev pub IsListFlags : ℕ → Type 0
-IsListFlags bits = bits ≤ all_list_flags
+IsListFlags bits = IsTrue (is_list_flags bits)
 
 -- whether a set of bits has the bit at this place
 abbrev pub has_bit : ℕ → ℕ → Bool

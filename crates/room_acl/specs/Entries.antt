@@ -1,10 +1,10 @@
 -- An entry of an access list, as contracts see it.
-use Rattle.std.specs.Prelude.{ℕ, Bool, true, false, not, List, Option, None, Some, if◌then◌else◌, IsTrue, codes}
+use Rattle.std.specs.Prelude.{ℕ, Bool, true, not, List, Option, None, Some, if◌then◌else◌, IsTrue, codes}
 use Rattle.std.specs.Str.{bytes_eq}
 use Rattle.room_acl.specs.declared.who.Who.{Who}
 use Rattle.room_acl.specs.declared.who.Who.TheVariants.{Owner, Group, Everyone, User, Members}
 use Rattle.room_acl.specs.Bits.{identifier_group, without_inherited, IsFlags, IsMask}
-use Rattle.room_acl.specs.Principals.{IsPrincipal, principal_from}
+use Rattle.room_acl.specs.Principals.{is_principal}
 
 -- type ALLOW or DENY, flags, mask and who (RFC 8881, sections 6.2.1.1 and 6.2.1.3 to 6.2.1.5)
 pub record EntryModel : Type 0 where
@@ -12,6 +12,10 @@ pub record EntryModel : Type 0 where
   pub flags : ℕ
   pub mask : ℕ
   pub who : Who
+
+-- 0 is ALLOW and 1 is DENY (RFC 8881, section 6.2.1.1)
+abbrev pub type_of : Bool → ℕ
+type_of allow = if allow then 0 else 1
 
 abbrev pub clear_inherited : EntryModel → EntryModel
 clear_inherited entry = record entry { flags = without_inherited entry.flags }
@@ -51,26 +55,18 @@ who_of flags text =
     else (if bytes_eq text everyone_text then Everyone
     else (if identifier_group flags then Members text else User text)))
 
--- a principal's name stands for a group, or else for a user
-abbrev pub named_who : Bool → Option (List ℕ) → Option Who
-named_who group None = None
-named_who true (Some name) = Some (Members name)
-named_who false (Some name) = Some (User name)
-
--- whom a text names beside these flags: nobody where it is neither a special name nor a principal's
-abbrev pub who_from : ℕ → List ℕ → Option Who
-who_from flags text =
-    if bytes_eq text owner_text then Some Owner
-    else (if bytes_eq text group_text then Some Group
-    else (if bytes_eq text everyone_text then Some Everyone
-    else named_who (identifier_group flags) (principal_from text)))
+-- a special name is one, and else it is a principal's
+abbrev pub is_who : Who → Bool
+is_who (User name) = is_principal name
+is_who (Members name) = is_principal name
+is_who special = true
 
 abbrev pub IsWho : Who → Type 0
-IsWho Owner = Unit {0}
-IsWho Group = Unit {0}
-IsWho Everyone = Unit {0}
-IsWho (User name) = IsPrincipal name
-IsWho (Members name) = IsPrincipal name
+IsWho who = IsTrue (is_who who)
+
+-- whom a text names beside these flags, where it names somebody
+abbrev pub who_from : ℕ → List ℕ → Option Who
+who_from flags text = if is_who (who_of flags text) then Some (who_of flags text) else None
 
 pub record IsEntry (entry : EntryModel) : Type 0 where
   pub flags : IsFlags entry.flags

@@ -2,7 +2,7 @@
 ghost use Rattle.std.specs.Prelude.{◌≡◌, ℕ, IfOk, IfSome, IsTrue};
 ghost use Rattle.room_acl.specs.Bits.{identifier_group};
 ghost use Rattle.room_acl.specs.Principals.{principal_from};
-ghost use Rattle.room_acl.specs.Entries.{names_its_kind, named_who, who_from, who_of, who_text, IsWho};
+ghost use Rattle.room_acl.specs.Entries.{names_its_kind, who_from, who_of, who_text, IsWho};
 
 use crate::flags::Flags;
 use crate::principal::Principal;

@@ -1,6 +1,6 @@
 -- The rows of the tables, as records. A value of another type
 -- than its column's has a meaning too, so that each row has one.
-use Rattle.std.specs.Prelude.{◌≡◌, ℕ, pos, Bool, ◌&&◌, ◌==◌, List, [], ◌∷◌, map, filter, Option, Some, None}
+use Rattle.std.specs.Prelude.{◌≡◌, ℕ, pos, Bool, true, ◌&&◌, ◌==◌, List, [], ◌∷◌, map, filter, Option, Some, None}
 use Rattle.std.specs.Prelude.{◌-◌, option_map, unwrap_or, if◌then◌else◌, codes}
 use Rattle.std.specs.List.{find}
 use Rattle.std.specs.Option.{option_or}
@@ -21,6 +21,7 @@ use Rattle.sqlite_keyed.specs.Lists.{sort_by}
 use Rattle.room_acl.specs.declared.subject.Kind.{Kind}
 use Rattle.room_acl.specs.declared.subject.Kind.TheVariants.{File, Folder}
 use Rattle.room_acl.specs.Entries.{EntryModel}
+use Rattle.room_acl.specs.Entries.{type_of}
 pub use Rattle.room_acl.specs.Entries.{who_of}
 use Rattle.room_slots.specs.KeptModel.{KeptModel}
 use Rattle.room_records.specs.declared.node.Node.{Node}
@@ -131,7 +132,7 @@ shown_entry row = column row 2 ∷ column row 3 ∷ column row 4 ∷ column row 
 
 abbrev pub entry_of : Row → EntryModel
 entry_of row = record {
-  allow = number_in (column row 1) == 0;
+  allow = number_in (column row 1) == type_of true;
   flags = number_in (column row 2);
   mask = number_in (column row 3);
   who = who_of (number_in (column row 2)) (text_in (column row 4));

@@ -10,6 +10,7 @@ use Rattle.sqlite.specs.State.{State}
 use Rattle.room_acl.specs.declared.subject.Kind.{Kind}
 use Rattle.room_acl.specs.declared.subject.Kind.TheVariants.{File, Folder}
 use Rattle.room_acl.specs.Entries.{EntryModel, IsEntry, who_text}
+pub use Rattle.room_acl.specs.Entries.{type_of}
 use Rattle.room_records.specs.declared.change.Change.{Change}
 use Rattle.room_records.specs.Records.{Records}
 use Rattle.room_records.specs.Changes.{apply_changes}
@@ -24,10 +25,6 @@ kind_number Folder = 1
 
 abbrev pub flag_of : Bool → ℕ
 flag_of b = if b then 1 else 0
-
--- 0 is ALLOW and 1 is DENY (RFC 8881, section 6.2.1.1)
-abbrev pub type_of : Bool → ℕ
-type_of allow = if allow then 0 else 1
 
 abbrev pub IsReadBack : EntryModel → Type 0
 IsReadBack e = who_of e.flags (who_text e.who) ≡ e.who

@@ -1,5 +1,5 @@
 -- Commands out of bodies: the member cmd names the command, and the other members are its parts.
-use Rattle.std.specs.Prelude.{◌≡◌, ℕ, ◌+◌, ◌==◌, ◌&&◌, Bool, true, nat_le, List, [], drop}
+use Rattle.std.specs.Prelude.{◌≡◌, ℕ, ◌+◌, ◌==◌, ◌&&◌, Bool, true, List, [], drop}
 use Rattle.std.specs.Prelude.{Option, None, Some}
 use Rattle.std.specs.Prelude.{Result, Ok, Err, if◌then◌else◌, option_and_then, option_map, codes, bytes_eq}
 use Rattle.std.specs.List.{slice_split}
@@ -8,7 +8,7 @@ use Rattle.serde_json.specs.Data.{Data}
 use Rattle.serde_json.specs.Find.{get, as_bool}
 use Rattle.base64.specs.Engines.{standard}
 use Rattle.base64.specs.GeneralPurpose.{decoded_of}
-use Rattle.room_acl.specs.Bits.{all_list_flags}
+use Rattle.room_acl.specs.Bits.{is_list_flags}
 use Rattle.room_records.specs.Names.{Path, is_path, path_text}
 use Rattle.room_commands.specs.declared.command.Command.{Command}
 use Rattle.room_commands.specs.CommandModel.{CommandModel, command_model}
@@ -37,7 +37,7 @@ abbrev pub path_at : List ℕ → Data → Option Path
 path_at name d = option_and_then path_from (text_at name d)
 
 abbrev pub list_flags_from : ℕ → Option ℕ
-list_flags_from n = if nat_le n all_list_flags then Some n else None
+list_flags_from n = if is_list_flags n then Some n else None
 
 abbrev pub verb_from : List ℕ → Option Verb
 verb_from text =

@@ -10,8 +10,8 @@ use Rattle.room_acl.specs.declared.subject.Kind.{Kind}
 use Rattle.room_acl.specs.declared.subject.Kind.TheVariants.{File, Folder}
 use Rattle.room_acl.specs.Bits.{is_mask, is_flags}
 pub use Rattle.room_acl.specs.Principals.{is_principal, principal_from}
-use Rattle.room_acl.specs.Entries.{EntryModel}
-pub use Rattle.room_acl.specs.Entries.{named_who, who_from}
+use Rattle.room_acl.specs.Entries.{EntryModel, type_of}
+pub use Rattle.room_acl.specs.Entries.{who_from}
 
 -- the JSON value of a body: it is UTF-8, and one value
 abbrev pub json_of : List ℕ → Option Data
@@ -47,9 +47,9 @@ abbrev pub kind_from : List ℕ → Option Kind
 kind_from text = if bytes_eq text (codes "file") then Some File
     else (if bytes_eq text (codes "folder") then Some Folder else None)
 
--- type 0 allows, and type 1 denies
+-- whether an entry of this type allows, where it is a type
 abbrev pub allow_from : ℕ → Option Bool
-allow_from n = if n == 0 then Some true else (if n == 1 then Some false else None)
+allow_from n = if n == type_of true then Some true else (if n == type_of false then Some false else None)
 
 -- the entry of these flags and this mask, which allows or not, and of the text of whom it is for
 abbrev pub entry_from : ℕ × (ℕ × (Bool × List ℕ)) → Option EntryModel

@@ -1,5 +1,5 @@
 -- The texts of commands and replies: compact JSON, with members in byte order of their names.
-use Rattle.std.specs.Prelude.{ℕ, Bool, true, false, List, [], ◌∷◌, Option, None, Some, codes}
+use Rattle.std.specs.Prelude.{ℕ, List, [], ◌∷◌, Option, None, Some, codes}
 use Rattle.serde_json.specs.Data.{Data, Items, Members, number, string, array, object, no_items, item}
 use Rattle.serde_json.specs.Data.{no_members, member, unsigned}
 use Rattle.serde_json.specs.Written.{compact_text}
@@ -7,7 +7,7 @@ use Rattle.base64.specs.Engines.{standard}
 use Rattle.base64.specs.GeneralPurpose.{encode_of}
 use Rattle.room_acl.specs.declared.subject.Kind.{Kind}
 use Rattle.room_acl.specs.declared.subject.Kind.TheVariants.{File, Folder}
-use Rattle.room_acl.specs.Entries.{EntryModel}
+use Rattle.room_acl.specs.Entries.{EntryModel, type_of}
 pub use Rattle.room_acl.specs.Entries.{who_text}
 use Rattle.room_records.specs.Names.{Name, Path, path_text}
 use Rattle.room_commands.specs.declared.reply.RefusalCode.{RefusalCode}
@@ -38,13 +38,9 @@ members (m ∷ ms) = member m.0 m.1 (members ms)
 abbrev pub obj : List (List ℕ × Data) → Data
 obj ms = object (members ms)
 
-abbrev pub entry_type : Bool → Data
-entry_type true = num 0
-entry_type false = num 1
-
 abbrev pub entry : EntryModel → Data
 entry e = obj ((codes "flag", num e.flags) ∷ (codes "mask", num e.mask)
-    ∷ (codes "type", entry_type e.allow) ∷ (codes "who", string (who_text e.who)) ∷ [])
+    ∷ (codes "type", num (type_of e.allow)) ∷ (codes "who", string (who_text e.who)) ∷ [])
 
 abbrev pub entries : List EntryModel → Items
 entries [] = no_items

@@ -1,21 +1,18 @@
 -- Numbers in targets, and names of users.
-use Rattle.std.proofs.Common.{◌≡◌, ℕ, ◌^◌, ◌<◌, ◌==◌, ◌&&◌, ◌||◌, Bool, true, false, List, [], ◌∷◌, length, cond, refl}
+use Rattle.std.proofs.Common.{◌≡◌, ℕ, ◌^◌, ◌<◌, ◌==◌, ◌&&◌, ◌||◌, Bool, true, false, List, length, cond, refl}
 use Rattle.std.proofs.Common.{sym, ap, ◌∙◌, arith, rules, Some, None, Result, Ok, Err}
 use Rattle.std.specs.Prelude.{nat_lt, nat_le, not, slice_index}
 use Rattle.std.proofs.lemmas.Result.{OkIff-at_ok, OkIff-at_err}
 use Rattle.std.specs.Char.{is_ascii_digit}
 use Rattle.std.specs.List.{list_all}
-use Rattle.std.specs.Str.{IsAscii, IsUtf8}
+use Rattle.std.specs.Str.{IsUtf8}
 use Rattle.std.specs.Str.Parse.{digits_value, ParsesUnsigned}
 use Rattle.std.proofs.lemmas.Bool.{and_parts}
 use Rattle.std.proofs.lemmas.Bool.Decides.{nat_tests}
-use Rattle.std.proofs.lemmas.Str.{IsUtf8-from_ascii}
-use Rattle.std.proofs.lemmas.Str.Ascii.{IsAscii-nil, IsAscii-cons}
 use Rattle.std.proofs.lemmas.Str.Parse.{IsNumeralModel, numerals_by_value, parse_digits}
-use Rattle.room_acl.specs.Principals.{is_principal_byte}
+use Rattle.room_acl.proofs.WhoTexts.{principal_utf8}
 use Rattle.room_wire.specs.Asks.AskOf.{is_number, number_from}
 use Rattle.room_wire.specs.Forms.Reading.{is_principal, principal_from}
-use Rattle.room_wire.proofs.Lemmas.Forms.CommandParts.{principal_bytes}
 
 abbrev AreDigits : List ℕ → Type 0
 AreDigits ds = list_all is_ascii_digit ds ≡ true
@@ -55,18 +52,9 @@ number_none E text r fault h p e =
     let some : 0 < length text = grind (arith, nat_tests) in
     no_number text (nat_lt (digits_value 10 text) (2 ^ 32)) h refl (λ below. read (some, below))
 
-principal_byte : (b : ℕ) → is_principal_byte b ≡ true → b < 128
-principal_byte b h = grind (arith, nat_tests)
-
-ascii_name : (text : List ℕ) → list_all is_principal_byte text ≡ true → IsAscii text
-ascii_name [] h = IsAscii-nil
-ascii_name (b ∷ text) h =
-    let parts = and_parts (is_principal_byte b) (list_all is_principal_byte text) h in
-    IsAscii-cons b text (principal_byte b parts.0) (ascii_name text parts.1)
-
 principal_by : (text : List ℕ) (b : Bool) → is_principal text ≡ b → ¬ (IsUtf8 text) → principal_from text ≡ None
 principal_by text true h other =
-    absurd (other (IsUtf8-from_ascii text (ascii_name text (principal_bytes text h))))
+    absurd (other (principal_utf8 text h))
 principal_by text false h other = ap (λ b. cond b (Some text) None) h
 
 -- a text that is not UTF-8 names no principal

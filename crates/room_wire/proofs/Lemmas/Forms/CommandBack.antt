@@ -1,11 +1,9 @@
 -- The text of a lawful command is that of a body that asks it.
 use Rattle.std.proofs.Common.{◌≡◌, ◌≤◌, ◌<◌, ◌^◌, ℕ, Bool, true, false, List, [], ◌∷◌, refl, sym, ap}
 use Rattle.std.proofs.Common.{◌∙◌, arith, Option, Some, codes}
-use Rattle.std.specs.Prelude.{IsUtf8, nat_lt, option_map, option_and_then}
-use Rattle.std.specs.List.{list_all, flat_map, AllByRecursion}
+use Rattle.std.specs.Prelude.{IsUtf8, option_map, option_and_then}
+use Rattle.std.specs.List.{flat_map, AllByRecursion}
 use Rattle.std.specs.Option.{option_zip}
-use Rattle.std.proofs.lemmas.Bool.{and_parts, and_from}
-use Rattle.std.proofs.lemmas.Bool.Decides.{nat_tests}
 use Rattle.std.proofs.lemmas.Option.{same_Some}
 use Rattle.std.proofs.lemmas.Str.{IsUtf8-append, IsUtf8-from_ascii, IsUtf8-nil}
 use Rattle.json.specs.Tree.{HasNumbers, ItemsHaveNumbers, depth, items_depth}
@@ -17,22 +15,20 @@ use Rattle.serde_json.specs.Written.{outline, items_outline, compact_text}
 use Rattle.base64.specs.Engines.{standard}
 use Rattle.base64.specs.GeneralPurpose.{encode_of}
 use Rattle.base64.proofs.EngineFacts.{IsAscii-encode_of}
-use Rattle.room_acl.specs.declared.who.Who.{Who}
-use Rattle.room_acl.specs.declared.who.Who.TheVariants.{User, Members}
-use Rattle.room_acl.specs.Entries.{EntryModel}
-use Rattle.room_acl.specs.Principals.{IsPrincipal, is_principal_byte}
+use Rattle.room_acl.specs.Entries.{EntryModel, type_of}
+use Rattle.room_acl.proofs.WhoTexts.{principal_utf8, who_utf8}
 use Rattle.room_records.specs.Names.{Path, IsFileName, IsPath, path_text}
 use Rattle.room_commands.specs.CommandModel.{CommandModel}
 use Rattle.room_commands.specs.CommandModel as C
-use Rattle.room_commands.specs.Lawful.{IsWho, IsEntry, IsLawful}
-use Rattle.room_wire.specs.Forms.Texts.{who_text, entry_type, entry, entries, at, cmd, num, obj, path, bytes}
+use Rattle.room_commands.specs.Lawful.{IsEntry, IsLawful}
+use Rattle.room_wire.specs.Forms.Texts.{who_text, entry, entries, at, cmd, num, obj, path, bytes}
 use Rattle.room_wire.specs.Forms.Texts.{members, command_data, command_text}
 use Rattle.room_wire.specs.Forms.Commands.{of_path, command_in, keep_at, asked_in, command_of_body}
 use Rattle.room_wire.specs.declared.forms.commands.PathVerb.TheVariants as P
 use Rattle.room_wire.proofs.Lemmas.Forms.Bodies.{json_some}
 use Rattle.room_wire.proofs.Lemmas.Forms.CommandBytes.{bytes_back}
-use Rattle.room_wire.proofs.Lemmas.Forms.CommandParts.{path_back, list_flags_back, flags_small, mask_small, mask_back}
-use Rattle.room_wire.proofs.Lemmas.Forms.CommandParts.{principal_bytes}
+use Rattle.room_wire.proofs.Lemmas.Forms.CommandParts.{path_back, list_flags_back, list_flags_small, flags_small}
+use Rattle.room_wire.proofs.Lemmas.Forms.CommandParts.{mask_small, mask_back}
 use Rattle.room_records.proofs.PathParts.{name_parts, path_parts}
 use Rattle.room_wire.proofs.Lemmas.Forms.CommandParts.{principal_back, entries_back}
 use Rattle.room_wire.proofs.Lemmas.Forms.CommandTexts.{ReadsBack, text_reads, number_back, put_all, object_back}
@@ -83,22 +79,22 @@ flags_fit e h = let small = flags_small e.flags h.flags in omega (arith, small)
 mask_fits : (e : EntryModel) → IsEntry e → e.mask < 2 ^ 64
 mask_fits e h = let small = mask_small e.mask h.mask in omega (arith, small)
 
-type_read : (b : Bool) → of_json (outline (entry_type b)) ≡ Some (entry_type b)
+type_read : (b : Bool) → of_json (outline (num (type_of b))) ≡ Some (num (type_of b))
 type_read true = number_back 0 (omega arith)
 type_read false = number_back 1 (omega arith)
 
-type_has_number : (b : Bool) → HasNumbers (outline (entry_type b))
+type_has_number : (b : Bool) → HasNumbers (outline (num (type_of b)))
 type_has_number true = IsNumber-decimal 0 (omega arith)
 type_has_number false = IsNumber-decimal 1 (omega arith)
 
-type_depth : (b : Bool) → depth (outline (entry_type b)) ≡ 0
+type_depth : (b : Bool) → depth (outline (num (type_of b))) ≡ 0
 type_depth true = refl
 type_depth false = refl
 
 entry_read : (e : EntryModel) → IsEntry e → of_json (outline (entry e)) ≡ Some (entry e)
 entry_read e h =
     object_back ((codes "flag", num e.flags) ∷ (codes "mask", num e.mask)
-    ∷ (codes "type", entry_type e.allow) ∷ (codes "who", string (who_text e.who)) ∷ [])
+    ∷ (codes "type", num (type_of e.allow)) ∷ (codes "who", string (who_text e.who)) ∷ [])
     (number_back e.flags (flags_fit e h), (number_back e.mask (mask_fits e h), (type_read e.allow, (refl, tt)))) refl
 
 entries_read : (es : List EntryModel) → AllByRecursion IsEntry es
@@ -151,7 +147,7 @@ command_reads (C.Rename p to) h =
     (refl, (refl, (refl, tt))) refl
 command_reads (C.GetList p) h = path_reads (codes "GETLIST") p
 command_reads (C.SetList flags es p) h =
-    let small : flags < 2 ^ 64 = let low = h.0 in omega (arith, low) in
+    let small : flags < 2 ^ 64 = let low = list_flags_small flags h.0 in omega (arith, low) in
     let deep = entries_depth es in
     let read_all : of_json (outline (array (entries es))) ≡ Some (array (entries es)) =
     ap (option_map array) (entries_read es h.1) in
@@ -181,26 +177,10 @@ path_utf8 (name ∷ path) h = names_utf8 (name ∷ path) (path_parts (name ∷ p
 at_utf8 : (path : Path) → IsPath path → MembersHaveUtf8 (members (at path ∷ []))
 at_utf8 path h = (IsUtf8-are_ascii (codes "path") refl, path_utf8 path h, tt)
 
-byte_ascii : (b : ℕ) → is_principal_byte b ≡ true → nat_lt b 128 ≡ true
-byte_ascii b h = grind (arith, nat_tests)
-
-all_ascii : (text : List ℕ) → list_all is_principal_byte text ≡ true → are_ascii text ≡ true
-all_ascii [] h = refl
-all_ascii (b ∷ text) h = let p = and_parts (is_principal_byte b) _ h in
-    and_from _ _ (byte_ascii b p.0) (all_ascii text p.1)
-
-principal_utf8 : (text : List ℕ) → IsPrincipal text → IsUtf8 text
-principal_utf8 text h = IsUtf8-are_ascii text (all_ascii text (principal_bytes text h))
-
 bytes_utf8 : (b : List ℕ) → IsUtf8 (encode_of standard b)
 bytes_utf8 b = IsUtf8-from_ascii _ (IsAscii-encode_of standard b)
 
-who_utf8 : (who : Who) → IsWho who → IsUtf8 (who_text who)
-who_utf8 (User name) h = principal_utf8 name h
-who_utf8 (Members name) h = principal_utf8 name h
-who_utf8 who h = IsUtf8-are_ascii _ refl
-
-type_utf8 : (b : Bool) → HasUtf8 (entry_type b)
+type_utf8 : (b : Bool) → HasUtf8 (num (type_of b))
 type_utf8 true = digits_are_utf8 0 (omega arith)
 type_utf8 false = digits_are_utf8 1 (omega arith)
 
@@ -245,7 +225,7 @@ command_utf8 (C.Rename p to) h =
     (IsUtf8-are_ascii (codes "path") refl, path_utf8 p h.0, (IsUtf8-are_ascii (codes "to") refl, path_utf8 to h.1, tt))
 command_utf8 (C.GetList p) h = cmd_utf8 (codes "GETLIST") (at p ∷ []) refl (at_utf8 p h)
 command_utf8 (C.SetList flags es p) h =
-    let small : flags < 2 ^ 64 = let low = h.0 in omega (arith, low) in (
+    let small : flags < 2 ^ 64 = let low = list_flags_small flags h.0 in omega (arith, low) in (
       IsUtf8-are_ascii (codes "aclflag") refl,
       digits_are_utf8 flags small,
       cmd_utf8 (codes "SETLIST") ((codes "entries", array (entries es)) ∷ at p ∷ []) refl

@@ -1,26 +1,25 @@
 -- A command that a body asks is lawful, where its bytes are bytes.
 use Rattle.std.proofs.Common.{◌≡◌, ℕ, suc, Bool, true, false, List, [], ◌∷◌, get_or, cond, refl}
 use Rattle.std.proofs.Common.{sym, ap, subst, arith, Option, None, Some, codes, Fits, w8}
-use Rattle.std.specs.Prelude.{IsTrue, not, nat_le, bytes_eq, option_map, option_and_then}
+use Rattle.std.specs.Prelude.{IsTrue, option_map, option_and_then}
 use Rattle.std.specs.List.{AllByRecursion}
 use Rattle.std.specs.Option.{option_zip}
-use Rattle.std.proofs.lemmas.Bool.{leb-true}
 use Rattle.std.proofs.lemmas.Option.{cond_some, same_Some, option_and_then_some}
 use Rattle.serde_json.specs.Data.{Data, Items, no_items, item}
 use Rattle.serde_json.specs.Find.{as_array, get}
 use Rattle.base64.specs.Engines.{standard}
 use Rattle.base64.specs.GeneralPurpose.{decoded_of}
 use Rattle.room_acl.specs.declared.who.Who.{Who}
-use Rattle.room_acl.specs.declared.who.Who.TheVariants.{Owner, Group, Everyone, User, Members}
-use Rattle.room_acl.specs.Bits.{is_flags, IsFlags, IsListFlags, is_mask, IsMask, all_list_flags, identifier_group}
-use Rattle.room_acl.specs.Entries.{EntryModel, names_its_kind}
+use Rattle.room_acl.specs.Bits.{is_flags, IsFlags, is_list_flags, IsListFlags, is_mask, IsMask}
+use Rattle.room_acl.specs.Entries.{EntryModel, names_its_kind, is_who, who_of}
 use Rattle.room_acl.specs.Principals.{IsPrincipal}
+use Rattle.room_acl.proofs.WhoTexts.{who_of_kind}
 use Rattle.room_records.specs.Names.{Path, IsPath}
 use Rattle.room_commands.specs.CommandModel.{CommandModel}
 use Rattle.room_commands.specs.CommandModel as C
 use Rattle.room_commands.specs.Lawful.{AreBytes, IsWho, IsEntry, IsLawful}
 use Rattle.room_wire.specs.Forms.Reading.{has_count, json_of, number_at, text_at, mask_from, mask_at, flags_from}
-use Rattle.room_wire.specs.Forms.Reading.{allow_from, is_principal, principal_from, principal_at, named_who, who_from}
+use Rattle.room_wire.specs.Forms.Reading.{allow_from, is_principal, principal_from, principal_at, who_from}
 use Rattle.room_wire.specs.Forms.Reading.{entry_from, entry_in, all_among, all_at}
 use Rattle.room_wire.specs.Forms.Commands.{path_from, path_at, list_flags_from, verb_from, of_path, of_bytes, has_parts}
 use Rattle.room_wire.specs.Forms.Commands.{verb_command, command_in, keep_at, asked_in, command_of_body, bytes_in}
@@ -67,8 +66,8 @@ mask_fact n mask e =
     let parts = cond_some (is_mask n) n mask e in subst IsMask parts.1 parts.0
 
 list_flags_fact : (n flags : ℕ) → list_flags_from n ≡ Some flags → IsListFlags flags
-list_flags_fact n flags e = let parts = cond_some (nat_le n all_list_flags) n flags e in
-    subst IsListFlags parts.1 (leb-true n all_list_flags parts.0)
+list_flags_fact n flags e =
+    let parts = cond_some (is_list_flags n) n flags e in subst IsListFlags parts.1 parts.0
 
 path_at_fact : (name : List ℕ) (d : Data) (path : Path) → path_at name d ≡ Some path → IsPath path
 path_at_fact name d path e =
@@ -95,24 +94,10 @@ list_flags_at_fact name d n e =
 abbrev IsNamed : ℕ → Who → Type 0
 IsNamed flags who = IsWho who × IsTrue (names_its_kind flags who)
 
-who_by : (flags : ℕ) (who : Who) (owner group everyone member : Bool) (name : Option (List ℕ))
-    → identifier_group flags ≡ member → ((text : List ℕ) → name ≡ Some text → IsPrincipal text)
-    → cond owner (Some Owner) (cond group (Some Group) (cond everyone (Some Everyone) (named_who member name)))
-    ≡ Some who → IsNamed flags who
-who_by flags who true group everyone member name is lawful e = subst (IsNamed flags) (same_Some Owner who e) (tt, refl)
-who_by flags who false true everyone member name is lawful e = subst (IsNamed flags) (same_Some Group who e) (tt, refl)
-who_by flags who false false true member name is lawful e = subst (IsNamed flags) (same_Some Everyone who e) (tt, refl)
-who_by flags who false false false member None is lawful e = absurd cc
-who_by flags who false false false true (Some text) is lawful e =
-    subst (IsNamed flags) (same_Some (Members text) who e) (lawful text refl, is)
-who_by flags who false false false false (Some text) is lawful e =
-    subst (IsNamed flags) (same_Some (User text) who e) (lawful text refl, ap not is)
-
 who_fact : (flags : ℕ) (text : List ℕ) (who : Who) → who_from flags text ≡ Some who → IsNamed flags who
 who_fact flags text who e =
-    who_by flags who (bytes_eq text (codes "OWNER@")) (bytes_eq text (codes "GROUP@"))
-    (bytes_eq text (codes "EVERYONE@")) (identifier_group flags) (principal_from text) refl
-    (λ name made. principal_fact text name made) e
+    let parts = cond_some (is_who (who_of flags text)) (who_of flags text) who e in
+    subst (IsNamed flags) parts.1 (parts.0, who_of_kind flags text)
 
 entry_fact : (d : Data) (e : EntryModel) → entry_in d ≡ Some e → IsEntry e
 entry_fact d e made =
