@@ -107,7 +107,7 @@ ask_for (Some target) caller body = ask_at target.action caller target body
 -- what a message asks of a room with these users: the route and its method, then the user, then all else
 abbrev pub ask_of : List SubjectModel → MessageModel → Result AskModel WireFault
 ask_of users m = ask_for (room_target m.head.method m.head.target)
-    (caller_by users (values_named (codes "room-user") (fields_of m))) m.body
+    (caller_by users (values_named (codes "room-user") (fields_of m.head))) m.body
 
 -- the result is what was asked, unless memory was refused
 abbrev pub DecodesAs : {X A : Type 0} → (X → A) → Result A WireFault → Result X WireFault → Type 0

@@ -10,15 +10,15 @@ pub record MessageModel : Type 0 where
   pub body : List ℕ
 
 -- names and values, without the white space round each value
-abbrev pub fields_of : MessageModel → List (List ℕ × List ℕ)
-fields_of m = map name_and_value m.head.fields
+abbrev pub fields_of : RequestHead → List (List ℕ × List ℕ)
+fields_of h = map name_and_value h.fields
 
 abbrev pub print_message : MessageModel → List ℕ
 print_message m = print_request m.head ++ m.body
 
 -- the length of the body, if the head's fields state one
 abbrev pub body_after : RequestHead → Option ℕ
-body_after h = body_length (map name_and_value h.fields)
+body_after h = body_length (fields_of h)
 
 -- the head is one of the grammar, within the limits, and the fields state the length of the body
 pub record IsMessage (m : MessageModel) : Type 0 where

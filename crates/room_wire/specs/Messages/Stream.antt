@@ -19,7 +19,7 @@ asks_to_close fields = list_any lists_close (values_named (codes "connection") f
 
 -- the message is last: HTTP/1.0, or it asks to close
 abbrev pub is_last : MessageModel → Bool
-is_last m = (m.head.minor == 0) || asks_to_close (fields_of m)
+is_last m = (m.head.minor == 0) || asks_to_close (fields_of m.head)
 
 -- these messages stand at the front, none of them last, and then the rest
 abbrev pub Follows : List ℕ → List MessageModel → List ℕ → Type 0

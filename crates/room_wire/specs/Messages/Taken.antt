@@ -13,7 +13,7 @@ use Rattle.room_wire.specs.Messages.MessageModel.{fields_of, body_after}
 pub record Shows (message : Message) (m : MessageModel) : Type 0 where
   pub method : message.method.now ≡ m.head.method
   pub target : message.target.now ≡ m.head.target
-  pub fields : map (header_bytes message.window.now) (take message.count message.spans) ≡ fields_of m
+  pub fields : map (header_bytes message.window.now) (take message.count message.spans) ≡ fields_of m.head
   pub body : message.body.now ≡ m.body
   pub minor : message.minor ≡ m.head.minor
   pub size : message.size ≡ length (print_message m)
