@@ -1,6 +1,6 @@
 -- What a change does to the rows.
 use Rattle.std.specs.Prelude.{◌≡◌, ◌<◌, ℕ, ◌==◌, ◌&&◌, List, [], ◌∷◌, Option, None, Some, if◌then◌else◌}
-use Rattle.std.specs.List.{AllByRecursion}
+use Rattle.std.specs.List.{AllByRecursion, fold}
 use Rattle.std.specs.Str.{bytes_eq}
 use Rattle.room_slots.specs.KeptModel.{KeptModel}
 use Rattle.room_records.specs.declared.change.Change.{Change}
@@ -57,24 +57,23 @@ apply_change change r = record {
 }
 
 abbrev pub apply_all_to_objects : List Change → ObjectRecords → ObjectRecords
-apply_all_to_objects [] t = t
-apply_all_to_objects (change ∷ changes) t = apply_all_to_objects changes (apply_to_objects change t)
+apply_all_to_objects changes t = fold (λ t change. apply_to_objects change t) t changes
 
 abbrev pub apply_changes : List Change → Records → Records
-apply_changes [] r = r
-apply_changes (change ∷ changes) r = apply_changes changes (apply_change change r)
+apply_changes changes r = fold (λ r change. apply_change change r) r changes
 
--- the record rules hold after each change
+-- the rules hold after each change, as it is applied
+abbrev pub HoldAfterEach : {R : Type 0} → (R → Type 0) → (Change → R → R) → List Change → R → Type 0
+HoldAfterEach Rules apply [] r = Unit {0}
+HoldAfterEach Rules apply (change ∷ changes) r =
+    Rules (apply change r) × HoldAfterEach Rules apply changes (apply change r)
+
 abbrev pub RulesHoldAfterEach : List Change → Records → Type 0
-RulesHoldAfterEach [] r = Unit {0}
-RulesHoldAfterEach (change ∷ changes) r =
-    RulesHold (apply_change change r) × RulesHoldAfterEach changes (apply_change change r)
+RulesHoldAfterEach changes r = HoldAfterEach RulesHold apply_change changes r
 
--- the rules on nodes, entries and documents hold after each change
+-- those on nodes, entries and documents alone
 abbrev pub ObjectRulesHoldAfterEach : List Change → ObjectRecords → Type 0
-ObjectRulesHoldAfterEach [] t = Unit {0}
-ObjectRulesHoldAfterEach (change ∷ changes) t =
-    ObjectRules (apply_to_objects change t) × ObjectRulesHoldAfterEach changes (apply_to_objects change t)
+ObjectRulesHoldAfterEach changes t = HoldAfterEach ObjectRules apply_to_objects changes t
 
 -- changes that leave this reading of the records as it is, whatever the records are
 abbrev pub Leave : {R : Type 0} → (Records → R) → List Change → Type 0
