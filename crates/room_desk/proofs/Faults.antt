@@ -18,12 +18,9 @@ pub memory_after : {T : Type 0} (a b : View) (r : Result T ShelfFault)
     → IsErr r → IsErrAnd r (λ e. e ≡ Memory) → ShelfRead a b None → ShelfCall a b (fault_in r)
 memory_after a b (Ok x) err is read = absurd cc
 memory_after a b (Err e) err is read = rw is (record {
-  was_intact = read.call.was_intact;
-  was_available = read.call.was_available;
-  laid_out = read.call.laid_out;
+  frame = read.call.frame;
   left_laid_out = λ k h d. read.stays_laid_out k;
   alive = λ k h. tt;
-  never_falls = read.call.never_falls;
   quiet = λ other. read.call.quiet (none_not_store Store);
   store = λ stored. absurd cc;
   undone = read.same;

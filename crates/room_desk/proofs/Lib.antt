@@ -26,7 +26,6 @@ pub mod OwnRequests
 pub mod Beginnings
 mod Examples
 mod AlikeExamples
-pub mod Calls
 pub mod Faults
 pub mod Messages
 pub mod Sent

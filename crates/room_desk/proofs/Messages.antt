@@ -4,7 +4,7 @@ use Rattle.std.proofs.Common.{Result, Ok, Err, Option, inl, inr}
 use Rattle.room_acl.specs.SubjectModel.{SubjectModel}
 use Rattle.room_records.specs.Records.{Records}
 use Rattle.room_records.specs.Room.{Room}
-use Rattle.room_records.specs.Shelf.{View}
+use Rattle.room_records.specs.Shelf.{View, ShelfFrame}
 use Rattle.room_wire.specs.declared.answers.code.Code.TheVariants.{Delay}
 use Rattle.room_wire.specs.declared.fault.WireFault.{WireFault}
 use Rattle.room_wire.specs.declared.fault.WireFault.TheVariants.{Memory}
@@ -23,9 +23,9 @@ use Rattle.room_desk.specs.AnswerModel.{AnswerModel, Refused}
 use Rattle.room_desk.specs.History.{History}
 use Rattle.room_desk.specs.Representation.{StandsFor}
 use Rattle.room_wire.proofs.Lemmas.Serving.Rounds.{no_output, first_answered, with_first}
-use Rattle.room_desk.specs.Serving.{AnswersOrDelays, AnswersMessage, DeskCall, Answered, IsLeftAlone}
+use Rattle.room_desk.specs.Serving.{AnswersOrDelays, AnswersMessage, Answered, IsLeftAlone}
 use Rattle.room_desk.specs.Serving.{MayAnswer}
-use Rattle.room_desk.proofs.Calls.{no_call, calls_then}
+use Rattle.room_records.proofs.Shelves.{no_call, calls_then}
 use Rattle.room_desk.proofs.Shorthands.{AskChangesFew}
 
 -- what is answered otherwise than by DELAY and asks no event changes nothing
@@ -79,7 +79,7 @@ module _ {S : Type 0} (view : S → View) where
   -- the shelf after some messages
   pub record Served (users : List SubjectModel) (before : S)
       (ms : List MessageModel) (out : List ℕ) (after : S) : Type 0 where
-    pub frame : DeskCall (view before) (view after)
+    pub frame : ShelfFrame (view before) (view after)
     pub run : (view after).is_intact → (start : Room) (past : History) → StandsFor start past (view before)
         → (next : History) × Outputs (AnswersMessage users start) past ms out next × StandsFor start next (view after)
 
@@ -103,7 +103,7 @@ module _ {S : Type 0} (view : S → View) where
   -- the shelf after a stream that was served
   pub record ServedStream (users : List SubjectModel) (before after : S)
       (left later old new : Option (List ℕ)) (why : Why) (count : ℕ) : Type 0 where
-    pub frame : DeskCall (view before) (view after)
+    pub frame : ShelfFrame (view before) (view after)
     pub run : (view after).is_intact → (start : Room) (past : History) → StandsFor start past (view before)
         → (next : History) × Serves (AnswersMessage users start) past next left later old new why count
         × StandsFor start next (view after)

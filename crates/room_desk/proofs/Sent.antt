@@ -25,15 +25,14 @@ use Rattle.room_desk.specs.Serving.{Answered, may_ask_shelf}
 use Rattle.room_desk.specs.Trying.{EventTried, JoinsHistory}
 use Rattle.room_desk.proofs.Alike.{stand_after_idle}
 use Rattle.room_desk.proofs.Bodies.{kept_text}
-use Rattle.room_desk.proofs.Calls.{one_call}
 use Rattle.room_desk.proofs.Trying.{idle_few, tried_after_read}
 
 -- rows that were read stand for what they stood for
 stand_after_read : {a b : View} {fault : Option ShelfFault} → ShelfRead a b fault → (start : Room) (past : History)
     → StandsFor start past a → StandsFor start past b
 stand_after_read read start past stands = λ h.
-    let stood = stands (read.call.was_available h) in
-    (read.call.laid_out h stood.0, rw (read.same h stood.0) stood.1)
+    let stood = stands (read.call.frame.was_available h) in
+    (read.call.frame.laid_out h stood.0, rw (read.same h stood.0) stood.1)
 
 -- an event, or what should have been one, may ask for rows
 pub event_may_ask : (event : Option EventModel) → may_ask_shelf (event_asked event) ≢ false
@@ -44,7 +43,7 @@ event_may_ask (Some event) none = absurd (cc)
 pub delayed_by_read : (event : Option EventModel) (a b : View) (fault : Option ShelfFault)
     → ShelfRead a b fault → Answered (event_asked event) a (Refused Delay) b
 delayed_by_read event a b fault read = record {
-  frame = one_call a b fault read.call;
+  frame = read.call.frame;
   quiet = λ other. absurd (other refl);
   alive = λ k asked is other. absurd (other refl);
   step = λ k start past stands. (past, inr (refl, refl), stand_after_read read start past stands);
@@ -60,7 +59,7 @@ delayed_by_read event a b fault read = record {
 refused_by_body : {a b : View} → ShelfRead a b None → (b.is_intact → b.is_available)
     → Answered (Err W.BadRequest) a (Refused BadRequest) b
 refused_by_body {a} {b} read there = record {
-  frame = one_call a b None read.call;
+  frame = read.call.frame;
   quiet = λ other. read.call.quiet (none_not_store Store);
   alive = λ k event is other. there k;
   step = λ k start past stands. (past, inl (refl, refl), stand_after_read read start past stands);
@@ -91,16 +90,19 @@ pub answered_by_kept : (sent : SentRequest) {found : Found} {a b : View} {answer
     → (b.is_available → a.is_laid_out → found ≡ found_by a.records sent.subject sent.sid sent.slot sent.seq)
     → AnswersText found sent.seq sent.body.now answered → Answered (event_asked (sent_event sent)) a answered b
 answered_by_kept sent {found} {a} {b} {answered} read there tells (kept, again, same, told) = record {
-  frame = one_call a b None read.call;
+  frame = read.call.frame;
   quiet = λ other. read.call.quiet (none_not_store Store);
   alive = λ k event is other. there k;
   step = λ k start past stands.
-      let (d, stand) = stands (read.call.was_available (there k)) in
+      let (d, stand) = stands (read.call.frame.was_available (there k)) in
       let found_is = sym (tells (there k) d) ∙ again in
       let (event, asks, says, idle) = kept_text stand sent kept found_is answered same told in (
         event ∷ past,
         rw asks (inl (says, refl)),
-        λ h. (read.call.laid_out h d, rw (read.same h d) (stand_after_idle start a.records past event idle stand)),
+        λ h. (
+          read.call.frame.laid_out h d,
+          rw (read.same h d) (stand_after_idle start a.records past event idle stand),
+        ),
       );
   refused = λ h d away. read.same h d;
   idle = λ h d start past stand idle. read.same h d;
@@ -122,4 +124,4 @@ pub tried_by_found : {q : Request} {found : Found} {a b c : View} {r : Result An
     → EventTried (Slot q) a c r
 tried_by_found read there found call refused joins =
     tried_after_read read there call refused (λ start past h d stand.
-    joins h (read.call.laid_out h d) start past stand (rw (read.same h d) (found h d)))
+    joins h (read.call.frame.laid_out h d) start past stand (rw (read.same h d) (found h d)))

@@ -1,6 +1,6 @@
 -- Calls that try an event: by reads alone, by a commit, and after a read.
 use Rattle.std.proofs.Common.{◌≡◌, ◌∙◌, refl, subst, false, true, inl, inr, ◌∷◌, None}
-use Rattle.std.proofs.Common.{Some, Result, Ok, Err, IfOk, OnOk}
+use Rattle.std.proofs.Common.{Result, Ok, Err, IfOk, OnOk}
 use Rattle.std.proofs.lemmas.Bool.{both_ways}
 use Rattle.room_records.specs.declared.shelf.ShelfFault.{ShelfFault}
 use Rattle.room_records.specs.declared.shelf.ShelfFault.TheVariants.{Store}
@@ -19,7 +19,6 @@ use Rattle.room_desk.specs.RowAnswers.{EventChangesFew}
 use Rattle.room_desk.specs.Serving.{Answered}
 use Rattle.room_desk.specs.Trying.{EventTried, JoinsHistory}
 use Rattle.room_desk.proofs.Alike.{stand_after_idle}
-use Rattle.room_desk.proofs.Calls.{one_call}
 use Rattle.room_desk.proofs.Crashes.{leaves_either}
 use Rattle.room_desk.proofs.Results.{if_ok_then}
 
@@ -43,10 +42,10 @@ pub joins_by_reads : {start : Room} {past : History} {event : EventModel} {a b :
     IfOk r (λ answer. (answer_model answer ≡ answer_to start past event) × (changes_rows past event ≡ false)))
     → JoinsHistory start past event a b r
 joins_by_reads {start} {past} {event} {a} {b} {r} read stands says = record {
-  step = λ h. let (d, stand) = stands (read.call.was_available h) in if_ok_then r (says h d stand)
+  step = λ h. let (d, stand) = stands (read.call.frame.was_available h) in if_ok_then r (says h d stand)
       (λ answer told. (told.0, rw (read.same h d) (stand_after_idle start a.records past event told.1 stand)));
-  idle = λ h idle. read.same h (stands (read.call.was_available h)).0;
-  few = λ h. let (d, stand) = stands (read.call.was_available h) in if_ok_then r (says h d stand)
+  idle = λ h idle. read.same h (stands (read.call.frame.was_available h)).0;
+  few = λ h. let (d, stand) = stands (read.call.frame.was_available h) in if_ok_then r (says h d stand)
       (λ answer told. idle_few start past event a.records b.records told.1 (read.same h d));
   crash = λ k left may. inl (read.crash left may);
   stays_laid_out = read.stays_laid_out;
@@ -88,17 +87,17 @@ module _ {event : EventModel} {a b c : View} {r : Result Answer ShelfFault} (rea
       → JoinsHistory start past event a c r
   joins_after_read {start} {past} stands then =
       let now : b.is_available → (b.records ≡ a.records) × JoinsHistory start past event b c r = λ h.
-      (let (d, stand) = stands (read.call.was_available h) in
+      (let (d, stand) = stands (read.call.frame.was_available h) in
       (read.same h d, then h d (rw (read.same h d) stand))) in record {
-        step = λ h. (now (call.was_available h)).1.step h;
-        idle = λ h idle. (now (call.was_available h)).1.idle h idle ∙ (now (call.was_available h)).0;
+        step = λ h. (now (call.frame.was_available h)).1.step h;
+        idle = λ h idle. (now (call.frame.was_available h)).1.idle h idle ∙ (now (call.frame.was_available h)).0;
         few = λ h. subst (λ old. IfOk r (λ answer. EventChangesFew start past event old c.records))
-            (now (call.was_available h)).0 ((now (call.was_available h)).1.few h);
+            (now (call.frame.was_available h)).0 ((now (call.frame.was_available h)).1.few h);
         crash = λ k left may.
-            leaves_either ((now (there (call.was_intact k))).1.crash k left may) (read.crash left)
-            (λ made. (read.call.was_available made.0, made.1));
+            leaves_either ((now (there (call.frame.was_intact k))).1.crash k left may) (read.crash left)
+            (λ made. (read.call.frame.was_available made.0, made.1));
         stays_laid_out = λ k l.
-            let mid = call.was_intact k in (now (there mid)).1.stays_laid_out k (read.stays_laid_out mid l);
+            let mid = call.frame.was_intact k in (now (there mid)).1.stays_laid_out k (read.stays_laid_out mid l);
       }
 
   pub tried_after_read : (c.is_available → b.is_laid_out →
@@ -106,10 +105,10 @@ module _ {event : EventModel} {a b c : View} {r : Result Answer ShelfFault} (rea
       → ((start : Room) (past : History) → b.is_available → a.is_laid_out → RepresentsHistory start b.records past →
       JoinsHistory start past event b c r) → EventTried event a c r
   tried_after_read refused joins = record {
-    there = there_where_ok r call (λ k. there (call.was_intact k));
+    there = there_where_ok r call (λ k. there (call.frame.was_intact k));
     frame = call_then a b c (fault_in r) call read;
-    refused = λ h d. if_ok_then r (refused h (read.call.laid_out (call.was_available h) d))
-        (λ answer same away. same away ∙ read.same (call.was_available h) d);
+    refused = λ h d. if_ok_then r (refused h (read.call.frame.laid_out (call.frame.was_available h) d))
+        (λ answer same away. same away ∙ read.same (call.frame.was_available h) d);
     joins = λ start past stands. joins_after_read stands (joins start past);
   }
 
@@ -118,14 +117,14 @@ module _ {event : EventModel} {a b : View} where
   pub answered_ok : {answer : Answer} → EventTried event a b (Ok answer)
       → Answered (Ok (Event event)) a (answer_model answer) b
   answered_ok tried = record {
-    frame = one_call a b None tried.frame;
+    frame = tried.frame.frame;
     quiet = λ other. tried.frame.quiet (none_not_store Store);
     alive = λ k asked is other. tried.there k;
     step = λ k start past stands.
         let step = (tried.joins start past stands).step (tried.there k) in (
           event ∷ past,
           inl (step.0, refl),
-          λ h. (tried.frame.laid_out h (stands (tried.frame.was_available h)).0, step.1),
+          λ h. (tried.frame.frame.laid_out h (stands (tried.frame.frame.was_available h)).0, step.1),
         );
     refused = tried.refused;
     idle = λ h d start past stand. (tried.joins start past (λ _. (d, stand))).idle h;
@@ -138,15 +137,15 @@ module _ {event : EventModel} {a b : View} where
   pub answered_err : {fault : ShelfFault} → EventTried event a b (Err fault)
       → Answered (Ok (Event event)) a (Refused Delay) b
   answered_err {fault} tried = record {
-    frame = one_call a b (Some fault) tried.frame;
+    frame = tried.frame.frame;
     quiet = λ other. absurd (other refl);
     alive = λ k asked is other. absurd (other refl);
     step = λ k start past stands. (
       past,
       inr (refl, refl),
       λ h.
-          let stood = stands (tried.frame.was_available h) in
-          (tried.frame.laid_out h stood.0, rw (tried.frame.undone h stood.0) stood.1),
+          let stood = stands (tried.frame.frame.was_available h) in
+          (tried.frame.frame.laid_out h stood.0, rw (tried.frame.undone h stood.0) stood.1),
     );
     refused = λ h d away. tried.frame.undone h d;
     idle = λ h d start past stand. (tried.joins start past (λ _. (d, stand))).idle h;

@@ -1,10 +1,10 @@
 -- What is answered over a room to an event or a message and to runs of messages, and what calls of a desk leave (our
 -- own rules).
-use Rattle.std.specs.Prelude.{◌≡◌, ◌≢◌, ℕ, ◌≤◌, ◌⊎◌, Bool, true, false, List, ◌∷◌, Result, Ok, Err}
+use Rattle.std.specs.Prelude.{◌≡◌, ◌≢◌, ℕ, ◌⊎◌, Bool, true, false, List, ◌∷◌, Result, Ok, Err}
 use Rattle.room_acl.specs.SubjectModel.{SubjectModel}
 use Rattle.room_records.specs.Records.{Records}
 use Rattle.room_records.specs.Room.{Room}
-use Rattle.room_records.specs.Shelf.{View, LeavesOldOrNew}
+use Rattle.room_records.specs.Shelf.{View, ShelfFrame, LeavesOldOrNew}
 use Rattle.room_wire.specs.declared.answers.code.Code.TheVariants.{Delay}
 use Rattle.room_wire.specs.declared.fault.WireFault.{WireFault}
 use Rattle.room_wire.specs.declared.fault.WireFault.TheVariants.{BadRoute, UnknownUser}
@@ -50,14 +50,6 @@ abbrev pub by_event {ℓ} : {X : Type ℓ} → (EventModel → X) → X → Resu
 by_event of_event other (Ok (Event event)) = of_event event
 by_event of_event other ask = other
 
--- the frame of a desk's calls, one or many: the store is no better than it was, what it is laid out for stays, and the
--- count of failures never falls
-pub record DeskCall (old new : View) : Type 0 where
-  pub was_intact : new.is_intact → old.is_intact
-  pub was_available : new.is_available → old.is_available
-  pub laid_out : new.is_available → old.is_laid_out → new.is_laid_out
-  pub never_falls : old.failures ≤ new.failures
-
 -- what is asked may ask for rows: an event does, and so may a request of a user that is refused for what it asks. A
 -- question does not, nor a message that is refused for its route or its user
 abbrev pub may_ask_shelf : Result AskModel WireFault → Bool
@@ -84,7 +76,7 @@ pub record IsLeftAlone (old new : View) : Type 0 where
 -- stays laid out. Where no rows may be asked for, the shelf is as it was
 pub record Answered (ask : Result AskModel WireFault) (before : View)
     (answered : AnswerModel) (after : View) : Type 0 where
-  pub frame : DeskCall before after
+  pub frame : ShelfFrame before after
   pub quiet : answered ≢ Refused Delay → after.failures ≡ before.failures
   pub alive : after.is_intact → (event : EventModel) → ask ≡ Ok (Event event)
       → answered ≢ Refused Delay → after.is_available

@@ -1,13 +1,14 @@
 //! The desk: takes events, and answers each.
 ghost use Rattle.std.specs.Prelude.{◌≡◌, ◌≢◌, List, [], ◌∷◌, ◌++◌, map, IfOk, OnErr, Err};
 ghost use Rattle.room_records.specs.Room.{Room};
+ghost use Rattle.room_records.specs.Shelf.{ShelfFrame};
 ghost use Rattle.room_wire.specs.Asks.EventModel.{event_model};
 ghost use Rattle.room_wire.specs.declared.answers.code.Code.TheVariants.{Delay};
 ghost use Rattle.room_wire.specs.Serving.Outputs.{InTurn};
 ghost use Rattle.room_desk.specs.AnswerModel.{AnswerModel, Refused, answer_model};
 ghost use Rattle.room_desk.specs.History.{History};
 ghost use Rattle.room_desk.specs.Representation.{StandsFor, WasAllowed};
-ghost use Rattle.room_desk.specs.Serving.{DeskCall, EventAnswered, Run};
+ghost use Rattle.room_desk.specs.Serving.{EventAnswered, Run};
 ghost use Rattle.room_desk.specs.Trying.{EventTried};
 
 use crate::requests::{SlotRequest, request};
@@ -106,7 +107,7 @@ impl<S: Shelf> Desk<S> {
     /// DELAY, an intact store is still available. `frame`, `alive` and `run` follow from `each` answer in turn, and
     /// stand here so that a caller needs no induction.
     pub fn run(&mut self, events: &[Event]) -> Result<Vec<Answer>, AllocError>
-        ensures frame { DeskCall (S.view self.old) (S.view self.new) }
+        ensures frame { ShelfFrame (S.view self.old) (S.view self.new) }
         ensures alive { (S.view self.new).is_intact
             → IfOk result (λ answers. (before : List AnswerModel) (last : AnswerModel) →
             map answer_model answers.items ≡ before ++ last ∷ []

@@ -1,10 +1,11 @@
 //! Serving a room over a reader and a writer.
 ghost use Rattle.std.specs.Prelude.{◌≡◌};
 ghost use Rattle.room_records.specs.Room.{Room};
+ghost use Rattle.room_records.specs.Shelf.{ShelfFrame};
 ghost use Rattle.room_wire.specs.Serving.Ends.{Serves};
 ghost use Rattle.room_desk.specs.History.{History};
 ghost use Rattle.room_desk.specs.Representation.{StandsFor};
-ghost use Rattle.room_desk.specs.Serving.{AnswersMessage, DeskCall, MayAnswer};
+ghost use Rattle.room_desk.specs.Serving.{AnswersMessage, MayAnswer};
 
 use crate::desk::Desk;
 use crate::service::Lookup;
@@ -44,7 +45,7 @@ impl<S: Shelf> Desk<S> {
         reader: &mut R,
         writer: &mut W,
     ) -> ServeEnd
-        ensures frame { DeskCall (S.view self.old) (S.view self.new) }
+        ensures frame { ShelfFrame (S.view self.old) (S.view self.new) }
         ensures messages { Serves (MayAnswer S.view roster.now) self.old self.new
             (R.remaining reader.old) (R.remaining reader.new) (W.contents writer.old)
             (W.contents writer.new) result.why result.count }

@@ -135,8 +135,8 @@ pub read_stands : {S : Type 0} (view : S → View) (kind : ReportKind) (users : 
     (old new : Option (List ℕ)) (done : Result (Unit {0}) Fault) → WritesReport view kind users taken last old new done
     → (start : Room) (past : History) → StandsFor start past (view taken) → StandsFor start past (view last)
 read_stands view kind users taken last old new done writes start past stand there =
-    let (laid_out, rows) = stand (writes.read.call.was_available there) in (
-      writes.read.call.laid_out there laid_out,
+    let (laid_out, rows) = stand (writes.read.call.frame.was_available there) in (
+      writes.read.call.frame.laid_out there laid_out,
       subst (λ r. RepresentsHistory start r past) (sym (writes.read.same there laid_out)) rows,
     )
 
@@ -506,7 +506,7 @@ module _ {D M : Type 0} (g : Ghosts D) (image : Image) (does : M → Call (Held 
         × (IsTrue (file_state last.0.conn).is_open → (one : Image) → IsLeftBy image (left later) one
         → HoldsRoom one start past)
     reported_on db kind users read seen later taken last old new done room writes gone clean =
-        let was = writes.read.call.was_intact clean in
+        let was = writes.read.call.frame.was_intact clean in
         let stood = taken_stands db read seen taken room in
         let stand = stood (was, taken_open db read seen taken room was) in (
           subst (λ d. OnOk d (Appends old new (report_text kind (state_after start past) users)))

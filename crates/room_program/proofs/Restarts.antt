@@ -187,7 +187,7 @@ module _ {D : Type 0} (g : Ghosts D) (image one : Image) (opened : Held (FileSto
       → ((trees : Trees) → recovers it trees → recovers last.0.conn.store trees) → IsTrue (view it).is_numbered
       → MayBeLeft it one → HoldsStill image one
   report_still kind users old new done writes clean it only numbered may start past held =
-      let was = writes.read.call.was_intact clean in
+      let was = writes.read.call.frame.was_intact clean in
       let there = (adopted.1 was).0 in
       let (laid_out, rows) = stands g image start past held opened taken is adopted (was, there) in
       let settled : (trees : Trees) → recovers taken.0.conn.store trees → trees ≡ (file_state taken.0.conn).now.trees

@@ -21,7 +21,7 @@ use Rattle.room_desk.specs.History.{History}
 use Rattle.room_desk.specs.Representation.{RepresentsHistory, StandsFor, StandsWith}
 use Rattle.room_desk.specs.Serving.{AnswersMessage, IsRun, MayAnswer}
 use Rattle.room_desk.specs.Stops.{Doubt, no_doubt, StandsInDoubt}
-use Rattle.room_desk.proofs.Calls.{no_call, calls_then}
+use Rattle.room_records.proofs.Shelves.{no_call, calls_then}
 use Rattle.room_desk.proofs.Messages.{goes_on}
 use Rattle.room_desk.proofs.Stops.{at_rest}
 use Rattle.room_desk.proofs.StreamStops.{stream_in_doubt, laid_out_in_stream, by_answers}

@@ -3,14 +3,14 @@ use Rattle.std.specs.Prelude.{◌≡◌, ℕ, List, ◌++◌}
 use Rattle.std.specs.List.{AllByRecursion}
 use Rattle.room_acl.specs.SubjectModel.{SubjectModel}
 use Rattle.room_records.specs.Room.{Room}
-use Rattle.room_records.specs.Shelf.{View}
+use Rattle.room_records.specs.Shelf.{View, ShelfFrame}
 use Rattle.room_wire.specs.Asks.EventModel.{EventModel}
 use Rattle.room_wire.specs.Messages.MessageModel.{MessageModel, IsMessage}
 use Rattle.room_wire.specs.Serving.Ends.{Serves}
 use Rattle.room_wire.specs.Answers.AnswerModel.{AnswerModel}
 use Rattle.room_desk.specs.History.{History}
 use Rattle.room_desk.specs.Representation.{StandsFor}
-use Rattle.room_desk.specs.Serving.{AnswersMessage, DeskCall, IsRun, MayAnswer}
+use Rattle.room_desk.specs.Serving.{AnswersMessage, IsRun, MayAnswer}
 use Rattle.room_program.specs.Calls.{Exchange}
 
 -- these users' messages are a run from the history to the next, which has their events more
@@ -32,13 +32,13 @@ Carries may_answer before e after =
 -- answers, and the history has gone on by these messages while the store is there
 pub record Served {S : Type 0} (view : S → View) (users : List SubjectModel)
     (before : S) (e : Exchange) (after : S) : Type 0 where
-  pub frame : DeskCall (view before) (view after)
+  pub frame : ShelfFrame (view before) (view after)
   pub messages : Carries (MayAnswer view users) before e after
   pub run : (view after).is_intact → (start : Room) (past : History) → StandsFor start past (view before) →
       (next : History) × Carries (AnswersMessage users start) past e next × StandsFor start next (view after)
 
 -- and over some connections, while the store is there: the history has gone on
 pub record ServesSome {S : Type 0} (view : S → View) (users : List SubjectModel) (before after : S) : Type 0 where
-  pub frame : DeskCall (view before) (view after)
+  pub frame : ShelfFrame (view before) (view after)
   pub run : (view after).is_intact → (start : Room) (past : History) → StandsFor start past (view before) →
       (next : History) × GoesOn users start past next × StandsFor start next (view after)

@@ -38,16 +38,21 @@ abbrev pub fault_in : {T : Type 0} → Result T ShelfFault → Option ShelfFault
 fault_in (Ok value) = None
 fault_in (Err fault) = Some fault
 
--- the frame of a call, by the fault that it answered, if any: the store is no better than it was, what it and what a
--- crash leaves of it are laid out for stays, an answer other than a fault comes while the store is there, the count of
--- failures rises exactly where the call answers Store, unless it is no longer kept, and a fault changes no record
-pub record ShelfCall (old new : View) (fault : Option ShelfFault) : Type 0 where
+-- the frame of calls, one or many: the store is no better than it was, what it is laid out for stays, and the count of
+-- failures never falls
+pub record ShelfFrame (old new : View) : Type 0 where
   pub was_intact : new.is_intact → old.is_intact
   pub was_available : new.is_available → old.is_available
   pub laid_out : new.is_available → old.is_laid_out → new.is_laid_out
+  pub never_falls : old.failures ≤ new.failures
+
+-- the frame of one call, by the fault that it answered, if any: what a crash leaves is laid out for stays, an answer
+-- other than a fault comes while the store is there, the count of failures rises exactly where the call answers Store,
+-- unless it is no longer kept, and a fault changes no record
+pub record ShelfCall (old new : View) (fault : Option ShelfFault) : Type 0 where
+  pub frame : ShelfFrame old new
   pub left_laid_out : new.is_intact → old.is_available → old.is_laid_out → old.leaves_laid_out → new.leaves_laid_out
   pub alive : new.is_intact → old.is_available → MatchOption fault new.is_available (λ _. Unit {0})
-  pub never_falls : old.failures ≤ new.failures
   pub quiet : fault ≢ Some Store → new.failures ≡ old.failures
   pub store : fault ≡ Some Store → FailureCounted old.failures new.failures
   pub undone : new.is_available → old.is_laid_out → MatchOption fault (Unit {0}) (λ _. new.records ≡ old.records)

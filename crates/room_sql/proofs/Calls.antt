@@ -51,16 +51,18 @@ module _ {S : Type 0} (store : Ghosts S) where
       → ShelfRead (view_of old failures known) (view_of new failures after) None
   read_ok {after = after} old new frame true_of = record {
     call = record {
-      was_intact = frame.clean;
-      was_available = λ there. (frame.clean there.0, frame.was_open there.0 there.1);
-      laid_out = λ there laid. (
-        rw (frame.answered there.0).1 laid.0,
-        subst (λ (d : Database). AreTrueOf after d.trees) (sym (frame.answered there.0).1)
-            (true_of there.0 laid.0 laid.1),
-      );
+      frame = record {
+        was_intact = frame.clean;
+        was_available = λ there. (frame.clean there.0, frame.was_open there.0 there.1);
+        laid_out = λ there laid. (
+          rw (frame.answered there.0).1 laid.0,
+          subst (λ (d : Database). AreTrueOf after d.trees) (sym (frame.answered there.0).1)
+              (true_of there.0 laid.0 laid.1),
+        );
+        never_falls = omega arith;
+      };
       left_laid_out = λ clean there laid. left old new frame.crash clean;
       alive = λ clean was. (clean, (frame.answered clean).0);
-      never_falls = omega arith;
       quiet = λ _. refl;
       store = λ bad. absurd (let e = bad in cc);
       undone = λ there laid. tt;
@@ -82,15 +84,17 @@ module _ {S : Type 0} (store : Ghosts S) where
       → ShelfRead (view_of old failures known) (view_of new more after) (Some fault)
   read_err old new frame settled nothing never quiet counted = record {
     call = record {
-      was_intact = frame.clean;
-      was_available = λ there. (frame.clean there.0, frame.was_open there.0 there.1);
-      laid_out = λ there laid. (
-        rw (kept there) laid.0,
-        nothing (state store new).now.trees,
-      );
+      frame = record {
+        was_intact = frame.clean;
+        was_available = λ there. (frame.clean there.0, frame.was_open there.0 there.1);
+        laid_out = λ there laid. (
+          rw (kept there) laid.0,
+          nothing (state store new).now.trees,
+        );
+        never_falls = never;
+      };
       left_laid_out = λ clean there laid. left old new frame.crash clean;
       alive = λ clean was. tt;
-      never_falls = never;
       quiet = λ other. quiet (λ is. other (ap Some is));
       store = λ is. counted (let e = is in cc);
       undone = λ there laid. ap (λ (d : Database). records_of d.trees) (kept there);
@@ -118,18 +122,20 @@ module _ {S : Type 0} (store : Ghosts S) where
       → (fault ≡ Store → FailureCounted failures more)
       → ShelfCall (view_of old failures known) (view_of new more after) (Some fault)
   commit_err old new survives was_open kept nothing never quiet counted = record {
-    was_intact = was_clean survives;
-    was_available = λ there. (was_clean survives there.0, was_open there.0 there.1);
-    laid_out = λ there laid. (
-      rw (kept there.0 there.1) laid.0,
-      nothing (state store new).now.trees,
-    );
+    frame = record {
+      was_intact = was_clean survives;
+      was_available = λ there. (was_clean survives there.0, was_open there.0 there.1);
+      laid_out = λ there laid. (
+        rw (kept there.0 there.1) laid.0,
+        nothing (state store new).now.trees,
+      );
+      never_falls = never;
+    };
     left_laid_out = λ clean there laid leaves trees may. elim (survives.crash clean trees may) [
       | inl was ↦ leaves trees was
       | inr made ↦ ((state store old).now.schema, made laid.1.lists laid.0)
     ];
     alive = λ clean was. tt;
-    never_falls = never;
     quiet = λ other. quiet (λ is. other (ap Some is));
     store = λ is. counted (let e = is in cc);
     undone = λ there laid. ap (λ (d : Database). records_of d.trees) (kept there.0 there.1);

@@ -37,7 +37,7 @@ returns g c =
     let mine = sym c.owns.ensures ∙ c.if-not-owns.false in
     let answered = sym (close_owned stand c.args.sid.now c.in-Some.row some caller mine) in
     let changes = changes_if_open stand caller some mine in
-    let laid_out = first.call.laid_out read d in
+    let laid_out = first.call.frame.laid_out read d in
     let puts = put_rules stand caller some mine in
     let all = all_rules stand caller some mine in
     elim (cases_Bool c.in-Some.row.is_open) [

@@ -14,7 +14,7 @@ returns-in-None g c =
     let none : (g.S.Shelf.view c.session.new.self).records.session c.args.sid.now ≡ None =
     rw (first.same read d) (sym (c.in_ok-row.ensures.value read d) ∙ c.in-None.is) in
     let rules = open_rules stand c.args.subject.now c.args.slots none in
-    let laid_out = first.call.laid_out read d in
+    let laid_out = first.call.frame.laid_out read d in
     let opens = open_stands stand c.args.subject.now c.args.slots none in
     joins_by_commit read opens.0 (λ left is. rw is opens.1) (λ left is. rw is refl)
     (λ h. if_ok_both c.open_first.result made.reply (made.ok h laid_out rules)

@@ -47,7 +47,7 @@ returns-in_err-below-clause-value g t c = λ intact laid_out r e room stand path
     let nodes = c.as_slice-node-items.result.now in
     let i = c.loop-node.node-index in
     let child : Node → List ℕ = λ node. text_below report room (path ++ name_of node ∷ []) in
-    let before = c.item_below.ensures.frame.call.was_intact intact in
+    let before = c.item_below.ensures.frame.call.frame.was_intact intact in
     let so = c.loop-node.invariant.written before laid_out r e room stand path is long in
     err_writes _ _ (text_below report room path)
     c.from_residual-in_err-below.result c.from_residual-in_err-below.ensures.0
@@ -63,14 +63,14 @@ returns-in_err-report_below-clause-value g t c = λ intact laid_out r e room sta
     let node = c.node-item.result in
     let i = c.loop-node.node-index in
     let child : Node → List ℕ = λ n. text_below report room (path ++ name_of n ∷ []) in
-    let second = c.report_below.ensures.frame.call.was_intact intact in
+    let second = c.report_below.ensures.frame.call.frame.was_intact intact in
     let there = c.in_ok-below.ensures.there second in
-    let first = c.item_below.ensures.frame.call.was_available there in
-    let so = c.loop-node.invariant.written (c.item_below.ensures.frame.call.was_intact second)
+    let first = c.item_below.ensures.frame.call.frame.was_available there in
+    let so = c.loop-node.invariant.written (c.item_below.ensures.frame.call.frame.was_intact second)
     laid_out r e room stand path is long in
-    let declared = c.loop-node.invariant.frame.call.laid_out first laid_out in
+    let declared = c.loop-node.invariant.frame.call.frame.laid_out first laid_out in
     let same = ap (λ (s : Records). s.objects) (c.loop-node.invariant.frame.same first laid_out) ∙ e in
-    let declared' = c.item_below.ensures.frame.call.laid_out there declared in
+    let declared' = c.item_below.ensures.frame.call.frame.laid_out there declared in
     let same' = ap (λ (s : Records). s.objects) (c.item_below.ensures.frame.same there declared) ∙ same in
     let item = c.in_ok-below.ensures.value second declared r same room stand path is
     (child_at r c.args.item.now.id nodes i node so.0 c.loop-node-test.true c.node-item.is) in
@@ -90,7 +90,7 @@ returns-in_err-report_below-clause-value g t c = λ intact laid_out r e room sta
 pub loop-node-preserved : goal.loop-node-preserved
 loop-node-preserved g t c = record {
   there = λ intact. c.in_ok-report_below.ensures.frame.call.alive intact
-      (c.in_ok-below.ensures.there (c.report_below.ensures.frame.call.was_intact intact));
+      (c.in_ok-below.ensures.there (c.report_below.ensures.frame.call.frame.was_intact intact));
   frame = read_then _ _ _ _ c.in_ok-report_below.ensures.frame
       (read_then _ _ _ _ c.in_ok-below.ensures.frame c.loop-node.invariant.frame);
   written = λ intact laid_out r e room stand path is long.
@@ -100,14 +100,14 @@ loop-node-preserved g t c = record {
       let node = c.node-item.result in
       let i = c.loop-node.node-index in
       let child : Node → List ℕ = λ n. text_below report room (path ++ name_of n ∷ []) in
-      let second = c.report_below.ensures.frame.call.was_intact intact in
+      let second = c.report_below.ensures.frame.call.frame.was_intact intact in
       let there = c.in_ok-below.ensures.there second in
-      let first = c.item_below.ensures.frame.call.was_available there in
-      let so = c.loop-node.invariant.written (c.item_below.ensures.frame.call.was_intact second)
+      let first = c.item_below.ensures.frame.call.frame.was_available there in
+      let so = c.loop-node.invariant.written (c.item_below.ensures.frame.call.frame.was_intact second)
       laid_out r e room stand path is long in
-      let declared = c.loop-node.invariant.frame.call.laid_out first laid_out in
+      let declared = c.loop-node.invariant.frame.call.frame.laid_out first laid_out in
       let same = ap (λ (s : Records). s.objects) (c.loop-node.invariant.frame.same first laid_out) ∙ e in
-      let declared' = c.item_below.ensures.frame.call.laid_out there declared in
+      let declared' = c.item_below.ensures.frame.call.frame.laid_out there declared in
       let same' = ap (λ (s : Records). s.objects) (c.item_below.ensures.frame.same there declared) ∙ same in
       let item = c.in_ok-below.ensures.value second declared r same room stand path is
       (child_at r c.args.item.now.id nodes i node so.0 c.loop-node-test.true c.node-item.is) in

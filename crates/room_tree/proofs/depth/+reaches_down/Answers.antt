@@ -51,11 +51,11 @@ loop-node-preserved g m c =
     record {
       frame = read_then _ _ _ _ c.in_ok-deep.ensures.frame c.loop-node.invariant.frame;
       children = λ available laid_out t e room stand.
-          c.loop-node.invariant.children (c.reaches_down.ensures.frame.call.was_available available)
+          c.loop-node.invariant.children (c.reaches_down.ensures.frame.call.frame.was_available available)
           laid_out t e room stand;
       none = λ available laid_out t e room stand path node at stands kind.
-          let before = c.reaches_down.ensures.frame.call.was_available available in
-          let declared = c.loop-node.invariant.frame.call.laid_out before laid_out in
+          let before = c.reaches_down.ensures.frame.call.frame.was_available available in
+          let declared = c.loop-node.invariant.frame.call.frame.laid_out before laid_out in
           let same = ap (λ (r : Records). r.objects) (c.loop-node.invariant.frame.same before laid_out) ∙ e in
           let are = c.loop-node.invariant.children before laid_out t e room stand in
           let Child : Node → Type 0 = λ n. IsChild t c.args.id n in

@@ -5,8 +5,8 @@ use Rattle.room_tree.proofs.finding.node_at.Goals as goal
 
 pub returns-in_default-2-clause-value : goal.returns-in_default-2-clause-value
 returns-in_default-2-clause-value g c = λ available laid_out room stand.
-    let before = c.child.ensures.frame.call.was_available available in
-    let declared = c.loop-name.invariant.frame.call.laid_out before laid_out in
+    let before = c.child.ensures.frame.call.frame.was_available available in
+    let declared = c.loop-name.invariant.frame.call.frame.laid_out before laid_out in
     let none = rw (c.loop-name.invariant.frame.same before laid_out) at
     (rw c.in_default-2.is at (c.in_ok-next.ensures.value available declared)) in
     none_on_the_way (g.S.Shelf.view c.args.shelf.now).records.objects room stand
@@ -22,8 +22,8 @@ loop-name-preserved g c =
       there = c.in_ok-next.ensures.there;
       names = c.loop-name.invariant.names;
       at = λ available laid_out room stand.
-          let before = c.child.ensures.frame.call.was_available available in
-          let declared = c.loop-name.invariant.frame.call.laid_out before laid_out in
+          let before = c.child.ensures.frame.call.frame.was_available available in
+          let declared = c.loop-name.invariant.frame.call.frame.laid_out before laid_out in
           let child = rw (c.loop-name.invariant.frame.same before laid_out) at
           (rw c.in-Some-2.is at (c.in_ok-next.ensures.value available declared)) in
           one_further (g.S.Shelf.view c.args.shelf.now).records.objects room stand c.args.path.now
@@ -32,8 +32,8 @@ loop-name-preserved g c =
           (rw (← c.loop-name.invariant.names) c.name-item.is)
           (c.loop-name.invariant.at before laid_out room stand) child;
       stands = λ available laid_out room stand.
-          let before = c.child.ensures.frame.call.was_available available in
-          let declared = c.loop-name.invariant.frame.call.laid_out before laid_out in
+          let before = c.child.ensures.frame.call.frame.was_available available in
+          let declared = c.loop-name.invariant.frame.call.frame.laid_out before laid_out in
           let child = rw (c.loop-name.invariant.frame.same before laid_out) at
           (rw c.in-Some-2.is at (c.in_ok-next.ensures.value available declared)) in
           child.0.stands;

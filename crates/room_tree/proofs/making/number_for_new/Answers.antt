@@ -30,8 +30,8 @@ returns-in_err-check_children-clause-value g c = λ available laid_out t e room 
 
 pub returns-in_err-check_number-clause-value : goal.returns-in_err-check_number-clause-value
 returns-in_err-check_number-clause-value g c = λ available laid_out t e room stand folder found.
-    let before = c.next_id.ensures.frame.call.was_available available in
-    let declared = c.count_children.ensures.frame.call.laid_out before laid_out in
+    let before = c.next_id.ensures.frame.call.frame.was_available available in
+    let declared = c.count_children.ensures.frame.call.frame.laid_out before laid_out in
     let same = ap (λ (r : Records). r.objects) (c.count_children.ensures.frame.same before laid_out) ∙ e in
     let count = c.in_ok-count.ensures.value before laid_out t e room stand folder found in
     let next = c.in_ok-next.ensures.value available declared ∙ ap (λ (r : ObjectRecords). r.next) same in
@@ -42,8 +42,8 @@ returns-in_err-check_number-clause-value g c = λ available laid_out t e room st
 
 pub returns-clause-value : goal.returns-clause-value
 returns-clause-value g c = λ available laid_out t e room stand folder found.
-    let before = c.next_id.ensures.frame.call.was_available available in
-    let declared = c.count_children.ensures.frame.call.laid_out before laid_out in
+    let before = c.next_id.ensures.frame.call.frame.was_available available in
+    let declared = c.count_children.ensures.frame.call.frame.laid_out before laid_out in
     let same = ap (λ (r : Records). r.objects) (c.count_children.ensures.frame.same before laid_out) ∙ e in
     let count = c.in_ok-count.ensures.value before laid_out t e room stand folder found in
     let next = c.in_ok-next.ensures.value available declared ∙ ap (λ (r : ObjectRecords). r.next) same in (

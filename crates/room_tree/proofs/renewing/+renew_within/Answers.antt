@@ -65,11 +65,11 @@ loop-node-preserved-in_default-2 g m c =
     record {
       frame = read_then _ _ _ _ c.in_ok-renewed.ensures.frame c.loop-node.invariant.frame;
       children = λ available laid_out t e room stand.
-          c.loop-node.invariant.children (c.renewed_list.ensures.frame.call.was_available available)
+          c.loop-node.invariant.children (c.renewed_list.ensures.frame.call.frame.was_available available)
           laid_out t e room stand;
       renews = λ available laid_out t e room stand path at deep.
-          let before = c.renewed_list.ensures.frame.call.was_available available in
-          let declared = c.loop-node.invariant.frame.call.laid_out before laid_out in
+          let before = c.renewed_list.ensures.frame.call.frame.was_available available in
+          let declared = c.loop-node.invariant.frame.call.frame.laid_out before laid_out in
           let same = ap (λ (r : Records). r.objects) (c.loop-node.invariant.frame.same before laid_out) ∙ e in
           let are = c.loop-node.invariant.children before laid_out t e room stand in
           let Child : Node → Type 0 = λ n. IsChild t c.args.id n in
@@ -99,13 +99,14 @@ loop-node-preserved g m c =
           (read_then _ _ _ _ c.in_ok-renewed.ensures.frame c.loop-node.invariant.frame);
       children = λ available laid_out t e room stand.
           c.loop-node.invariant.children
-          (c.renewed_list.ensures.frame.call.was_available (read.was_available available)) laid_out t e room stand;
+          (c.renewed_list.ensures.frame.call.frame.was_available (read.frame.was_available available)) laid_out t e
+          room stand;
       renews = λ available laid_out t e room stand path at deep.
-          let then_there = read.was_available available in
-          let before = c.renewed_list.ensures.frame.call.was_available then_there in
-          let declared = c.loop-node.invariant.frame.call.laid_out before laid_out in
+          let then_there = read.frame.was_available available in
+          let before = c.renewed_list.ensures.frame.call.frame.was_available then_there in
+          let declared = c.loop-node.invariant.frame.call.frame.laid_out before laid_out in
           let same = ap (λ (r : Records). r.objects) (c.loop-node.invariant.frame.same before laid_out) ∙ e in
-          let then_declared = c.renewed_list.ensures.frame.call.laid_out then_there declared in
+          let then_declared = c.renewed_list.ensures.frame.call.frame.laid_out then_there declared in
           let then_same =
           ap (λ (r : Records). r.objects) (c.renewed_list.ensures.frame.same then_there declared) ∙ same in
           let are = c.loop-node.invariant.children before laid_out t e room stand in

@@ -24,8 +24,8 @@ returns-then-levels-eq0-clause-value g m c = λ available laid_out t e room stan
 pub returns-in_default-2-clause-value : goal.returns-in_default-2-clause-value
 returns-in_default-2-clause-value g m c = λ available laid_out t e room stand path at stands short.
     let node = c.args.node.now in
-    let before = c.node.ensures.frame.call.was_available available in
-    let declared = c.entries.ensures.frame.call.laid_out before laid_out in
+    let before = c.node.ensures.frame.call.frame.was_available available in
+    let declared = c.entries.ensures.frame.call.frame.laid_out before laid_out in
     let same = ap (λ (r : Records). r.objects) (c.entries.ensures.frame.same before laid_out) ∙ e in
     let up = goes_on stand path node.id node at stands
     c.in-Some.folder (sym c.folder_followed.ensures ∙ c.in-Some.is) in
@@ -38,11 +38,11 @@ returns-clause-value g m c = λ available laid_out t e room stand path at stands
     let node = c.args.node.now in
     let folder = c.in-Some.folder in
     let above = c.in-Some-2.above in
-    let read = c.list_within.ensures.frame.call.was_available available in
-    let before = c.node.ensures.frame.call.was_available read in
-    let declared = c.entries.ensures.frame.call.laid_out before laid_out in
+    let read = c.list_within.ensures.frame.call.frame.was_available available in
+    let before = c.node.ensures.frame.call.frame.was_available read in
+    let declared = c.entries.ensures.frame.call.frame.laid_out before laid_out in
     let same = ap (λ (r : Records). r.objects) (c.entries.ensures.frame.same before laid_out) ∙ e in
-    let then_declared = c.node.ensures.frame.call.laid_out read declared in
+    let then_declared = c.node.ensures.frame.call.frame.laid_out read declared in
     let then_same = ap (λ (r : Records). r.objects) (c.node.ensures.frame.same read declared) ∙ same in
     let up = goes_on stand path node.id node at stands folder (sym c.folder_followed.ensures ∙ c.in-Some.is) in
     let there : t.node folder ≡ Some above =

@@ -3,7 +3,7 @@ use Rattle.std.proofs.lemmas.List.{take_all, map-append, length_push, same_from_
 use Rattle.room_wire.specs.Asks.EventModel.{event_model}
 use Rattle.room_desk.specs.AnswerModel.{answer_model}
 use Rattle.room_desk.specs.Serving.{EventAnswered, Step}
-use Rattle.room_desk.proofs.Calls.{no_call, calls_then}
+use Rattle.room_records.proofs.Shelves.{no_call, calls_then}
 use Rattle.room_desk.proofs.Runs.{in_turn_at}
 use Rattle.room_desk.proofs.desk.Desk.run.Goals as goal
 

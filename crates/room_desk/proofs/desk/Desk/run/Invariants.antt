@@ -1,12 +1,13 @@
 use Rattle.std.proofs.Common.{◌≡◌, ◌≢◌, ◌≤◌, List, [], ◌∷◌, ◌++◌, length, map, take, vec_len, vec_capacity}
 use Rattle.room_records.specs.Room.{Room}
+use Rattle.room_records.specs.Shelf.{ShelfFrame}
 use Rattle.room_wire.specs.Asks.EventModel.{event_model}
 use Rattle.room_wire.specs.declared.answers.code.Code.TheVariants.{Delay}
 use Rattle.room_wire.specs.Serving.Outputs.{InTurn}
 use Rattle.room_desk.specs.AnswerModel.{AnswerModel, Refused, answer_model}
 use Rattle.room_desk.specs.History.{History}
 use Rattle.room_desk.specs.Representation.{StandsFor}
-use Rattle.room_desk.specs.Serving.{DeskCall, EventAnswered, Run}
+use Rattle.room_desk.specs.Serving.{EventAnswered, Run}
 use Rattle.room_desk.proofs.desk.Desk.run.Given as goal
 
 -- the answers so far are a run over the events so far
@@ -14,7 +15,7 @@ abbrev pub invariant-loop-event : goal.invariant-loop-event
 invariant-loop-event g l = let s = g.S.Shelf in record {
   room : length l.events ≤ vec_capacity l.answers;
   count : vec_len l.answers ≡ l.event-index;
-  frame : DeskCall (s.view l.fn.self) (s.view l.self);
+  frame : ShelfFrame (s.view l.fn.self) (s.view l.self);
   alive : (s.view l.self).is_intact → (before : List AnswerModel) (last : AnswerModel)
       → map answer_model l.answers.items ≡ before ++ last ∷ [] → last ≢ Refused Delay → (s.view l.self).is_available;
   run : (s.view l.self).is_intact → (start : Room) (past : History) → StandsFor start past (s.view l.fn.self) →
