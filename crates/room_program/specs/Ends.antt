@@ -5,19 +5,19 @@ use Rattle.room_program.specs.declared.fault.Fault.{Fault}
 use Rattle.room_program.specs.declared.fault.Fault.TheVariants.{BadName, Memory, SelftestFailed}
 use Rattle.room_program.specs.Machines.{Call}
 use Rattle.room_program.specs.Machines.Call.{asks, hears}
-use Rattle.room_program.specs.Files.{MakesAt}
+use Rattle.room_program.specs.Files.{FailsBy, MakesAt}
 use Rattle.room_program.specs.Calls.{Exchange, AcceptsEach, AcceptsFewer}
 
--- a name that is no principal, or want of memory
-abbrev pub IsNameFault : List ℕ → Fault → Type 0
-IsNameFault name BadName = ¬ IsPrincipal name
-IsNameFault name Memory = Unit {0}
-IsNameFault name other = ⊥
+-- a name is no principal, or memory is wanting
+abbrev pub IsNameFault : (are_principals : Type 0) → Fault → Type 0
+IsNameFault are_principals BadName = ¬ are_principals
+IsNameFault are_principals Memory = Unit {0}
+IsNameFault are_principals other = ⊥
 
-abbrev pub IsNamesFault : (owner group : List ℕ) → Fault → Type 0
-IsNamesFault owner group BadName = ¬ (IsPrincipal owner × IsPrincipal group)
-IsNamesFault owner group Memory = Unit {0}
-IsNamesFault owner group other = ⊥
+-- that of an owner and a group, before anything is done
+abbrev pub FailsNames : {M : Type 0} → (owner group : List ℕ) → (old new : M) → Result (Unit {0}) Fault → Type 0
+FailsNames owner group old new done =
+    FailsBy (λ fault. IsNameFault (IsPrincipal owner × IsPrincipal group) fault × (new ≡ old)) done
 
 -- `init`: `bad name` comes only where a name is no principal, and then no store is opened; else a room is made in the
 -- store at the path, and the store is closed with this room in it, or it is let go
@@ -25,7 +25,7 @@ abbrev pub InitEnds : {M C : Type 0} → (does : M → Call C → M → Type 0) 
     → (unmade : C → C → Fault → Type 0) → (db owner group : List ℕ) → (old new : M)
     → Result (Unit {0}) Fault → Type 0
 InitEnds does made unmade db owner group old new done =
-    ((fault : Fault) × (done ≡ Err fault) × IsNamesFault owner group fault × (new ≡ old))
+    FailsNames owner group old new done
     ⊎ ((IsPrincipal owner × IsPrincipal group) × MakesAt does made unmade db old new done)
 
 abbrev pub IsSelftestFault : Fault → Type 0
@@ -83,4 +83,4 @@ Talks {M} does accepts fails old new done =
 abbrev pub SelftestEnds : {M C : Type 0} → (does : M → Call C → M → Type 0) → (accepts : M → Exchange → M → Type 0)
     → (fails : M → M → Type 0) → (old new : M) → Result (Unit {0}) Fault → Type 0
 SelftestEnds does accepts fails old new done =
-    ((fault : Fault) × (done ≡ Err fault) × IsSelftestFault fault × (new ≡ old)) ⊎ Talks does accepts fails old new done
+    FailsBy (λ fault. IsSelftestFault fault × (new ≡ old)) done ⊎ Talks does accepts fails old new done

@@ -50,6 +50,17 @@ OpensStore {M} {C} does path old new (Err StoreFailed) =
 OpensStore does path old new (Err Memory) = does old (opens path (Err (SqliteFailure OutOfMemory))) new
 OpensStore does path old new (Err other) = ⊥
 
+-- it fails with a fault of this kind
+abbrev pub FailsBy : {R : Type 0} → (Fault → Type 0) → Result R Fault → Type 0
+FailsBy Is done = (fault : Fault) × (done ≡ Err fault) × Is fault
+
+-- the store at a path is opened, and this is done with it; or it is not
+abbrev pub OpensAnd : {M C R : Type 0} → (does : M → Call C → M → Type 0)
+    → (does_so : C → M → M → Result R Fault → Type 0) → List ℕ → M → M → Result R Fault → Type 0
+OpensAnd {M} {C} does does_so path old new done =
+    FailsBy (λ fault. OpensStore does path old new (Err fault)) done
+    ⊎ ((opened : C) × (begun : M) × OpensStore does path old begun (Ok opened) × does_so opened begun new done)
+
 -- the shelf over a store that was opened; or why it is no room that can be taken, and it is let go
 abbrev pub Adopts : {M C Shelf : Type 0} → (does : M → Call C → M → Type 0)
     → (takes : C → Result Shelf (Fault × C) → Type 0) → C → M → M → Result Shelf Fault → Type 0
@@ -60,10 +71,7 @@ Adopts {M} {C} does takes opened old new (Err fault) =
 -- the shelf over the store at a path: the one that was opened and adopted
 abbrev pub OpensRoom : {M C Shelf : Type 0} → (does : M → Call C → M → Type 0)
     → (takes : C → Result Shelf (Fault × C) → Type 0) → List ℕ → M → M → Result Shelf Fault → Type 0
-OpensRoom {M} {C} does takes path old new taken =
-    ((fault : Fault) × (taken ≡ Err fault) × OpensStore does path old new (Err fault))
-    ⊎ ((opened : C) × (begun : M) × OpensStore does path old begun (Ok opened)
-    × Adopts does takes opened begun new taken)
+OpensRoom does takes path old new taken = OpensAnd does (Adopts does takes) path old new taken
 
 -- nothing is opened where a file is not there or empty, which is no room, or where that can't be told
 abbrev pub IsUnopened : {Shelf : Type 0} → (begun : Option Bool) → Result Shelf Fault → Type 0
@@ -89,12 +97,15 @@ Adopted g opened taken = (IsTrue (has_room opened.schema) ⊎ IsTrue (has_first_
     × Survives (state g opened) (state g taken.0.conn) (adoption.MayBeTaken (state g opened))
     × KnowsNothing taken.0.known × ((r : Records) → IsTrueOf taken.1 r)
 
+-- what a store shows is committed, where no fault has shut it
+abbrev pub ShowsCommitted : {S : Type 0} → Ghosts S → Held S → Type 0
+ShowsCommitted g s = IsTrue (state g s).is_open → (state g s).now.trees ≡ (state g s).committed.trees
+
 -- a store that is let go shows what it showed, and committed it, where no fault has shut it, and a crash leaves what it
 -- could leave before, or what a commit that was tried leaves
 abbrev pub IsSpared : {S : Type 0} → Ghosts S → (opened let_go : Held S) → (commits : Trees → Type 0) → Type 0
 IsSpared g opened let_go commits =
-    (IsTrue (state g let_go).is_open → (state g let_go).now.trees ≡ (state g let_go).committed.trees)
-    × (HasCleanDisk (state g let_go) → IsTrue (state g let_go).is_open
+    ShowsCommitted g let_go × (HasCleanDisk (state g let_go) → IsTrue (state g let_go).is_open
     → (state g let_go).now ≡ (state g opened).now)
     × Survives (state g opened) (state g let_go) commits
 
@@ -114,8 +125,7 @@ Takes g opened (Err (fault, let_go)) = Untaken g opened let_go fault
 -- a store that was opened had no table of a room, and a fresh room was made in it and committed, beside what was there,
 -- as `SqlShelf::init` has it
 abbrev pub Made : {S : Type 0} → Ghosts S → (owner group : List ℕ) → (opened made : Held S) → Type 0
-Made g owner group opened made = (has_a_table opened.schema ≡ false)
-    × (IsTrue (state g made).is_open → (state g made).now.trees ≡ (state g made).committed.trees)
+Made g owner group opened made = (has_a_table opened.schema ≡ false) × ShowsCommitted g made
     × (HasCleanDisk (state g made) → IsTrue (state g made).is_open
     × (opened.schema ≡ schema_0 → IsFreshRoom owner group (state g made).now))
     × Survives (state g opened) (state g made) (MayBeMade owner group (state g opened).now)
@@ -125,7 +135,7 @@ Made g owner group opened made = (has_a_table opened.schema ≡ false)
 -- what it shows committed; or it had none and is spared
 abbrev pub Unmade : {S : Type 0} → Ghosts S → (owner group : List ℕ) → (opened let_go : Held S) → Fault → Type 0
 Unmade g owner group opened let_go RoomExists = IsTrue (has_a_table opened.schema) × (let_go ≡ opened)
-    × (IsTrue (state g let_go).is_open → (state g let_go).now.trees ≡ (state g let_go).committed.trees)
+    × ShowsCommitted g let_go
 Unmade g owner group opened let_go StoreFailed =
     (has_a_table opened.schema ≡ false) × IsSpared g opened let_go (MayBeMade owner group (state g opened).now)
 Unmade g owner group opened let_go Memory =
@@ -142,7 +152,4 @@ Makes {M} {C} does made unmade opened old new (Err fault) =
 
 abbrev pub MakesAt : {M C : Type 0} → (does : M → Call C → M → Type 0)
     → (made : C → C → Type 0) → (unmade : C → C → Fault → Type 0) → List ℕ → M → M → Result (Unit {0}) Fault → Type 0
-MakesAt {M} {C} does made unmade path old new done =
-    ((fault : Fault) × (done ≡ Err fault) × OpensStore does path old new (Err fault))
-    ⊎ ((opened : C) × (begun : M) × OpensStore does path old begun (Ok opened)
-    × Makes does made unmade opened begun new done)
+MakesAt does made unmade path old new done = OpensAnd does (Makes does made unmade) path old new done

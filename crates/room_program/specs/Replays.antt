@@ -9,7 +9,7 @@ use Rattle.room_desk.specs.History.{History}
 use Rattle.room_desk.specs.Serving.{AnswersMessage}
 use Rattle.room_program.specs.declared.fault.Fault.{Fault}
 use Rattle.room_program.specs.declared.fault.Fault.TheVariants.{Memory}
-use Rattle.room_program.specs.Ends.{IsNamesFault}
+use Rattle.room_program.specs.Ends.{FailsNames}
 use Rattle.room_program.specs.Faults.{done_of}
 use Rattle.room_program.specs.Files.{TakesRoster}
 use Rattle.room_program.specs.Machines.{Call}
@@ -20,7 +20,7 @@ use Rattle.room_program.specs.Rooms.{FailsRoster}
 abbrev pub IsStartFault : {M C : Type 0} → (does : M → Call C → M → Type 0)
     → (roster owner group : List ℕ) → (old new : M) → Result (Unit {0}) Fault → Type 0
 IsStartFault does roster owner group old new done =
-    ((fault : Fault) × (done ≡ Err fault) × IsNamesFault owner group fault × (new ≡ old))
+    FailsNames owner group old new done
     ⊎ ((IsPrincipal owner × IsPrincipal group) × (FailsRoster does roster old new done
     ⊎ ((done ≡ Err Memory) × (users : List SubjectModel) × TakesRoster does roster old new (Ok users))))
 

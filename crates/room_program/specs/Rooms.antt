@@ -13,7 +13,7 @@ use Rattle.room_program.specs.declared.fault.Fault.{Fault}
 use Rattle.room_program.specs.declared.fault.Fault.TheVariants.{NetworkFailed}
 use Rattle.room_program.specs.Calls.{Exchange, ServesEach, ServesFewer}
 use Rattle.room_program.specs.Faults.{done_of_report}
-use Rattle.room_program.specs.Files.{TakesRoster, TakesRoom}
+use Rattle.room_program.specs.Files.{FailsBy, TakesRoster, TakesRoom}
 use Rattle.room_program.specs.Machines.{Call}
 use Rattle.room_program.specs.Machines.Call.{listens, closes, leaves}
 use Rattle.room_program.specs.Streams.{Served}
@@ -33,12 +33,11 @@ pub record WritesReport {Shelf : Type 0} (view : Shelf → View)
 
 abbrev pub FailsRoster : {M C : Type 0} → (does : M → Call C → M → Type 0)
     → List ℕ → M → M → Result (Unit {0}) Fault → Type 0
-FailsRoster does path old new done = (fault : Fault) × (done ≡ Err fault) × TakesRoster does path old new (Err fault)
+FailsRoster does path old new done = FailsBy (λ fault. TakesRoster does path old new (Err fault)) done
 
 abbrev pub FailsRoom : {M C Shelf : Type 0} → (does : M → Call C → M → Type 0)
     → (takes : C → Result Shelf (Fault × C) → Type 0) → List ℕ → M → M → Result (Unit {0}) Fault → Type 0
-FailsRoom does takes path old new done =
-    (fault : Fault) × (done ≡ Err fault) × TakesRoom does takes path old new (Err fault)
+FailsRoom does takes path old new done = FailsBy (λ fault. TakesRoom does takes path old new (Err fault)) done
 
 -- `report`: the roster is taken, then the room, and then its report is written; before that nothing is written. The
 -- store that is let go is the one over which it was written
