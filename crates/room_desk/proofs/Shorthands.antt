@@ -11,7 +11,7 @@ use Rattle.room_wire.specs.declared.fault.WireFault.{WireFault}
 use Rattle.room_wire.specs.Asks.AskOf.{AskModel}
 use Rattle.room_wire.specs.Asks.EventModel.{EventModel}
 use Rattle.room_desk.specs.AnswerModel.{AnswerModel, Reply, Refused}
-use Rattle.room_desk.specs.History.{History, Session, Accepted, kept_reply}
+use Rattle.room_desk.specs.History.{History, Session, Accepted, state_after, kept_of_request}
 use Rattle.room_desk.specs.RowAnswers.{EventChangesFew}
 use Rattle.room_desk.specs.Serving.{by_event}
 
@@ -31,7 +31,7 @@ abbrev pub answer_again : Option (List ℕ) → AnswerModel
 answer_again kept = option_map_or Reply kept (Refused RetryUncached)
 
 abbrev pub replay : Room → Accepted → AnswerModel
-replay start a = answer_again (kept_reply start a)
+replay start a = answer_again (kept_of_request (state_after start a.before) a.request).reply
 
 abbrev pub AskChangesFew : Room → History → Result AskModel WireFault → (old new : Records) → Type 0
 AskChangesFew start past ask old new = by_event (λ event. EventChangesFew start past event old new) (Unit {0}) ask

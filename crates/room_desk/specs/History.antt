@@ -8,6 +8,7 @@ use Rattle.std.specs.Bool.{then_some}
 use Rattle.std.specs.Option.{option_map, option_map_or, option_or}
 use Rattle.std.specs.Str.{bytes_eq}
 use Rattle.room_acl.specs.SubjectModel.{SubjectModel}
+use Rattle.room_slots.specs.KeptModel.{KeptModel}
 use Rattle.room_slots.specs.Slots.{next_number}
 use Rattle.room_records.specs.Room.{Room}
 use Rattle.room_commands.specs.ReplyModel.{Done, Opened}
@@ -100,9 +101,13 @@ AcceptsLawful past = (sid : List ℕ) (slot : ℕ)
 abbrev pub original_reply : Room → Accepted → List ℕ
 original_reply start a = reply_text (effect (state_after start a.before) a.request.caller a.request.command).reply
 
--- the reply of an accepted request, where the request asked that it be kept
-abbrev pub kept_reply : Room → Accepted → Option (List ℕ)
-kept_reply start a = then_some a.request.keep (original_reply start a)
+-- what a slot keeps of a request that is accepted over this room: its number and command, and the reply if it asks so
+abbrev pub kept_of_request : Room → Request → KeptModel
+kept_of_request room q = record {
+  seq = q.seq;
+  request = command_text q.command;
+  reply = then_some q.keep (reply_text (effect room q.caller q.command).reply);
+}
 
 -- a request that is not accepted, in a session that its caller may use: a repeat, a false retry (RFC 8881, section
 -- 2.10.6.1.3.1) or misordered. A repeat is answered by the original reply where that is kept (section 2.10.6.1), and
@@ -112,7 +117,8 @@ answer_unaccepted start q [] = Refused SeqMisordered
 answer_unaccepted start q (last ∷ earlier) =
     if q.seq == last.request.seq
     then (if bytes_eq (command_text q.command) (command_text last.request.command)
-    then option_map_or Reply (kept_reply start last) (Refused RetryUncached) else Refused SeqFalseRetry)
+    then option_map_or Reply (kept_of_request (state_after start last.before) last.request).reply
+    (Refused RetryUncached) else Refused SeqFalseRetry)
     else Refused SeqMisordered
 
 -- an OPEN of an unused name, or of an open one of the caller with the same slots, succeeds (our own rule)

@@ -1,7 +1,6 @@
 -- Rows that stand for a history (our own rules).
 use Rattle.std.specs.Prelude.{◌≡◌, ℕ, true, false, List, [], ◌∷◌, Option}
 use Rattle.std.specs.Prelude.{None, Some, if◌then◌else◌}
-use Rattle.std.specs.Bool.{then_some}
 use Rattle.std.specs.Option.{option_map, option_map_or}
 use Rattle.room_slots.specs.KeptModel.{KeptModel}
 use Rattle.room_records.specs.declared.session.SessionRow.{SessionRow}
@@ -12,22 +11,13 @@ use Rattle.room_records.specs.Shelf.{View}
 use Rattle.room_commands.specs.ReplyModel.{IsNotDone}
 use Rattle.room_commands.specs.Effect.{effect}
 use Rattle.room_commands.specs.Needs.{NeedsAllowed}
-use Rattle.room_wire.specs.Asks.EventModel.{EventModel, Request, Slot}
-use Rattle.room_wire.specs.Forms.Texts.{command_text, reply_text}
+use Rattle.room_wire.specs.Asks.EventModel.{EventModel, Slot}
 use Rattle.room_desk.specs.History.{History, Session, session_of, is_open, Accepted, accepted, is_accepted, state_after}
-use Rattle.room_desk.specs.History.{AcceptsLawful, changes_rows}
+use Rattle.room_desk.specs.History.{AcceptsLawful, changes_rows, kept_of_request}
 
 abbrev pub session_row_of : List ℕ → Session → SessionRow
 session_row_of sid session =
     record { sid = sid; owner = session.owner; slots = session.slots; is_open = is_open sid session }
-
--- what a slot keeps of a request that is accepted over this room: its number and command, and the reply if it asks so
-abbrev pub kept_of_request : Room → Request → KeptModel
-kept_of_request room q = record {
-  seq = q.seq;
-  request = command_text q.command;
-  reply = then_some q.keep (reply_text (effect room q.caller q.command).reply);
-}
 
 -- what a slot keeps: nothing, or the last of its accepted requests
 abbrev pub kept_after : Room → List Accepted → Option KeptModel

@@ -29,8 +29,7 @@ use Rattle.room_wire.specs.Forms.Texts.{reply_text}
 use Rattle.room_desk.specs.declared.requests.Found.{Found}
 use Rattle.room_desk.specs.declared.requests.Found.TheVariants as F
 use Rattle.room_desk.specs.AnswerModel.{AnswerModel, Reply, Refused}
-use Rattle.room_desk.specs.History.{History, is_accepted, state_after}
-use Rattle.room_desk.specs.Representation.{kept_of_request}
+use Rattle.room_desk.specs.History.{History, is_accepted, kept_of_request, state_after}
 
 -- an OPEN of a name that was opened before
 abbrev pub answer_open_again : SubjectModel → ℕ → SessionRow → AnswerModel
