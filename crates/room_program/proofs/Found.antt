@@ -551,7 +551,7 @@ module _ {D M : Type 0} (g : Ghosts D) (image : Image) (does : M → Call (Held 
   pub not_made : (db owner group : List ℕ) (before later : M) (why : Fault)
       → InitEnds does (Made over_files owner group) (Unmade over_files owner group) db owner group before later
       (Err why) → SparesRoom does left image before later
-  not_made db owner group before later why (inl (fault, is, names, same)) = inl (ap left same)
+  not_made db owner group before later why (inl (fault, is, (names, same))) = inl (ap left same)
   not_made db owner group before later why (inr (principals, inl (fault, is, none))) =
       unopened_left db before later fault none
   not_made db owner group before later why (inr (principals, inr (opened, begun, is, (let_go, none, gone)))) =
@@ -592,7 +592,7 @@ module _ {D M : Type 0} (g : Ghosts D) (image : Image) (does : M → Call (Held 
       (done : Result (Unit {0}) Fault)
       → Replays does roster owner group before later input rest output written done → left later ≡ left before
   replay_left roster owner group before later input rest output written done
-      (inl (inl (why, is, names, same), unread, unwritten)) = ap left same
+      (inl (inl (why, is, (names, same)), unread, unwritten)) = ap left same
   replay_left roster owner group before later input rest output written done
       (inl (inr (names, inl (why, is, none)), unread, unwritten)) = roster_left roster before later (Err why) none
   replay_left roster owner group before later input rest output written done
@@ -615,7 +615,7 @@ module _ {D M : Type 0} (g : Ghosts D) (image : Image) (does : M → Call (Held 
 
     pub selftest_left : (before later : M) (done : Result (Unit {0}) Fault)
         → SelftestEnds does accepts fails before later done → left later ≡ left before
-    selftest_left before later done (inl (why, is, fault, same)) = ap left same
+    selftest_left before later done (inl (why, is, (fault, same))) = ap left same
     selftest_left before later done (inr (inl (is, asked))) = tells before later (asks first_sent false) asked
     selftest_left before later done (inr (inr (first, asked, inl (is, again)))) =
         tells first later (asks second_sent false) again ∙ tells before first (asks first_sent true) asked

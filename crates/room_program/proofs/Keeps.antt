@@ -68,7 +68,7 @@ module _ {D M : Type 0} (g : Ghosts D) (image : Image) (does : M → Call (Held 
       → Keeps
   init_keeps db owner group (Err why) ends =
       inl (unmade_run g image does left stays tells db owner group before later why one ends none sees at)
-  init_keeps db owner group (Ok done) (inl (why, is, names, same)) = absurd (let e = is in cc)
+  init_keeps db owner group (Ok done) (inl (why, is, (names, same))) = absurd (let e = is in cc)
   init_keeps db owner group (Ok done) (inr (principals, inl (why, is, unopened))) = absurd (let e = is in cc)
   init_keeps db owner group (Ok done) (inr (principals, inr (opened, begun, is, (closed, made, did)))) =
       let clean = (closed_in g closed (left later) image one (tells begun later (closes closed) did) at).0 in

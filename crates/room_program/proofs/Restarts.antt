@@ -352,7 +352,7 @@ module _ {D M : Type 0} (g : Ghosts D) (image : Image) (does : M → Call (Held 
       let over = (tells seen begun (opens db (Ok opened)) is).0 in
       let (clean, (it, (kept, sure), numbered, may)) =
       kept_in g let_go (left later) image one (tells begun later (leaves let_go) gone) at in
-      let before = (none.no_room refl).0.crash in
+      let before = (none.no_room refl).0 in
       let was = was_clean before clean in
       let same = found_database g image held holds opened over was in
       may_hold g it one held may numbered holds.sound (λ trees found.

@@ -114,7 +114,7 @@ IsSpared g opened let_go commits =
 pub record Untaken {S : Type 0} (g : Ghosts S) (opened let_go : Held S) (why : Fault) : Type 0 where
   pub fault : (why ≡ NotARoom) ⊎ ((why ≡ StoreFailed) ⊎ (why ≡ Memory))
   pub spared : IsSpared g opened let_go (adoption.MayBeTaken (state g opened))
-  pub no_room : why ≡ NotARoom → adoption.IsAsBefore (state g opened) (state g let_go)
+  pub no_room : why ≡ NotARoom → Survives (state g opened) (state g let_go) (λ _. ⊥)
       × (HasCleanDisk (state g let_go) → adoption.HasAnotherVersion (state g opened))
 
 abbrev pub Takes : {S : Type 0} (g : Ghosts S) → (opened : Held S)

@@ -18,7 +18,7 @@ returns-in-Err-NotARoom-default g c =
       record {
         fault = inl refl;
         spared = (gone.rests, e.ensures.unchanged, e.ensures.refused);
-        no_room = λ is. (e.ensures.left (inr e.field-0-0-is), e.ensures.no_version e.field-0-0-is);
+        no_room = λ is. ((e.ensures.left (inr e.field-0-0-is)).crash, e.ensures.no_version e.field-0-0-is);
       },
       gone.left,
     )
