@@ -1,7 +1,7 @@
 -- Which bits a list allows: the first applying entry that names a bit decides it (RFC 8881, section 6.2.1), but for the
 -- two that an object's owner always has (our own rule).
 use Rattle.std.specs.Prelude.{◌≡◌, ℕ, ◌^◌, ◌<◌, Bool, true, false, not, ◌&&◌, ◌||◌, ◌⊎◌, List, ◌∷◌, ◌++◌, IsTrue}
-use Rattle.std.specs.Prelude.{Option, None, Some}
+use Rattle.std.specs.Prelude.{Option, None, Some, bit_and}
 use Rattle.std.specs.List.{find, list_any, AllByRecursion}
 use Rattle.std.specs.Str.{bytes_eq}
 use Rattle.room_acl.specs.declared.who.Who.{Who}
@@ -95,3 +95,7 @@ decision entries caller standing wanted = decision_by (refused_bit entries calle
 
 abbrev pub allowed_mask : List EntryModel → SubjectModel → Standing → ℕ
 allowed_mask entries caller standing = mask_of (allows_bit entries caller standing)
+
+-- those of the wanted rights that are allowed
+abbrev pub allowed_of : List EntryModel → SubjectModel → Standing → ℕ → ℕ
+allowed_of entries caller standing wanted = bit_and wanted (allowed_mask entries caller standing)

@@ -1,12 +1,12 @@
 -- The effect of a command: a room and a reply (our own rule).
 use Rattle.std.specs.Prelude.{ℕ, ◌+◌, not, List, [], ◌∷◌, ◌++◌, map, length, drop, Option, None, Some}
-use Rattle.std.specs.Prelude.{if◌then◌else◌, bit_and}
+use Rattle.std.specs.Prelude.{if◌then◌else◌}
 use Rattle.std.specs.List.{filter}
 use Rattle.room_acl.specs.declared.subject.Kind.{Kind}
 use Rattle.room_acl.specs.declared.subject.Kind.TheVariants.{File, Folder}
 use Rattle.room_acl.specs.Bits.{auto_inherit_flag}
 use Rattle.room_acl.specs.SubjectModel.{SubjectModel}
-use Rattle.room_acl.specs.Access.{allowed_mask}
+use Rattle.room_acl.specs.Access.{allowed_of}
 use Rattle.room_records.specs.Names.{Path, path_eq}
 use Rattle.room_commands.specs.CommandModel.{CommandModel}
 use Rattle.room_commands.specs.CommandModel as C
@@ -82,7 +82,7 @@ reply room caller (C.Write bytes path) = Size (length bytes)
 reply room caller (C.Append bytes path) = Size (length (bytes_at room path) + length bytes)
 reply room caller (C.GetList path) = Entries (object_or_default room path).aclflag (list_of room path)
 reply room caller (C.Access mask path) =
-    Allowed (bit_and mask (allowed_mask (list_of room path) caller (standing_of (object_or_default room path))))
+    Allowed (allowed_of (list_of room path) caller (standing_of (object_or_default room path)) mask)
 reply room caller command = Done
 
 abbrev pub effect_by : Room → SubjectModel → CommandModel → Option Refusal → Effect

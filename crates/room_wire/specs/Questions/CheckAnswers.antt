@@ -1,5 +1,5 @@
 -- The texts of the answers to questions.
-use Rattle.std.specs.Prelude.{ℕ, List, [], ◌∷◌, None, codes, bit_and}
+use Rattle.std.specs.Prelude.{ℕ, List, [], ◌∷◌, None, codes}
 use Rattle.std.specs.Option.{option_map_or}
 use Rattle.serde_json.specs.Data.{Data, array}
 use Rattle.serde_json.specs.Written.{compact_text}
@@ -10,7 +10,7 @@ use Rattle.room_acl.specs.declared.access.Decision.{Decision}
 use Rattle.room_acl.specs.declared.access.Decision.TheVariants.{Allowed, Denied}
 use Rattle.room_acl.specs.SubjectModel.{SubjectModel}
 use Rattle.room_acl.specs.Entries.{EntryModel}
-use Rattle.room_acl.specs.Access.{decision, allowed_mask}
+use Rattle.room_acl.specs.Access.{decision, allowed_of}
 use Rattle.room_acl.specs.Inheritance.{handed_down, own_entries_fault}
 use Rattle.room_commands.specs.Checks.{list_fault_code}
 use Rattle.room_wire.specs.Questions.QuestionModel.{QuestionModel, OfList, OfChild}
@@ -25,10 +25,10 @@ bit_of (Denied bit) = bit
 abbrev pub allowed_data : (allowed bit : ℕ) → Data
 allowed_data allowed bit = obj ((codes "allowed", num allowed) ∷ (codes "bit", num bit) ∷ ok ∷ [])
 
--- the wanted bits that are allowed, and the lowest wanted bit that is not
+-- the wanted rights that are allowed, and the lowest that is not
 abbrev pub rights_text : List EntryModel → SubjectModel → Standing → ℕ → List ℕ
 rights_text entries subject standing mask =
-    compact_text (allowed_data (bit_and (allowed_mask entries subject standing) mask)
+    compact_text (allowed_data (allowed_of entries subject standing mask)
     (bit_of (decision entries subject standing mask)))
 
 abbrev pub entries_data : List EntryModel → Data

@@ -62,7 +62,7 @@ fn list_answer(
     ensures { IfOk result (λ text.
         text.items ≡ rights_text entries.now subject.now standing.now mask) }
 {
-    let allowed = allowed_bits(entries, subject, standing).bits() & mask.bits();
+    let allowed = mask.bits() & allowed_bits(entries, subject, standing).bits();
     let bit = bit_of(decide(entries, subject, standing, mask));
     allowed_text(alloc, allowed, bit)
 }
