@@ -7,6 +7,7 @@ use Rattle.std.specs.List.{filter_map, list_all}
 use Rattle.std.specs.Map.{lookup}
 use Rattle.std.specs.Option.{option_map}
 use Rattle.std.specs.BTreeMap.{insert_entry}
+use Rattle.std.specs.declared.cmp.Ordering.{Ordering}
 use Rattle.room_acl.specs.declared.subject.Kind.{Kind}
 use Rattle.room_acl.specs.declared.subject.Kind.TheVariants.{Folder}
 use Rattle.room_acl.specs.declared.subject.Standing.{Standing}
@@ -67,9 +68,13 @@ name_in (a ∷ folder) (b ∷ path) = if name_eq a b then name_in folder path el
 abbrev pub child_in : Path → Path × Object → Option (Name × Kind)
 child_in folder e = option_map (λ (name : Name). (name, e.1.kind)) (name_in folder e.0)
 
+-- entries in the order of their keys
+abbrev pub in_order : {K V : Type 0} → (K → K → Ordering) → List (K × V) → List (K × V)
+in_order cmp [] = []
+in_order cmp (e ∷ es) = insert_entry cmp (in_order cmp es) e.0 e.1
+
 abbrev pub by_name : List (Name × Kind) → List (Name × Kind)
-by_name [] = []
-by_name (e ∷ es) = insert_entry name_cmp (by_name es) e.0 e.1
+by_name es = in_order name_cmp es
 
 -- what is right in a folder, rising by the bytes of names (our own rule)
 abbrev pub children : Room → Path → List (Name × Kind)

@@ -3,7 +3,6 @@ use Rattle.std.specs.Prelude.{ℕ, zero, suc, ◌+◌, ◌-◌, ◌/◌, ◌%◌
 use Rattle.std.specs.Prelude.{codes, if◌then◌else◌, replicate}
 use Rattle.std.specs.Fmt.{digit_glyph}
 use Rattle.std.specs.List.{flat_map}
-use Rattle.std.specs.BTreeMap.{insert_entry}
 use Rattle.room_acl.specs.declared.subject.Kind.{Kind}
 use Rattle.room_acl.specs.declared.subject.Kind.TheVariants.{File, Folder}
 use Rattle.room_acl.specs.Principals.{max_principal_bytes}
@@ -11,12 +10,11 @@ use Rattle.room_acl.specs.SubjectModel.{SubjectModel}
 use Rattle.room_acl.specs.Entries.{EntryModel, who_text}
 use Rattle.room_acl.specs.Access.{allowed_mask}
 use Rattle.room_records.specs.Names.{Path, path_cmp, path_text}
-use Rattle.room_records.specs.Room.{Object, Room, list_of, standing_of}
+use Rattle.room_records.specs.Room.{Object, Room, list_of, standing_of, in_order}
 
 -- the objects in path order: a folder before what is in it, names by their bytes
 abbrev pub in_path_order : List (Path × Object) → List (Path × Object)
-in_path_order [] = []
-in_path_order (e ∷ es) = insert_entry path_cmp (in_path_order es) e.0 e.1
+in_path_order es = in_order path_cmp es
 
 -- so many lower-case hexadecimal digits, with zeros at the front
 unfoldable pub hex : ℕ → ℕ → List ℕ
