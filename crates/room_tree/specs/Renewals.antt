@@ -1,7 +1,8 @@
 -- Lists below an object that are renewed after its own. All of it is our own rule.
 use Rattle.std.specs.Prelude.{◌≡◌, ◌≢◌, ℕ, ◌≤◌, ◌⊎◌, Bool, true, false, not, ◌==◌, List, [], ◌∷◌, ◌++◌}
-use Rattle.std.specs.Prelude.{reverse, IsTrue, IsSome, length, if◌then◌else◌}
+use Rattle.std.specs.Prelude.{reverse, IsTrue, IsSome, is_some, MatchOption, length, if◌then◌else◌}
 use Rattle.std.specs.List.{AllByRecursion, count_by, list_any}
+use Rattle.std.specs.Option.{option_map_or}
 use Rattle.std.specs.Prelude.{Vec, Option, None, Some}
 use Rattle.std.specs.declared.alloc.Global.{Global}
 use Rattle.room_acl.specs.Entries.{EntryModel}
@@ -30,36 +31,27 @@ pub record IsRenewed (t : ObjectRecords) (room : Room) (path : Path) (list : Lis
   pub is_list : entries ≡ list_below room path list (reverse rest)
   pub changes : entries ≢ t.entries id
 
+-- the entries that a change puts, and of which object
+abbrev pub entries_put : Change → Option (ℕ × List EntryModel)
+entries_put (PutEntries id entries) = Some (id, entries.items)
+entries_put (PutNode node) = None
+entries_put (DropNode id) = None
+entries_put (PutDoc id bytes) = None
+entries_put (PutSession row) = None
+entries_put (PutSlot row) = None
+entries_put (DropSlots sid) = None
+entries_put (PutNext next) = None
+
 -- a change that puts such entries
 abbrev pub IsRenewal : ObjectRecords → Room → Path → List EntryModel → Change → Type 0
-IsRenewal t room path list (PutEntries id entries) = IsRenewed t room path list id entries.items
-IsRenewal t room path list (PutNode node) = ⊥
-IsRenewal t room path list (DropNode id) = ⊥
-IsRenewal t room path list (PutDoc id bytes) = ⊥
-IsRenewal t room path list (PutSession row) = ⊥
-IsRenewal t room path list (PutSlot row) = ⊥
-IsRenewal t room path list (DropSlots sid) = ⊥
-IsRenewal t room path list (PutNext next) = ⊥
+IsRenewal t room path list change =
+    MatchOption (entries_put change) ⊥ (λ (id, entries). IsRenewed t room path list id entries)
 
 abbrev pub puts_entries : Change → Bool
-puts_entries (PutEntries id entries) = true
-puts_entries (PutNode node) = false
-puts_entries (DropNode id) = false
-puts_entries (PutDoc id bytes) = false
-puts_entries (PutSession row) = false
-puts_entries (PutSlot row) = false
-puts_entries (DropSlots sid) = false
-puts_entries (PutNext next) = false
+puts_entries change = is_some (entries_put change)
 
 abbrev pub puts_entries_of : ℕ → Change → Bool
-puts_entries_of id (PutEntries at entries) = id == at
-puts_entries_of id (PutNode node) = false
-puts_entries_of id (DropNode gone) = false
-puts_entries_of id (PutDoc at bytes) = false
-puts_entries_of id (PutSession row) = false
-puts_entries_of id (PutSlot row) = false
-puts_entries_of id (DropSlots sid) = false
-puts_entries_of id (PutNext next) = false
+puts_entries_of id change = option_map_or (λ (at, entries). id == at) (entries_put change) false
 
 -- these changes renew the lists below a path, where the object at the path gets this list: each puts a list that
 -- changes, each list that changes is put, and none twice
