@@ -2,9 +2,8 @@
 -- own rules).
 use Rattle.std.specs.Prelude.{◌≡◌, ◌≢◌, ℕ, ◌⊎◌, Bool, true, false, List, ◌∷◌, Result, Ok, Err}
 use Rattle.room_acl.specs.SubjectModel.{SubjectModel}
-use Rattle.room_records.specs.Records.{Records}
 use Rattle.room_records.specs.Room.{Room}
-use Rattle.room_records.specs.Shelf.{View, ShelfFrame, LeavesOldOrNew}
+use Rattle.room_records.specs.Shelf.{View, ShelfFrame, LeavesNew, LeavesOldOrNew}
 use Rattle.room_wire.specs.declared.answers.code.Code.TheVariants.{Delay}
 use Rattle.room_wire.specs.declared.fault.WireFault.{WireFault}
 use Rattle.room_wire.specs.declared.fault.WireFault.TheVariants.{BadRoute, UnknownUser}
@@ -65,7 +64,7 @@ pub record IsLeftAlone (old new : View) : Type 0 where
   pub intact : old.is_intact → new.is_intact
   pub available : old.is_available → new.is_available
   pub laid_out : old.is_laid_out → new.is_laid_out
-  pub crash : (left : Records) → new.crash_may_leave left → old.crash_may_leave left
+  pub crash : LeavesNew new old.crash_may_leave
   pub leaves_laid_out : old.leaves_laid_out → new.leaves_laid_out
 
 -- what a shelf is after an answer: the rows stand for the history before it, or for one event more. While the store is

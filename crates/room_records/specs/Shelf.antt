@@ -57,20 +57,20 @@ pub record ShelfCall (old new : View) (fault : Option ShelfFault) : Type 0 where
   pub store : fault ≡ Some Store → FailureCounted old.failures new.failures
   pub undone : new.is_available → old.is_laid_out → MatchOption fault (Unit {0}) (λ _. new.records ≡ old.records)
 
+-- a crash leaves records like these, and no others
+abbrev pub LeavesNew : View → (Records → Type 0) → Type 0
+LeavesNew new Made = (left : Records) → new.crash_may_leave left → Made left
+
 -- the frame of a call that only reads: the records are as they were too, and a crash may leave no more than before
 pub record ShelfRead (old new : View) (fault : Option ShelfFault) : Type 0 where
   pub call : ShelfCall old new fault
   pub same : new.is_available → old.is_laid_out → new.records ≡ old.records
-  pub crash : (left : Records) → new.crash_may_leave left → old.crash_may_leave left
+  pub crash : LeavesNew new old.crash_may_leave
   pub stays_laid_out : new.is_intact → old.leaves_laid_out → new.leaves_laid_out
 
 -- a crash leaves what it could leave before, or records like these
 abbrev pub LeavesOldOrNew : View → View → (Records → Type 0) → Type 0
-LeavesOldOrNew old new Made = (left : Records) → new.crash_may_leave left → old.crash_may_leave left ⊎ Made left
-
--- a crash leaves records like these, and no others
-abbrev pub LeavesNew : View → (Records → Type 0) → Type 0
-LeavesNew new Made = (left : Records) → new.crash_may_leave left → Made left
+LeavesOldOrNew old new Made = LeavesNew new (λ left. old.crash_may_leave left ⊎ Made left)
 
 -- what a read tells of the records, while the store is there and laid out
 abbrev pub Tells : {T : Type 0} → View → View → Result T ShelfFault → (Records → T → Type 0) → Type 0
