@@ -1,15 +1,15 @@
 -- The document that stands for a roster.
-use Rattle.std.specs.Prelude.{◌≡◌, ℕ, List, [], ◌∷◌, Some, codes}
+use Rattle.std.specs.Prelude.{◌≡◌, ℕ, List, [], ◌∷◌, map, Some, codes}
 use Rattle.std.specs.List.{AllByRecursion}
-use Rattle.toml.specs.Data.{string, array, table, Items, no_items, item, Members, no_members, member}
+use Rattle.toml.specs.Data.{string, array, table, Items, Members, no_members, member}
 use Rattle.toml.specs.Parse.{parse_document}
+use Rattle.toml.specs.View.{items_of}
 use Rattle.room_acl.specs.Principals.{IsPrincipal}
 use Rattle.room_acl.specs.SubjectModel.{SubjectModel}
 use Rattle.room_records.specs.Roster.{IsRoster}
 
 abbrev pub list_of_names : List (List ℕ) → Items
-list_of_names [] = no_items
-list_of_names (name ∷ names) = item (string name) (list_of_names names)
+list_of_names names = items_of (map string names)
 
 -- each user's name, with the list of its groups
 abbrev pub table_of_users : List SubjectModel → Members

@@ -1,7 +1,8 @@
 -- The texts of commands and replies: compact JSON, with members in byte order of their names.
-use Rattle.std.specs.Prelude.{ℕ, List, [], ◌∷◌, Option, None, Some, codes}
+use Rattle.std.specs.Prelude.{ℕ, List, [], ◌∷◌, map, Option, None, Some, codes}
 use Rattle.serde_json.specs.Data.{Data, Items, Members, number, string, array, object, no_items, item}
 use Rattle.serde_json.specs.Data.{no_members, member, unsigned}
+use Rattle.serde_json.specs.View.{items_of}
 use Rattle.serde_json.specs.Written.{compact_text}
 use Rattle.base64.specs.Engines.{standard}
 use Rattle.base64.specs.GeneralPurpose.{encode_of}
@@ -43,15 +44,13 @@ entry e = obj ((codes "flag", num e.flags) ∷ (codes "mask", num e.mask)
     ∷ (codes "type", num (type_of e.allow)) ∷ (codes "who", string (who_text e.who)) ∷ [])
 
 abbrev pub entries : List EntryModel → Items
-entries [] = no_items
-entries (e ∷ es) = item (entry e) (entries es)
+entries es = items_of (map entry es)
 
 abbrev pub named_child : Name × Kind → Data
 named_child n = array (item (string n.0) (item (kind n.1) no_items))
 
 abbrev pub named : List (Name × Kind) → Items
-named [] = no_items
-named (n ∷ ns) = item (named_child n) (named ns)
+named ns = items_of (map named_child ns)
 
 abbrev pub cmd : List ℕ → List ℕ × Data
 cmd name = (codes "cmd", string name)

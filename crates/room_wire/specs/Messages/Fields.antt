@@ -1,15 +1,16 @@
 -- What the fields of a head say.
-use Rattle.std.specs.Prelude.{◌≡◌, ℕ, Bool, ◌&&◌, List, [], ◌∷◌, map, length, Option, Some, None}
-use Rattle.std.specs.Prelude.{if◌then◌else◌, nat_le, codes, bytes_eq}
+use Rattle.std.specs.Prelude.{◌≡◌, ℕ, Bool, ◌&&◌, List, [], ◌∷◌, length, Option, Some, None}
+use Rattle.std.specs.Prelude.{if◌then◌else◌, nat_le, codes}
 use Rattle.std.specs.List.{list_all}
-use Rattle.std.specs.Char.{is_ascii_digit, to_ascii_lowercase}
+use Rattle.std.specs.Char.{is_ascii_digit}
+use Rattle.std.specs.Str.{str_eq_ignore_ascii_case}
 use Rattle.std.specs.Str.Parse.{digits_value}
 use Rattle.room_wire.specs.Messages.Limits.{max_body}
 use Rattle.room_wire.specs.declared.messages.fields.Found.{Found}
 use Rattle.room_wire.specs.declared.messages.fields.Found.TheVariants.{Absent, One, Many}
 
 abbrev pub has_name : List ℕ → List ℕ × List ℕ → Bool
-has_name name field = bytes_eq (map to_ascii_lowercase field.0) (map to_ascii_lowercase name)
+has_name name field = str_eq_ignore_ascii_case field.0 name
 
 -- the values of the fields of this name, in their order
 abbrev pub values_named : List ℕ → List (List ℕ × List ℕ) → List (List ℕ)

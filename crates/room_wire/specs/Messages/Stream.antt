@@ -1,15 +1,15 @@
 -- How a stream splits into messages.
-use Rattle.std.specs.Prelude.{◌≡◌, ℕ, ◌⊎◌, ◌==◌, ◌||◌, Bool, false, List, [], ◌∷◌, map, codes, bytes_eq}
+use Rattle.std.specs.Prelude.{◌≡◌, ℕ, ◌⊎◌, ◌==◌, ◌||◌, Bool, false, List, [], ◌∷◌, codes}
 use Rattle.std.specs.List.{list_any, slice_split}
 use Rattle.std.specs.Bool.{MatchBool}
-use Rattle.std.specs.Char.{to_ascii_lowercase}
+use Rattle.std.specs.Str.{str_eq_ignore_ascii_case}
 use Rattle.httparse.specs.Grammar.{trim_ows}
 use Rattle.room_wire.specs.Messages.Fields.{values_named}
 use Rattle.room_wire.specs.Messages.MessageModel.{MessageModel, fields_of, Reads, NoMessage}
 
 -- a member of a field's value that asks to close
 abbrev pub is_close : List ℕ → Bool
-is_close part = bytes_eq (map to_ascii_lowercase (trim_ows part)) (map to_ascii_lowercase (codes "close"))
+is_close part = str_eq_ignore_ascii_case (trim_ows part) (codes "close")
 
 abbrev pub lists_close : List ℕ → Bool
 lists_close value = list_any is_close (slice_split (λ b. b == 44) value)
