@@ -149,7 +149,7 @@ module _ {D : Type 0} (g : Ghosts D) (found left : Image) (opened : Held (FileSt
         | inl rows ↦ (next, (next, goes, inl refl), room next rows)
         | inr (event, asked, (changes, rows)) ↦ (
           event ∷ next,
-          (next, goes, inr (event, asked, changes, refl)),
+          (next, goes, inr (event, asked, (changes, refl))),
           room (event ∷ next) rows,
         )
       ]

@@ -10,7 +10,7 @@ use Rattle.room_wire.specs.Asks.EventModel.{EventModel}
 use Rattle.room_wire.specs.Messages.MessageModel.{MessageModel, IsMessage}
 use Rattle.room_desk.specs.AnswerModel.{AnswerModel, Refused}
 use Rattle.room_desk.specs.History.{History, answer_to, changes_rows}
-use Rattle.room_desk.specs.Representation.{RepresentsHistory, StandsFor, StandsWith}
+use Rattle.room_desk.specs.Representation.{RepresentsHistory, StandsFor}
 use Rattle.room_program.specs.Found.{HoldsRoom}
 use Rattle.room_program.specs.Streams.{GoesOn}
 
@@ -28,12 +28,16 @@ ActsOnce start past event answered after =
 abbrev pub MayAsk : List SubjectModel → EventModel → Type 0
 MayAsk users event = (m : MessageModel) × IsMessage m × (ask_of users m ≡ Ok (Event event))
 
--- a history went on by messages of these users, and perhaps by one event more that such a message asked, which changes
--- what is kept: it was under way as a fault shut the store
+-- this holds of a history, or of it with one event more, which a message of these users asks and which changes what is
+-- kept
+abbrev pub OrMore : List SubjectModel → History → (History → Type 0) → Type 0
+OrMore users past Holds = Holds past
+    ⊎ ((event : EventModel) × MayAsk users event × ((changes_rows past event ≡ true) × Holds (event ∷ past)))
+
+-- a history went on by messages of these users, and perhaps by an event that was under way as a fault shut the store
 abbrev pub GoesOnOrMore : List SubjectModel → Room → (past next : History) → Type 0
-GoesOnOrMore users start past next = (told : History) × GoesOn users start past told
-    × ((next ≡ told) ⊎ ((event : EventModel) × MayAsk users event × (changes_rows told event ≡ true)
-    × (next ≡ event ∷ told)))
+GoesOnOrMore users start past next =
+    (told : History) × GoesOn users start past told × OrMore users told (λ last. next ≡ last)
 
 -- a room that the files held is in those that were left, and its history went on by messages of these users
 abbrev pub KeepsRoom : List SubjectModel → (found left : Image) → Type 0
@@ -51,10 +55,9 @@ Steps step [] from to = to ≡ from
 Steps {U} {A} step (one ∷ more) from to = (mid : A) × step one from mid × Steps step more mid to
 
 -- messages of these users were answered, and then a crash leaves records that stand for the history by their answers,
--- or for it with one event more that such a message asked, and that are laid out
+-- or for it with one event more, and that are laid out
 abbrev pub AnswersOrMore : {S : Type 0} (view : S → View) → List SubjectModel → S → S → Type 0
 AnswersOrMore view users before after = (start : Room) (past : History) → StandsFor start past (view before)
     → (next : History) × GoesOn users start past next
-    × LeavesNew (view after) (λ left. RepresentsHistory start left next
-    ⊎ ((event : EventModel) × MayAsk users event × StandsWith start next event left))
+    × LeavesNew (view after) (λ left. OrMore users next (RepresentsHistory start left))
     × (view after).leaves_laid_out
