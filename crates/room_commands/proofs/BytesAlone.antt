@@ -1,8 +1,7 @@
 -- A command that changes bytes alone leaves rooms that look alike so.
-use Rattle.std.proofs.Common.{◌≡◌, ℕ, ◌+◌, ◌-◌, refl, ap, sym, ◌∙◌, Bool, true, false, not, ◌&&◌, ◌||◌, List, [], ◌∷◌}
-use Rattle.std.proofs.Common.{◌++◌, map, length, Option, None, Some, nat_le, cond, option_map, inl, inr, length-append}
-use Rattle.std.specs.Prelude.{is_none, max, Result}
-use Rattle.std.proofs.lemmas.Bool.{cases_Bool}
+use Rattle.std.proofs.Common.{◌≡◌, ℕ, ◌+◌, refl, ap, sym, ◌∙◌, Bool, true, false, not, ◌&&◌, ◌||◌, List}
+use Rattle.std.proofs.Common.{◌++◌, length, Option, None, Some, ◌==◌, cond, option_map, length-append}
+use Rattle.std.specs.Prelude.{is_none, Result}
 use Rattle.room_acl.specs.declared.subject.Kind.{Kind}
 use Rattle.room_acl.specs.declared.subject.Kind.TheVariants.{File, Folder}
 use Rattle.room_acl.specs.Bits.{read_data, list_directory, add_file, append_data, add_subdirectory, read_attributes}
@@ -10,7 +9,6 @@ use Rattle.room_acl.specs.Bits.{read_acl, delete_object, delete_child}
 use Rattle.room_acl.specs.SubjectModel.{SubjectModel}
 use Rattle.room_acl.specs.Entries.{EntryModel}
 use Rattle.room_acl.specs.Access.{allowed_mask}
-use Rattle.room_records.specs.Limits.{max_objects}
 use Rattle.room_records.specs.Names.{Name, Path, path_eq}
 use Rattle.room_records.specs.Room.{Object, Room, IsRoom, object_at, children, list_of, standing_of, parent_of}
 use Rattle.room_records.proofs.RoomsMap.{none_is_some, same_path}
@@ -20,13 +18,13 @@ use Rattle.room_commands.specs.CommandModel as C
 use Rattle.room_commands.specs.ReplyModel.{Refusal, Attributes}
 use Rattle.room_commands.specs.Lawful.{IsLawful}
 use Rattle.room_commands.specs.Checks.{first_refusal, checks, check_right, walk, is_file}
-use Rattle.room_commands.specs.Checks.{is_root, is_at_or_below, is_kind, check_exists, check_file}
+use Rattle.room_commands.specs.Checks.{is_root, is_kind, check_exists, check_file}
 use Rattle.room_commands.specs.Effect.{effect, effect_by, changed, with_object, size_of}
 use Rattle.room_commands.specs.Sight.{LooksAlike, Sight, may, may_remove, depth_in, sight_of}
 use Rattle.room_commands.specs.Sight.{view, changes_bytes_alone, handed_to}
 use Rattle.room_commands.proofs.Rights.{all_none}
 use Rattle.room_commands.proofs.ChecksTell.{exists_there, file_there}
-use Rattle.room_commands.proofs.RoomsObject.{after_change, children_stay}
+use Rattle.room_commands.proofs.RoomsObject.{after_change, children_stay, depth_stays}
 use Rattle.room_commands.proofs.RoomLaws.{right_alike, walk_alike, bytes_stay_out}
 use Rattle.room_commands.proofs.NothingShows.{refused_alike, in_turn}
 use Rattle.room_commands.specs.Checks.{object_or_default}
@@ -49,7 +47,7 @@ facts_at room caller path = record {
   removes = may_remove room caller path;
   names = children room path;
   depth = depth_in path room.objects;
-  full = nat_le max_objects room.made;
+  full = (room.left == 0);
 }
 
 abbrev pub size_with : List (Name × Kind) → List ℕ → Kind → ℕ
@@ -157,13 +155,6 @@ module _ (new : List ℕ → List ℕ) (count : ℕ → ℕ) (counts : (l : List
     right_stays : (q : Path) (wanted : ℕ) → check_right later caller q wanted ≡ check_right room caller q wanted
     right_stays = right_alike later room caller out
 
-    depth_stays : (q : Path) (es : List (Path × Object))
-        → depth_in q (map (λ (e : Path × Object). cond (path_eq path e.0) (e.0, write_to e.1) e) es) ≡ depth_in q es
-    depth_stays q [] = refl
-    depth_stays q (e ∷ es) =
-        let again = ap (λ d. cond (is_at_or_below e.0 q) (max (length e.0 - length q) d) d) (depth_stays q es) in
-        elim (cases_Bool (path_eq path e.0)) [ inl here ↦ rw here again | inr other ↦ rw other again ]
-
     facts_stay : (q : Path) → facts_at later caller q ≡ facts_at room caller q
     facts_stay q = (λ i. record {
       list = lists_without_bytes later room out q i;
@@ -171,8 +162,8 @@ module _ (new : List ℕ → List ℕ) (count : ℕ → ℕ) (counts : (l : List
       removes = not (is_root q) && (is_none (right_stays q delete_object i)
           || is_none (right_stays (parent_of q) delete_child i));
       names = children_stay room path write_to (λ found. refl) q i;
-      depth = depth_stays q room.objects i;
-      full = nat_le max_objects room.made;
+      depth = depth_stays room path write_to q i;
+      full = (room.left == 0);
     })
 
     seen_after : (here : Bool) (q : Path) → path_eq q path ≡ here → (way : Option Refusal) (facts : Facts)

@@ -1,7 +1,6 @@
 -- What a check that passes tells of the room.
 use Rattle.std.proofs.Common.{◌≡◌, ℕ, ◌+◌, ◌-◌, ◌<◌, ◌≤◌, refl, ap, sym, ◌∙◌, arith, Bool, true, false}
-use Rattle.std.proofs.Common.{List, [], ◌∷◌, ◌++◌, map, length, Option, None, Some, is_some, nat_lt, nat_le}
-use Rattle.std.specs.List.{AllByRecursion}
+use Rattle.std.proofs.Common.{[], ◌∷◌, ◌++◌, length, Option, None, Some, is_some, nat_lt, nat_le}
 use Rattle.std.proofs.lemmas.Bool.{ltb-false, leb-false, not-false}
 use Rattle.room_acl.specs.declared.subject.Kind.{Kind}
 use Rattle.room_acl.specs.declared.subject.Kind.TheVariants.{File, Folder}
@@ -13,9 +12,9 @@ use Rattle.room_records.specs.Room.{Object, Room, object_at, children}
 use Rattle.room_records.proofs.RoomsMap.{none_is_some, found_stands}
 use Rattle.room_commands.specs.declared.reply.RefusalCode.{RefusalCode}
 use Rattle.room_commands.specs.Checks.{refuse_if, is_kind, is_file, check_exists, check_absent, check_folder}
-use Rattle.room_commands.specs.Checks.{check_file, check_right, walk, prefix_refusal, proper_prefixes, check_size}
+use Rattle.room_commands.specs.Checks.{check_file, check_right, walk, prefix_refusal, check_size}
 use Rattle.room_commands.specs.Checks.{check_folder_full, check_depth, depth_in, is_at_or_below}
-use Rattle.room_commands.proofs.Rights.{all_none}
+use Rattle.room_commands.proofs.Rights.{all_none, at_front, walk_passes}
 use Rattle.room_commands.proofs.DepthTells.{within_depth}
 
 pub not_refused : (b : Bool) (code : RefusalCode) → refuse_if b code ≡ None → b ≡ false
@@ -64,31 +63,13 @@ module _ (room : Room) where
   not_full_there folder h = leb-false max_children (length (children room folder))
       (not_refused (nat_le max_children (length (children room folder))) _ h)
 
-all_unmapped : {X Y : Type 0} (P : Y → Type 0) (g : X → Y) (xs : List X)
-    → AllByRecursion P (map g xs) → AllByRecursion (λ x. P (g x)) xs
-all_unmapped P g [] h = tt
-all_unmapped P g (x ∷ xs) h = (h.0, all_unmapped P g xs h.1)
-
--- the folder of a path is the last of its proper prefixes
-pub at_folder : (P : Path → Type 0) (folder : Path) (name : Name)
-    → AllByRecursion P (proper_prefixes (folder ++ name ∷ [])) → P folder
-at_folder P [] name h = h.0
-at_folder P (first ∷ folder) name h = at_folder (λ path. P (first ∷ path)) folder name
-    (all_unmapped P (λ path. first ∷ path) (proper_prefixes (folder ++ name ∷ [])) h.1)
-
 module _ (room : Room) (caller : SubjectModel) where
-  -- a walk that passes finds each proper prefix passable
-  pub walk_passes : (path : Path) → walk room caller path ≡ None
-      → AllByRecursion (λ front. prefix_refusal room caller front ≡ None) (proper_prefixes path)
-  walk_passes path h = all_unmapped (λ o. o ≡ None) (prefix_refusal room caller) (proper_prefixes path)
-      (all_none (map (prefix_refusal room caller) (proper_prefixes path)) h)
-
   -- at its end stands a folder
   pub walk_ends_in_folder : (folder : Path) (name : Name) → walk room caller (folder ++ name ∷ []) ≡ None
       → (above : Object) × (object_at room folder ≡ Some above) × (above.kind ≡ Folder)
   walk_ends_in_folder folder name h =
-      let here = at_folder (λ front. prefix_refusal room caller front ≡ None)
-      folder name (walk_passes (folder ++ name ∷ []) h) in
+      let here = at_front (λ front. prefix_refusal room caller front ≡ None)
+      folder [] name (walk_passes room caller (folder ++ name ∷ []) h) in
       let (there, (is_folder, _)) = all_none (check_exists room folder ∷ check_folder room folder
       ∷ check_right room caller folder execute ∷ []) here in
       let above = exists_there room folder there in

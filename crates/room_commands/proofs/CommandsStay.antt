@@ -1,5 +1,5 @@
 -- Rooms that look alike to a caller, and will after its commands, do so after each of them.
-use Rattle.std.proofs.Common.{◌≡◌, ℕ, ◌+◌, refl, ap, sym, ◌∙◌, arith, true, false, not, ◌&&◌, ◌||◌, cond}
+use Rattle.std.proofs.Common.{◌≡◌, ℕ, ◌-◌, refl, ap, sym, ◌∙◌, arith, true, false, not, ◌&&◌, ◌||◌, cond}
 use Rattle.std.proofs.Common.{List, [], ◌∷◌, ◌++◌, length, Option, None, Some, option_map, append-nil, append_assoc}
 use Rattle.std.proofs.Common.{nat_lt, length-append, ◌⊎◌, inl, inr}
 use Rattle.std.specs.Prelude.{is_none}
@@ -113,7 +113,7 @@ module _ (a b a' b' : Room) (caller : SubjectModel) (p : Path) (before : StayAli
     (out_b : (q : Path) → is_at_or_below q p ≡ false → object_at b' q ≡ object_at b q)
     (numbers : Numbers a b a' b') (walked : walk a caller p ≡ None)
     (inside : SameBelow a' b' p) (handed : handed_to a' p ≡ handed_to b' p)
-    (made : (rest : Path) (o : Object) → object_at a' (p ++ rest) ≡ Some o → o.kind ≡ Folder → a'.made ≡ b'.made) where
+    (made : (rest : Path) (o : Object) → object_at a' (p ++ rest) ≡ Some o → o.kind ≡ Folder → a'.left ≡ b'.left) where
   -- a change below one path
   pub one_place : StayAlike caller a' b'
   one_place =
@@ -197,7 +197,7 @@ module _ (a b : Room) (caller : SubjectModel) (room_a : IsRoom a) (room_b : IsRo
       ((nothing_below a room_a rest p (absent_there a p free)
       ∙ sym (nothing_below b room_b rest p (absent_there b p free_b))) i)) in
       one_place a b (with_new a p new_a) (with_new b p new_b) caller p before later_a later_b out_a out_b
-      (inl (ap (λ n. n + 1) given.0)) walked inside
+      (inl (ap (λ n. n - 1) given.0)) walked inside
       (handed_after a b (with_new a p new_a) (with_new b p new_b) caller p p
       (λ q off. out_a q off.0) (λ q off. out_b q off.0) p (own_fronts p)
       (here_of (with_new a p new_a) (with_new b p new_b) p inside)
@@ -205,7 +205,7 @@ module _ (a b : Room) (caller : SubjectModel) (room_a : IsRoom a) (room_b : IsRo
       let kind_is : o.kind ≡ kind =
       ap (λ (f : Object). f.kind) (some_is o new_a (sym is ∙ new_there a p new_a)) in
       rw (kind_is, folder) given.2))
-      (λ rest o is is_folder. ap (λ n. n + 1) given.0)
+      (λ rest o is is_folder. ap (λ n. n - 1) given.0)
 
   -- what nothing is in, removed
   object_removed : (p : Path) → walk a caller p ≡ None → length (children a p) ≡ 0 → length (children b p) ≡ 0

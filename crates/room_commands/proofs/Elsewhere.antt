@@ -3,12 +3,11 @@ use Rattle.std.proofs.Common.{◌≡◌, ◌⊎◌, ℕ, refl, ap, sym, ◌∙�
 use Rattle.std.proofs.Common.{◌++◌, append-nil, append_assoc}
 use Rattle.std.specs.Prelude.{is_none, Err}
 use Rattle.std.proofs.Common.{length, drop}
-use Rattle.std.proofs.Common.{Option, None, Some, nat_le, option_map}
+use Rattle.std.proofs.Common.{Option, None, Some, ◌==◌, option_map}
 use Rattle.std.proofs.lemmas.Bool.{both_ways, or_parts, false_from_ne_true}
 use Rattle.room_acl.specs.declared.subject.Kind.{Kind}
 use Rattle.room_acl.specs.Bits.{read_attributes}
 use Rattle.room_acl.specs.SubjectModel.{SubjectModel}
-use Rattle.room_records.specs.Limits.{max_objects}
 use Rattle.room_records.specs.Names.{Name, Path}
 use Rattle.room_records.specs.Room.{Object, Room, IsRoom, object_at, children}
 use Rattle.room_commands.specs.CommandModel.{CommandModel, paths_of}
@@ -203,7 +202,7 @@ module _ (room later : Room) (caller : SubjectModel) (p t : Path) (is_room : IsR
     facts = facts_at room caller q
 
     abbrev full : Bool
-    full = nat_le max_objects later.made
+    full = (later.left == 0)
 
     pub view_off : Off p t q → view later caller q ≡ view_with caller (walk room caller q)
         (record facts { names = children later q; depth = depth_in q later.objects; full = full }) (object_at room q)

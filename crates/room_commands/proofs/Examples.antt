@@ -46,7 +46,7 @@ plans_a = codes "plans" ∷ codes "a" ∷ []
 
 -- after MKDIR /plans
 abbrev seven : Room
-seven = record { objects = of_ann plans Folder 1 [] [] ∷ root fresh_entries ∷ []; made = 2 }
+seven = record { objects = of_ann plans Folder 1 [] [] ∷ root fresh_entries ∷ []; left = 999998 }
 
 made_plans : effect start ann (C.Mkdir plans) ≡ record { room = seven; reply = Done }
 made_plans = refl
@@ -63,7 +63,7 @@ abbrev created : Room
 created = record {
   objects = of_ann plans_a File 1 [] (codes "hi")
       ∷ of_ann plans Folder 1 [] [] ∷ root fresh_entries ∷ [];
-  made = 3;
+  left = 999997;
 }
 
 example_created : effect seven ann (C.Create (codes "hi") plans_a) ≡ record { room = created; reply = Size 2 }
@@ -73,7 +73,7 @@ abbrev eight : Room
 eight = record {
   objects = of_ann plans_a File 1 [] (codes "hi!")
       ∷ of_ann plans Folder 1 [] [] ∷ root fresh_entries ∷ [];
-  made = 3;
+  left = 999997;
 }
 
 example_appended : effect created ann (C.Append (codes "!") plans_a) ≡ record { room = eight; reply = Size 3 }
@@ -106,7 +106,7 @@ abbrev fourteen : Room
 fourteen = record {
   objects = of_ann d_g File 1 [] [] ∷ of_ann d_f File 1 (entry true 0 65536 (User (codes "bob")) ∷ []) []
       ∷ of_ann d Folder 2 for_bob [] ∷ root fresh_entries ∷ [];
-  made = 4;
+  left = 999996;
 }
 
 example_not_empty : (effect fourteen bob (C.Remove d)).reply ≡ NotDone (record { code = NotEmpty; place = None })
@@ -127,7 +127,7 @@ fifteen = record {
       ∷ of_ann (codes "a" ∷ codes "b" ∷ []) Folder 3 (entry true 3 2033663 Owner ∷ []) []
       ∷ of_ann (codes "a" ∷ []) Folder 1 (entry true 3 1 (User (codes "bob")) ∷ []) []
       ∷ root fresh_entries ∷ [];
-  made = 6;
+  left = 999994;
 }
 
 example_follows : list_of fifteen (codes "a" ∷ codes "d" ∷ [])

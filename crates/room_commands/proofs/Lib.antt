@@ -10,10 +10,12 @@ pub mod ChecksTell
 pub mod SetListKept
 pub mod EffectIsRoom
 pub mod RoomLaws
+pub mod RightsSuffice
 pub mod OwnersLists
 pub mod Protected
 pub mod Looks
 pub mod DepthTells
+pub mod SeenShows
 pub mod NothingShows
 pub mod BytesAlone
 pub mod SameParts
@@ -23,6 +25,8 @@ pub mod Others
 pub mod OtherBytes
 pub mod Elsewhere
 pub mod Unseen
+pub mod ListsUnseen
+pub mod LeftShows
 mod Examples
 mod SightExamples
 mod UnseenExamples

@@ -18,9 +18,9 @@ use Rattle.room_commands.specs.Checks.{first_refusal, check_right, denied_at, wa
 use Rattle.room_commands.specs.Effect.{effect, effect_by}
 use Rattle.room_commands.proofs.Shorthands.{kind_of, or_no_object, right_on}
 
--- checks none of which refuses
-pass : (a : Option Refusal) (others : List (Option Refusal)) → a ≡ None
-    → first_refusal others ≡ None → first_refusal (a ∷ others) ≡ None
+-- a check that passes leaves it to those behind it
+pub pass : {found : Option Refusal} (a : Option Refusal) (others : List (Option Refusal)) → a ≡ None
+    → first_refusal others ≡ found → first_refusal (a ∷ others) ≡ found
 pass a others is rest = ap (λ x. first_refusal (x ∷ others)) is ∙ rest
 
 module _ (room : Room) (caller : SubjectModel) (path : Path) (o : Object)

@@ -27,7 +27,8 @@ use Rattle.room_commands.proofs.RoomsObject.{at_changed, after_change}
 use Rattle.room_commands.proofs.RoomsRenamed.{at_new_place, at_old_place, away}
 use Rattle.room_commands.proofs.Shorthands.{bytes_of, right_on}
 
-reply_is_no_refusal : (room : Room) (caller : SubjectModel) (command : CommandModel)
+-- the reply of what no check refuses is no refusal
+pub reply_is_no_refusal : (room : Room) (caller : SubjectModel) (command : CommandModel)
     → IsNotDone (reply room caller command) → ⊥
 reply_is_no_refusal room caller command refused = grind (arith, common_steps)
 

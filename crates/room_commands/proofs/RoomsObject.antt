@@ -1,6 +1,7 @@
 -- A room with the object at one path changed.
 use Rattle.std.proofs.Common.{◌≡◌, refl, ap, sym, ◌∙◌, Bool, true, false, cond, List, [], ◌∷◌, ◌++◌, map}
-use Rattle.std.proofs.Common.{Option, None, Some, option_map, arith, inl, inr}
+use Rattle.std.proofs.Common.{Option, None, Some, option_map, arith, inl, inr, length, ◌-◌}
+use Rattle.std.specs.Prelude.{max}
 use Rattle.std.specs.Map.{lookup}
 use Rattle.std.proofs.lemmas.Bool.{cases_Bool}
 use Rattle.std.proofs.lemmas.Grind.{common_steps}
@@ -9,6 +10,7 @@ use Rattle.room_records.specs.Names.{Path, path_eq}
 use Rattle.room_records.specs.Room.{Object, Room, IsRoom, IsObject, AreObjects, object_at, children}
 use Rattle.room_records.proofs.RoomsMap.{some_is, none_is_some, same_path, path_itself, other_path}
 use Rattle.room_records.proofs.RoomsChildren.{kind_of_child, children_rise, same_entries}
+use Rattle.room_commands.specs.Checks.{depth_in, is_at_or_below}
 use Rattle.room_commands.specs.Effect.{with_object}
 use Rattle.room_commands.proofs.RoomsNew.{same_or_other_path}
 
@@ -60,6 +62,12 @@ module _ (path : Path) (change : Object → Object) where
     )
   ]
 
+  depth_by : (q : Path) (es : List (Path × Object)) → depth_in q (map change_at es) ≡ depth_in q es
+  depth_by q [] = refl
+  depth_by q (e ∷ es) =
+      let again = ap (λ d. cond (is_at_or_below e.0 q) (max (length e.0 - length q) d) d) (depth_by q es) in
+      elim (cases_Bool (path_eq path e.0)) [ inl here ↦ rw here again | inr other ↦ rw other again ]
+
 module _ (room : Room) (path : Path) (change : Object → Object) where
   -- at its path the changed object, if there was one, and elsewhere what was there
   pub at_changed : object_at (with_object room path change) path ≡ option_map change (object_at room path)
@@ -76,8 +84,12 @@ module _ (room : Room) (path : Path) (change : Object → Object) where
     | inr apart ↦ rw (other_path q path apart) (elsewhere_unchanged q apart)
   ]
 
+  -- each subtree is as deep as it was
+  pub depth_stays : (q : Path) → depth_in q (with_object room path change).objects ≡ depth_in q room.objects
+  depth_stays q = depth_by path change q room.objects
+
   module _ (keeps_kind : (o : Object) → (change o).kind ≡ o.kind) where
-    kinds_stay : (q : Path) → option_map (λ (o : Object). o.kind) (object_at (with_object room path change) q)
+    pub kinds_stay : (q : Path) → option_map (λ (o : Object). o.kind) (object_at (with_object room path change) q)
         ≡ option_map (λ (o : Object). o.kind) (object_at room q)
     kinds_stay q = ap (option_map (λ (o : Object). o.kind)) (after_change q)
         ∙ by_test (path_eq q path) (object_at room q)

@@ -1,6 +1,6 @@
 -- Two rooms that have the same below a path: what a caller sees there is the same.
 use Rattle.std.proofs.Common.{◌≡◌, ℕ, ◌≤◌, refl, ap, sym, ◌∙◌, arith, Bool, not, ◌&&◌, ◌||◌, List, []}
-use Rattle.std.proofs.Common.{◌∷◌, ◌++◌, map, length, drop, Option, None, Some, is_some, nat_le, option_map}
+use Rattle.std.proofs.Common.{◌∷◌, ◌++◌, map, length, drop, Option, None, Some, is_some, ◌==◌, option_map}
 use Rattle.std.proofs.Common.{append-nil, append_assoc}
 use Rattle.std.specs.Prelude.{is_none, if◌then◌else◌}
 use Rattle.std.specs.List.{AllByRecursion}
@@ -10,7 +10,6 @@ use Rattle.room_acl.specs.Bits.{execute, delete_object, delete_child, add_file, 
 use Rattle.room_acl.specs.SubjectModel.{SubjectModel}
 use Rattle.room_acl.specs.Entries.{EntryModel}
 use Rattle.room_acl.specs.Access.{decision}
-use Rattle.room_records.specs.Limits.{max_objects}
 use Rattle.room_records.specs.Names.{Name, Path}
 use Rattle.room_records.specs.Room.{Object, Room, IsRoom, object_at, children, list_of, standing_of, parent_of}
 use Rattle.room_records.specs.Room.{list_under, root_list, follows}
@@ -151,7 +150,7 @@ pub record Region (x y : Room) (caller : SubjectModel) (top : Path) : Type 0 whe
   pub way : walk x caller top ≡ walk y caller top
   pub above : (wanted : ℕ) → check_right x caller (parent_of top) wanted ≡ check_right y caller (parent_of top) wanted
   -- a folder in it shows whether a number is left
-  pub made : (rest : Path) (o : Object) → object_at x (top ++ rest) ≡ Some o → o.kind ≡ Folder → x.made ≡ y.made
+  pub made : (rest : Path) (o : Object) → object_at x (top ++ rest) ≡ Some o → o.kind ≡ Folder → x.left ≡ y.left
 
 module _ (x y : Room) (caller : SubjectModel) (room_x : IsRoom x) (room_y : IsRoom y)
     (top : Path) (region : Region x y caller top) where
@@ -188,7 +187,7 @@ module _ (x y : Room) (caller : SubjectModel) (room_x : IsRoom x) (room_y : IsRo
       rw folder (λ i. handed_by (region.inside (name ∷ rest) i) (list_in end.folder i))
 
   facts_in : (rest : Path) → facts_at x caller (top ++ rest)
-      ≡ record (facts_at y caller (top ++ rest)) { full = nat_le max_objects x.made }
+      ≡ record (facts_at y caller (top ++ rest)) { full = (x.left == 0) }
   facts_in rest = (λ i. record {
     list = list_in rest i;
     may = λ wanted. is_none (right_in rest wanted i);
@@ -197,18 +196,18 @@ module _ (x y : Room) (caller : SubjectModel) (room_x : IsRoom x) (room_y : IsRo
     names = children_same x y caller (top ++ rest) (λ name.
         ap (option_map (λ (o : Object). o.kind)) (same_in rest (name ∷ []))) i;
     depth = depth_same x y room_x room_y (top ++ rest) (same_in rest) i;
-    full = nat_le max_objects x.made;
+    full = (x.left == 0);
   })
 
   full_in : (rest : Path) (o : Object) → object_at x (top ++ rest) ≡ Some o → (kind : Kind) → o.kind ≡ kind
-      → (adds : Bool) → then_some (not (is_file o.kind) && adds) (nat_le max_objects x.made)
-      ≡ then_some (not (is_file o.kind) && adds) (nat_le max_objects y.made)
+      → (adds : Bool) → then_some (not (is_file o.kind) && adds) (x.left == 0)
+      ≡ then_some (not (is_file o.kind) && adds) (y.left == 0)
   full_in rest o is File file adds = rw file refl
   full_in rest o is Folder folder adds =
-      ap (λ n. then_some (not (is_file o.kind) && adds) (nat_le max_objects n)) (region.made rest o is folder)
+      ap (λ n. then_some (not (is_file o.kind) && adds) (n == 0)) (region.made rest o is folder)
 
   numbers_in : (rest : Path) (o : Option Object) → object_at x (top ++ rest) ≡ o → (way : Option Refusal)
-      → view_with caller way (record (facts_at y caller (top ++ rest)) { full = nat_le max_objects x.made }) o
+      → view_with caller way (record (facts_at y caller (top ++ rest)) { full = (x.left == 0) }) o
       ≡ view_with caller way (facts_at y caller (top ++ rest)) o
   numbers_in rest None is way = refl
   numbers_in rest (Some o) is way =

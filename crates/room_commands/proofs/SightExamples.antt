@@ -37,7 +37,7 @@ of_ann path kind mask data_bytes = (
 )
 
 abbrev room_of : List (Path × Object) → Room
-room_of objects = record { objects = objects; made = 100 }
+room_of objects = record { objects = objects; left = 999900 }
 
 abbrev a : Path
 a = codes "a" ∷ []
@@ -146,10 +146,10 @@ one_shows = refl
 
 -- and whether the room has a number left, to whoever may add
 abbrev new_room : Room
-new_room = record { objects = of_ann [] Folder 36 [] ∷ []; made = 1 }
+new_room = record { objects = of_ann [] Folder 36 [] ∷ []; left = 999999 }
 
 abbrev used_up : Room
-used_up = record { objects = of_ann [] Folder 36 [] ∷ []; made = 1000000 }
+used_up = record { objects = of_ann [] Folder 36 [] ∷ []; left = 0 }
 
 all_but_full : view_less but_full new_room bob [] ≡ view_less but_full used_up bob []
 all_but_full = refl
@@ -164,7 +164,7 @@ used_up_shows = refl
 
 -- how many numbers are left
 abbrev one_left : Room
-one_left = record { objects = of_ann [] Folder 36 [] ∷ []; made = 999999 }
+one_left = record { objects = of_ann [] Folder 36 [] ∷ []; left = 1 }
 
 same_at_first : view one_left bob [] ≡ view new_room bob []
 same_at_first = refl

@@ -1,6 +1,6 @@
 -- Two rooms that look alike to a caller, each changed below the same two paths: they stay alike.
 use Rattle.std.proofs.Common.{◌≡◌, ℕ, refl, ap, sym, ◌∙◌, Bool, true, false, not, ◌&&◌, ◌||◌}
-use Rattle.std.proofs.Common.{List, [], ◌∷◌, ◌++◌, length, drop, Option, None, Some, is_some, nat_le, option_map}
+use Rattle.std.proofs.Common.{List, [], ◌∷◌, ◌++◌, length, drop, Option, None, Some, is_some, ◌==◌, option_map}
 use Rattle.std.proofs.Common.{append-nil, inl, inr, ◌⊎◌}
 use Rattle.std.specs.Prelude.{is_none}
 use Rattle.std.proofs.lemmas.Bool.{cases_Bool, and_parts, and_right, both_ways, false_from_ne_true, not-true}
@@ -11,7 +11,6 @@ use Rattle.room_acl.specs.Bits.{list_directory, add_file, add_subdirectory, read
 use Rattle.room_acl.specs.Bits.{write_acl, write_owner, delete_object, delete_child}
 use Rattle.room_acl.specs.SubjectModel.{SubjectModel}
 use Rattle.room_acl.specs.Inheritance.{handed_down}
-use Rattle.room_records.specs.Limits.{max_objects}
 use Rattle.room_records.specs.Names.{Name, Path, name_eq}
 use Rattle.room_records.specs.Room.{Object, Room, IsRoom, object_at, children, list_of, parent_of}
 use Rattle.room_records.proofs.RoomsMap.{some_is, none_is_some, parent_of_end, ends}
@@ -133,7 +132,7 @@ module _ (r later : Room) (caller : SubjectModel) (p t : Path)
   pub facts_out : (q : Path) → Off p t q → facts_at later caller q ≡ record (facts_at r caller q) {
     names = children later q;
     depth = depth_in q later.objects;
-    full = nat_le max_objects later.made;
+    full = (later.left == 0);
   }
   facts_out q off = (λ i. record {
     list = list_out q off i;
@@ -142,7 +141,7 @@ module _ (r later : Room) (caller : SubjectModel) (p t : Path)
         || is_none (above_out q delete_child off i));
     names = children later q;
     depth = depth_in q later.objects;
-    full = nat_le max_objects later.made;
+    full = (later.left == 0);
   })
 
 shown_if : {X : Type 0} (test other : Bool) (x y : X) → test ≡ other → (test ≡ true → x ≡ y)
@@ -158,22 +157,22 @@ shown_is false x = refl
 
 -- a command leaves both counts of what was made alike, or as they were
 abbrev pub Numbers : Room → Room → Room → Room → Type 0
-Numbers a b a' b' = (a'.made ≡ b'.made) ⊎ ((a'.made ≡ a.made) × (b'.made ≡ b.made))
+Numbers a b a' b' = (a'.left ≡ b'.left) ⊎ ((a'.left ≡ a.left) × (b'.left ≡ b.left))
 
-made_after : (a b a' b' : Room) → Numbers a b a' b' → a.made ≡ b.made → a'.made ≡ b'.made
+made_after : (a b a' b' : Room) → Numbers a b a' b' → a.left ≡ b.left → a'.left ≡ b'.left
 made_after a b a' b' (inl alike) same = alike
 made_after a b a' b' (inr kept) same = kept.0 ∙ same ∙ sym kept.1
 
 full_after : (a b a' b' : Room) → Numbers a b a' b' → (test other : Bool)
-    → then_some test (nat_le max_objects a.made) ≡ then_some other (nat_le max_objects b.made)
-    → then_some test (nat_le max_objects a'.made) ≡ then_some other (nat_le max_objects b'.made)
+    → then_some test (a.left == 0) ≡ then_some other (b.left == 0)
+    → then_some test (a'.left == 0) ≡ then_some other (b'.left == 0)
 full_after a b a' b' (inl alike) test other same =
-    shown_if test other (nat_le max_objects a'.made) (nat_le max_objects b'.made)
-    (sym (shown_is test (nat_le max_objects a.made)) ∙ ap is_some same ∙ shown_is other (nat_le max_objects b.made))
-    (λ h. ap (nat_le max_objects) alike)
+    shown_if test other (a'.left == 0) (b'.left == 0)
+    (sym (shown_is test (a.left == 0)) ∙ ap is_some same ∙ shown_is other (b.left == 0))
+    (λ h. ap (λ n. n == 0) alike)
 full_after a b a' b' (inr kept) test other same =
-    ap (λ n. then_some test (nat_le max_objects n)) kept.0 ∙ same
-    ∙ ap (λ n. then_some other (nat_le max_objects n)) (sym kept.1)
+    ap (λ n. then_some test (n == 0)) kept.0 ∙ same
+    ∙ ap (λ n. then_some other (n == 0)) (sym kept.1)
 
 shown_map : {X Y : Type 0} (f : X → Y) (test : Bool) (x : X) → then_some test (f x) ≡ option_map f (then_some test x)
 shown_map f true x = refl
@@ -251,7 +250,7 @@ some_folder (Some o) h = (o, refl, folder_of_kind o.kind (not-true (is_file o.ki
 
 -- what a folder gives to what is added to it
 abbrev Gives : Room → Room → Path → Kind → Type 0
-Gives x y folder kind = (x.made ≡ y.made)
+Gives x y folder kind = (x.left ≡ y.left)
     × ((object_or_default x folder).group ≡ (object_or_default y folder).group)
     × (handed_down (list_of x folder) kind ≡ handed_down (list_of y folder) kind)
 
@@ -329,8 +328,8 @@ module _ (a b a' b' : Room) (caller : SubjectModel) (p t : Path) (s : Step a b a
         ]
         ∙ sym (ap (λ facts. sight_with caller facts ob) (facts_out b b' caller p t s.out_b q off))
       where
-        fulls : full_seen caller facts_a oa (nat_le max_objects a'.made)
-            ≡ full_seen caller facts_b ob (nat_le max_objects b'.made)
+        fulls : full_seen caller facts_a oa (a'.left == 0)
+            ≡ full_seen caller facts_b ob (b'.left == 0)
         fulls = full_after a b a' b' s.numbers
             (not (is_file oa.kind) && (facts_a.may add_file || facts_a.may add_subdirectory))
             (not (is_file ob.kind) && (facts_b.may add_file || facts_b.may add_subdirectory))
@@ -340,47 +339,47 @@ module _ (a b a' b' : Room) (caller : SubjectModel) (p t : Path) (s : Step a b a
             → sight_with caller (record facts_a {
               names = children a' q;
               depth = depth_in q a'.objects;
-              full = nat_le max_objects a'.made;
+              full = (a'.left == 0);
             }) oa
             ≡ sight_with caller (record facts_b {
               names = children b' q;
               depth = depth_in q b'.objects;
-              full = nat_le max_objects b'.made;
+              full = (b'.left == 0);
             }) ob
         changed_names names =
             seen_changed caller facts_a facts_b oa ob same (children a' q) (depth_in q a'.objects)
-            (depth_in q b'.objects) (nat_le max_objects a'.made) (nat_le max_objects b'.made) fulls
+            (depth_in q b'.objects) (a'.left == 0) (b'.left == 0) fulls
             (depth_after walked)
             ∙ (λ i. sight_with caller (record facts_b {
               names = names i;
               depth = depth_in q b'.objects;
-              full = nat_le max_objects b'.made;
+              full = (b'.left == 0);
             }) ob)
 
         kept_names : ((n : Name) → Off p t (q ++ n ∷ []))
             → sight_with caller (record facts_a {
               names = children a' q;
               depth = depth_in q a'.objects;
-              full = nat_le max_objects a'.made;
+              full = (a'.left == 0);
             }) oa
             ≡ sight_with caller (record facts_b {
               names = children b' q;
               depth = depth_in q b'.objects;
-              full = nat_le max_objects b'.made;
+              full = (b'.left == 0);
             }) ob
         kept_names offs =
             (λ i. sight_with caller (record facts_a {
               names = names_kept_a q offs i;
               depth = depth_in q a'.objects;
-              full = nat_le max_objects a'.made;
+              full = (a'.left == 0);
             }) oa)
             ∙ seen_kept caller facts_a facts_b oa ob same (depth_in q a'.objects)
-            (depth_in q b'.objects) (nat_le max_objects a'.made) (nat_le max_objects b'.made) fulls
+            (depth_in q b'.objects) (a'.left == 0) (b'.left == 0) fulls
             (depth_after walked)
             ∙ (λ i. sight_with caller (record facts_b {
               names = sym (names_kept_b q offs) i;
               depth = depth_in q b'.objects;
-              full = nat_le max_objects b'.made;
+              full = (b'.left == 0);
             }) ob)
 
     -- where the way passes, what is there looks alike
@@ -449,7 +448,7 @@ module _ (a b a' b' : Room) (caller : SubjectModel) (p t : Path) (s : Step a b a
 
   same_below : (top : Path) → Region a' b' caller top → (rest q : Path) → q ≡ top ++ rest
       → SameBelow a' b' q × (handed_to a' q ≡ handed_to b' q) × (is_kind Folder (object_at a' q) ≡ true
-      → a'.made ≡ b'.made)
+      → a'.left ≡ b'.left)
   same_below top region rest q is = (
     rw is (same_in a' b' caller s.room_a s.room_b top region rest),
     rw is (handed_in a' b' caller s.room_a s.room_b top region rest),
@@ -518,7 +517,7 @@ module _ (a b a' b' : Room) (caller : SubjectModel) (p t : Path) (before : StayA
     (fronts : (front : Path) (n : Name) (rest : Path) → top ≡ front ++ n ∷ rest → Off p t front)
     (inside : SameBelow a' b' top) (handed : handed_to a' top ≡ handed_to b' top)
     (made : (rest : Path) (o : Object) → object_at a' (top ++ rest) ≡ Some o → o.kind ≡ Folder
-    → a'.made ≡ b'.made) where
+    → a'.left ≡ b'.left) where
   object_here : object_at a' top ≡ object_at b' top
   object_here = rw (append-nil top) at (inside [])
 

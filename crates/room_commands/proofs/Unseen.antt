@@ -1,6 +1,6 @@
 -- What others do out of a caller's sight.
 use Rattle.std.proofs.Common.{◌≡◌, ◌⊎◌, refl, ap, sym, ◌∙◌, Bool, true, false, not, ◌&&◌, ◌||◌, inl, inr}
-use Rattle.std.proofs.Common.{List, [], ◌∷◌, ◌++◌, length, drop, Option, None, Some, nat_le, option_map}
+use Rattle.std.proofs.Common.{List, [], ◌∷◌, ◌++◌, length, drop, Option, None, Some, ◌==◌, option_map}
 use Rattle.std.specs.Prelude.{is_none}
 use Rattle.std.proofs.lemmas.Bool.{cases_Bool, both_ways, or_parts, or_left, or_right, and_right, false_from_ne_true}
 use Rattle.room_acl.specs.declared.subject.Kind.{Kind}
@@ -8,7 +8,6 @@ use Rattle.room_acl.specs.declared.subject.Kind.TheVariants.{File, Folder}
 use Rattle.room_acl.specs.Bits.{list_directory, add_file, add_subdirectory, read_attributes, write_acl, write_owner}
 use Rattle.room_acl.specs.SubjectModel.{SubjectModel}
 use Rattle.room_acl.specs.Inheritance.{handed_down}
-use Rattle.room_records.specs.Limits.{max_objects}
 use Rattle.room_records.specs.Names.{Name, Path}
 use Rattle.room_records.specs.Room.{Object, Room, IsRoom, object_at, children, parent_of}
 use Rattle.room_records.proofs.RoomsMap.{none_is_some, parent_of_end}
@@ -39,7 +38,7 @@ same_or_hidden false x y (inr off) = refl
 
 module _ (room later : Room) (caller : SubjectModel) (p t : Path) (is_room : IsRoom room) (s : Leaves room later p t)
     (unseen_p : IsOutOfSight caller room p) (unseen_t : IsOutOfSight caller room t)
-    (numbers : (later.made ≡ room.made) ⊎ AddsNowhere caller room) where
+    (numbers : (later.left ≡ room.left) ⊎ AddsNowhere caller room) where
   not_below : (top q : Path) → is_none (walk room caller top) ≡ false → walk room caller q ≡ None
       → is_at_or_below q top ≡ false
   not_below top q unreached walked = false_from_ne_true (is_at_or_below q top) (λ below.
@@ -111,10 +110,10 @@ module _ (room later : Room) (caller : SubjectModel) (p t : Path) (is_room : IsR
     adds_there = facts.may add_file || facts.may add_subdirectory
 
     full_seen : (o : Object) → object_at room q ≡ Some o
-        → (nat_le max_objects later.made ≡ nat_le max_objects room.made)
+        → ((later.left == 0) ≡ (room.left == 0))
         ⊎ ((not (is_file o.kind) && adds_there) ≡ false)
     full_seen o at = elim numbers [
-      | inl same ↦ inl (ap (nat_le max_objects) same)
+      | inl same ↦ inl (ap (λ n. n == 0) same)
       | inr nowhere ↦ inr (by_kind nowhere o.kind refl)
     ]
       where
@@ -135,7 +134,7 @@ module _ (room later : Room) (caller : SubjectModel) (p t : Path) (is_room : IsR
     sight_same : (o : Object) → object_at room q ≡ Some o → sight_with caller (record facts {
       names = children later q;
       depth = depth_in q later.objects;
-      full = nat_le max_objects later.made;
+      full = (later.left == 0);
     }) o ≡ sight_with caller facts o
     sight_same o at =
         let attributes = same_or_hidden (facts.may read_attributes) (attributes_with (children later q) o)
@@ -149,8 +148,8 @@ module _ (room later : Room) (caller : SubjectModel) (p t : Path) (is_room : IsR
           | inr hidden ↦ inr (and_right (not (is_file o.kind)) (facts.may list_directory) hidden.0)
         ]) in
         let depth = same_or_hidden facts.removes (depth_in q later.objects) (depth_in q room.objects) depth_seen in
-        let full = same_or_hidden (not (is_file o.kind) && adds_there) (nat_le max_objects later.made)
-        (nat_le max_objects room.made) (full_seen o at) in
+        let full = same_or_hidden (not (is_file o.kind) && adds_there) (later.left == 0)
+        (room.left == 0) (full_seen o at) in
         (λ i. record (sight_with caller facts o) {
           attributes = attributes i;
           names = names i;
@@ -161,7 +160,7 @@ module _ (room later : Room) (caller : SubjectModel) (p t : Path) (is_room : IsR
     there_same : (o : Option Object) → object_at room q ≡ o → view_with caller None (record facts {
       names = children later q;
       depth = depth_in q later.objects;
-      full = nat_le max_objects later.made;
+      full = (later.left == 0);
     }) o ≡ view_with caller None facts o
     there_same None at = refl
     there_same (Some o) at = ap (λ (seen : Sight). if_reached None (Some seen)) (sight_same o at)
@@ -172,7 +171,7 @@ module _ (room later : Room) (caller : SubjectModel) (p t : Path) (is_room : IsR
         ∙ ap (λ way. view_with caller way (record facts {
           names = children later q;
           depth = depth_in q later.objects;
-          full = nat_le max_objects later.made;
+          full = (later.left == 0);
         }) (object_at room q)) walked
         ∙ there_same (object_at room q) refl
         ∙ ap (λ way. view_with caller way facts (object_at room q)) (sym walked)
@@ -197,7 +196,7 @@ module _ (room later : Room) (caller : SubjectModel) (p t : Path) (is_room : IsR
   made_same : (folder : Path) (o : Object) → object_at room folder ≡ Some o → o.kind ≡ Folder
       → walk room caller folder ≡ None
       → ((may room caller folder add_file || may room caller folder add_subdirectory)
-      || (may room caller folder write_acl || may room caller folder write_owner)) ≡ true → room.made ≡ later.made
+      || (may room caller folder write_acl || may room caller folder write_owner)) ≡ true → room.left ≡ later.left
   made_same folder o at is_folder walked adds = elim numbers [
     | inl same ↦ sym same
     | inr nowhere ↦ absurd (both_ways _ (nowhere folder o at is_folder walked) adds)
@@ -232,11 +231,11 @@ module _ (room later : Room) (caller : SubjectModel) (p t : Path) (is_room : IsR
 -- a command out of a caller's sight
 pub done_unseen : (room : Room) (caller other : SubjectModel) (command : CommandModel) → IsLawful command → IsRoom room
     → IsOutOfSight caller room (paths_of command).0 → IsOutOfSight caller room (paths_of command).1
-    → ((effect room other command).room.made ≡ room.made) ⊎ AddsNowhere caller room
+    → ((effect room other command).room.left ≡ room.left) ⊎ AddsNowhere caller room
     → StayAlike caller room (effect room other command).room
 done_unseen room caller other command lawful is_room unseen_p unseen_t =
     by_result room other is_room command lawful
-    (λ later. ((later.made ≡ room.made) ⊎ AddsNowhere caller room) → StayAlike caller room later)
+    (λ later. ((later.left ≡ room.left) ⊎ AddsNowhere caller room) → StayAlike caller room later)
     (λ numbers. stay_itself room caller)
     (λ later s numbers. stays_unseen room later caller (paths_of command).0 (paths_of command).1 is_room s unseen_p
     unseen_t numbers)

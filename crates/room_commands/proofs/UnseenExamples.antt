@@ -1,6 +1,6 @@
 -- An example that computes: a folder that ann makes where bob may not look does not show to bob, though it takes one of
 -- the numbers that are left.
-use Rattle.std.proofs.Common.{◌≡◌, ◌<◌, ℕ, refl, sym, arith, inl, inr, [], ◌∷◌}
+use Rattle.std.proofs.Common.{◌≡◌, ◌<◌, ℕ, refl, sym, arith, inl, inr, [], ◌∷◌, ◌++◌, false, None}
 use Rattle.std.specs.Prelude.{codes}
 use Rattle.std.specs.Str.{IsUtf8}
 use Rattle.std.proofs.lemmas.Bool.{and_from}
@@ -16,9 +16,12 @@ use Rattle.room_records.proofs.RoomsMap.{none_is_some, found_stands}
 use Rattle.room_commands.specs.CommandModel as C
 use Rattle.room_commands.specs.ReplyModel.{Done}
 use Rattle.room_commands.specs.Effect.{effect}
-use Rattle.room_commands.specs.Sight.{StayAlike, HasNoPower, Own, Other, replies_among}
+use Rattle.room_commands.specs.Sight.{LooksAlike, StayAlike, HasNoPower, Own, Other, replies_among, may}
 use Rattle.room_commands.proofs.Shorthands.{replies}
-use Rattle.room_commands.specs.Elsewhere.{IsOutOfSight, AddsNowhere}
+use Rattle.room_commands.specs.Elsewhere.{IsOutOfSight, AddsNowhere, rights_at, ListUnseen}
+use Rattle.room_commands.specs.Checks.{walk}
+use Rattle.room_acl.specs.Bits.{read_acl}
+use Rattle.room_commands.proofs.ListsUnseen.{unseen_setlist}
 use Rattle.room_commands.proofs.EffectIsRoom.{effect_is_room}
 use Rattle.room_commands.proofs.Unseen.{done_unseen}
 
@@ -42,7 +45,7 @@ abbrev locked : Room
 locked = record {
   objects = (h, record { kind = Folder; owner = codes "ann"; group = codes "ops"; aclflag = 1; own = []; bytes = [] })
       ∷ ([], fresh_object (codes "ann") (codes "eng")) ∷ [];
-  made = 2;
+  left = 999998;
 }
 
 ascii_name : (b : ℕ) → b < 128 → IsUtf8 (b ∷ [])
@@ -88,7 +91,7 @@ adds_nowhere folder o at is_folder walked = elim (found_stands locked.objects fo
 it_is_made : (effect locked ann (C.Mkdir h_a)).reply ≡ Done
 it_is_made = refl
 
-it_takes_a_number : (effect locked ann (C.Mkdir h_a)).room.made ≡ 3
+it_takes_a_number : (effect locked ann (C.Mkdir h_a)).room.left ≡ 999997
 it_takes_a_number = refl
 
 bob_sees_nothing : StayAlike bob locked (effect locked ann (C.Mkdir h_a)).room
@@ -99,3 +102,22 @@ bobs_answers : replies_among locked bob
     (Own (C.ListNames []) ∷ Other ann (C.Mkdir h_a) ∷ Own (C.ListNames []) ∷ Own (C.Stat h_a) ∷ [])
     ≡ replies locked bob (C.ListNames [] ∷ C.ListNames [] ∷ C.Stat h_a ∷ [])
 bobs_answers = refl
+
+-- ann seals the list of that folder, which does not show to bob either
+abbrev sealed : Room
+sealed = (effect locked ann (C.SetList 2 [] h)).room
+
+sealed_unseen : ListUnseen bob locked sealed h
+sealed_unseen = record { rights = rights; lists = lists; attributes = λ reached. refl }
+  where
+    rights : (rest : Path) → walk locked bob (h ++ rest) ≡ None
+        → rights_at locked bob (h ++ rest) ≡ rights_at sealed bob (h ++ rest)
+    rights [] reached = refl
+    rights (name ∷ rest) reached = absurd (none_is_some _ (sym reached))
+
+    lists : (rest : Path) → walk locked bob (h ++ rest) ≡ None → may locked bob (h ++ rest) read_acl ≡ false
+    lists [] reached = refl
+    lists (name ∷ rest) reached = absurd (none_is_some _ (sym reached))
+
+bob_sees_no_list : LooksAlike bob locked sealed
+bob_sees_no_list = unseen_setlist locked bob ann h 2 [] None sealed_unseen

@@ -1,7 +1,7 @@
 -- The checks of a command, in order. The first that fails gives the reply. Which right a command needs follows the
 -- meaning of the bits in RFC 8881, section 6.2.1.3.1; the order, the codes and the limits are our own rules.
 use Rattle.std.specs.Prelude.{ℕ, ◌+◌, ◌-◌, Bool, true, false, not, ◌||◌, List, [], ◌∷◌, map, length, Option, None}
-use Rattle.std.specs.Prelude.{Some, if◌then◌else◌, is_none, is_some, max, nat_lt, nat_le}
+use Rattle.std.specs.Prelude.{Some, if◌then◌else◌, is_none, is_some, max, nat_lt, nat_le, ◌==◌}
 use Rattle.std.specs.Bool.{then_some}
 use Rattle.std.specs.List.{starts_with}
 use Rattle.std.specs.Option.{option_map_or, unwrap_or}
@@ -17,7 +17,7 @@ use Rattle.room_acl.specs.Bits.{no_list_flags}
 use Rattle.room_acl.specs.SubjectModel.{SubjectModel}
 use Rattle.room_acl.specs.Access.{decision}
 use Rattle.room_acl.specs.Inheritance.{own_entries_fault}
-use Rattle.room_records.specs.Limits.{max_names, max_children, max_document, max_objects}
+use Rattle.room_records.specs.Limits.{max_names, max_children, max_document}
 use Rattle.room_records.specs.Names.{Path, name_eq, path_eq}
 use Rattle.room_commands.specs.CommandModel.{CommandModel}
 use Rattle.room_commands.specs.CommandModel as C
@@ -104,7 +104,7 @@ check_folder_full room folder = refuse_if (nat_le max_children (length (children
 
 -- no number is left
 abbrev pub is_full : Room → Bool
-is_full room = nat_le max_objects room.made
+is_full room = room.left == 0
 
 abbrev pub check_room_full : Room → Option Refusal
 check_room_full room = refuse_if (is_full room) RoomFull

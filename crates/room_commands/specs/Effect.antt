@@ -1,5 +1,5 @@
 -- The effect of a command: a room and a reply (our own rule).
-use Rattle.std.specs.Prelude.{ℕ, ◌+◌, not, List, [], ◌∷◌, ◌++◌, map, length, drop, Option, None, Some}
+use Rattle.std.specs.Prelude.{ℕ, ◌+◌, ◌-◌, not, List, [], ◌∷◌, ◌++◌, map, length, drop, Option, None, Some}
 use Rattle.std.specs.Prelude.{if◌then◌else◌}
 use Rattle.std.specs.List.{filter}
 use Rattle.room_acl.specs.declared.subject.Kind.{Kind}
@@ -32,14 +32,14 @@ new_object room caller path kind data_bytes = record {
 }
 
 abbrev pub with_new : Room → Path → Object → Room
-with_new room path o = record { objects = (path, o) ∷ room.objects; made = room.made + 1 }
+with_new room path o = record { objects = (path, o) ∷ room.objects; left = room.left - 1 }
 
 abbrev pub with_object : Room → Path → (Object → Object) → Room
 with_object room path change = record room {
   objects = map (λ (e : Path × Object). if path_eq path e.0 then (e.0, change e.1) else e) room.objects;
 }
 
--- a room without the object at a path. `made` stays: a number is never used again
+-- a room without the object at a path. `left` stays: a number is never used again
 abbrev pub without : Room → Path → Room
 without room path = record room { objects = filter (λ (e : Path × Object). not (path_eq path e.0)) room.objects }
 

@@ -1,12 +1,13 @@
 -- What a command of anybody's may change for a caller elsewhere (our own rules).
-use Rattle.std.specs.Prelude.{◌≡◌, true, false, ◌||◌, [], ◌∷◌, ◌++◌, Option, None, Some, is_none, Result}
+use Rattle.std.specs.Prelude.{◌≡◌, ℕ, true, false, ◌||◌, [], ◌∷◌, ◌++◌, Option, None, Some, is_none, Result}
 use Rattle.std.specs.Option.{option_map}
 use Rattle.std.specs.Result.{result_map_both}
 use Rattle.room_acl.specs.declared.subject.Kind.TheVariants.{Folder}
-use Rattle.room_acl.specs.Bits.{list_directory, read_attributes}
+use Rattle.room_acl.specs.Bits.{list_directory, read_acl, read_attributes}
 use Rattle.room_acl.specs.SubjectModel.{SubjectModel}
+use Rattle.room_acl.specs.Access.{allowed_mask}
 use Rattle.room_records.specs.Names.{Name, Path}
-use Rattle.room_records.specs.Room.{Object, Room, object_at, parent_of}
+use Rattle.room_records.specs.Room.{Object, Room, object_at, list_of, standing_of, parent_of}
 use Rattle.room_commands.specs.ReplyModel.{Refusal, Attributes}
 use Rattle.room_commands.specs.Checks.{walk, is_at_or_below}
 use Rattle.room_commands.specs.Sight.{Sight, view, may, may_add, may_set, HasNoPower}
@@ -58,3 +59,15 @@ IsOutOfSight caller room path = (is_none (walk room caller path) ≡ false)
 abbrev pub AddsNowhere : SubjectModel → Room → Type 0
 AddsNowhere caller room = (folder : Path) (o : Object) → object_at room folder ≡ Some o → o.kind ≡ Folder
     → walk room caller folder ≡ None → (may_add room caller folder || may_set room caller folder) ≡ false
+
+-- which rights the caller has on what is at a path
+abbrev pub rights_at : Room → SubjectModel → Path → Option ℕ
+rights_at room caller path =
+    option_map (λ (o : Object). allowed_mask (list_of room path) caller (standing_of o)) (object_at room path)
+
+-- at and below a path the caller sees no list, and keeps its rights; at the path it sees no owner, group and list flags
+pub record ListUnseen (caller : SubjectModel) (room later : Room) (path : Path) : Type 0 where
+  pub rights : (rest : Path) → walk room caller (path ++ rest) ≡ None
+      → rights_at room caller (path ++ rest) ≡ rights_at later caller (path ++ rest)
+  pub lists : (rest : Path) → walk room caller (path ++ rest) ≡ None → may room caller (path ++ rest) read_acl ≡ false
+  pub attributes : walk room caller path ≡ None → may room caller path read_attributes ≡ false

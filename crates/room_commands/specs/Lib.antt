@@ -8,3 +8,4 @@ pub mod Needs
 pub mod Sight
 pub mod OtherBytes
 pub mod Elsewhere
+pub mod Made

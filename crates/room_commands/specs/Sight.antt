@@ -2,11 +2,11 @@
 -- the bits in RFC 8881, section 6.2.1.3.1. What shows beyond that meaning follows from our own order of checks, and is
 -- named below: the first fault on the way, that something is there, `kind`, `rights`, `size`, `depth` and `full`.
 use Rattle.std.specs.Prelude.{◌≡◌, ℕ, Bool, true, false, not, ◌&&◌, ◌||◌, List, [], ◌∷◌, ◌++◌}
-use Rattle.std.specs.Prelude.{length, Option, None, Result, Ok, Err, ⊤}
+use Rattle.std.specs.Prelude.{length, Option, None, Some, Result, Ok, Err, ⊤, bit_and, nat_lt, if◌then◌else◌}
 use Rattle.std.specs.Bool.{then_some}
 use Rattle.std.specs.Option.{option_map, option_map_or}
 use Rattle.room_acl.specs.declared.subject.Kind.{Kind}
-use Rattle.room_acl.specs.declared.subject.Kind.TheVariants.{Folder}
+use Rattle.room_acl.specs.declared.subject.Kind.TheVariants.{File, Folder}
 use Rattle.room_acl.specs.Bits.{read_data, list_directory, add_file, append_data, add_subdirectory, read_attributes}
 use Rattle.room_acl.specs.Bits.{read_acl, write_acl, write_owner}
 use Rattle.room_acl.specs.SubjectModel.{SubjectModel}
@@ -17,10 +17,12 @@ use Rattle.room_records.specs.Names.{Name, Path}
 use Rattle.room_records.specs.Room.{Object, Room, object_at, list_of, standing_of, parent_of, children}
 use Rattle.room_commands.specs.CommandModel.{CommandModel}
 use Rattle.room_commands.specs.CommandModel as C
+use Rattle.room_commands.specs.declared.reply.RefusalCode.TheVariants.{NotDir, IsDir, NotEmpty}
 use Rattle.room_commands.specs.ReplyModel.{Refusal, Attributes, ReplyModel}
+use Rattle.room_commands.specs.ReplyModel.{Done, About, Names, Size, Bytes, Entries, Allowed, NotDone}
 use Rattle.room_commands.specs.Lawful.{IsLawful}
 use Rattle.room_commands.specs.Checks.{may_delete, walk, is_file, is_kind, is_root, right_to_add, is_full}
-use Rattle.room_commands.specs.Checks.{object_or_default}
+use Rattle.room_commands.specs.Checks.{object_or_default, refusal_without_place}
 pub use Rattle.room_commands.specs.Checks.{may, depth_in}
 use Rattle.room_commands.specs.Effect.{attributes_of, effect}
 
@@ -80,6 +82,21 @@ view room caller path =
 abbrev pub LooksAlike : SubjectModel → Room → Room → Type 0
 LooksAlike caller a b = (path : Path) → view a caller path ≡ view b caller path
 
+-- each thing seen, but `full`, is the answer to a command of the caller's own; of `depth` it tells whether it is 0
+pub record IsSightTold (room : Room) (caller : SubjectModel) (path : Path) (s : Sight) : Type 0 where
+  pub file : s.kind ≡ File → (effect room caller (C.ListNames path)).reply ≡ NotDone (refusal_without_place NotDir)
+  pub folder : s.kind ≡ Folder → (effect room caller (C.Read path)).reply ≡ NotDone (refusal_without_place IsDir)
+  pub rights : (mask : ℕ) → (effect room caller (C.Access mask path)).reply ≡ Allowed (bit_and mask s.rights)
+  pub attributes : (x : Attributes) → s.attributes ≡ Some x → (effect room caller (C.Stat path)).reply ≡ About x
+  pub names : (names : List (Name × Kind)) → s.names ≡ Some names
+      → (effect room caller (C.ListNames path)).reply ≡ Names names
+  pub bytes : (bytes : List ℕ) → s.bytes ≡ Some bytes → (effect room caller (C.Read path)).reply ≡ Bytes bytes
+  pub entries : (aclflag : ℕ) (entries : List EntryModel) → s.entries ≡ Some (aclflag, entries)
+      → (effect room caller (C.GetList path)).reply ≡ Entries aclflag entries
+  pub size : (size : ℕ) → s.size ≡ Some size → (effect room caller (C.Append [] path)).reply ≡ Size size
+  pub depth : (depth : ℕ) → s.depth ≡ Some depth → (effect room caller (C.Remove path)).reply
+      ≡ (if nat_lt 0 depth then NotDone (refusal_without_place NotEmpty) else Done)
+
 -- the command changes nothing, or the bytes of a file alone
 abbrev pub changes_bytes_alone : CommandModel → Bool
 changes_bytes_alone (C.Mkdir path) = false
@@ -106,14 +123,14 @@ pub record StayAlike (caller : SubjectModel) (a b : Room) : Type 0 where
   -- and what its list hands down, and as the owner it may read both
   pub adding : (folder : Path) (name : Name) (kind : Kind) → walk a caller (folder ++ name ∷ []) ≡ None
       → may a caller folder (right_to_add kind) ≡ true
-      → (a.made ≡ b.made) × ((object_or_default a folder).group ≡ (object_or_default b folder).group)
+      → (a.left ≡ b.left) × ((object_or_default a folder).group ≡ (object_or_default b folder).group)
       × (handed_down (list_of a folder) kind ≡ handed_down (list_of b folder) kind)
   -- what it may move it may put below a list of its own
   pub moving : (path : Path) → walk a caller path ≡ None → may_remove a caller path ≡ true → SameBelow a b path
   -- where it may set the list or the owner, it may give itself each right; on a folder, so also the right to add
   pub setting : (path : Path) → walk a caller path ≡ None → may_set a caller path ≡ true
       → SameBelow a b path × (handed_to a path ≡ handed_to b path)
-      × (is_kind Folder (object_at a path) ≡ true → a.made ≡ b.made)
+      × (is_kind Folder (object_at a path) ≡ true → a.left ≡ b.left)
 
 -- a command of the caller's own, or of somebody else
 pub data Turn : Type 0 where

@@ -1,7 +1,7 @@
 //! Laws of rooms and commands. Each function here does nothing: its contract is what the definitions
 //! are meant to say, proved of them.
 ghost use Rattle.std.specs.Prelude.{◌≡◌, ℕ, true, false, List, [], ◌∷◌, ◌++◌, Some, None, map, if◌then◌else◌, ◌↔◌};
-ghost use Rattle.std.specs.Prelude.{Contains, ◌⊎◌};
+ghost use Rattle.std.specs.Prelude.{Contains, ◌⊎◌, Ok, Err};
 ghost use Rattle.std.specs.List.{AllByRecursion};
 ghost use Rattle.std.specs.List.Sorted.{IsStrictlySortedBy};
 ghost use Rattle.room_acl.specs.declared.subject.Kind.{Kind};
@@ -14,18 +14,22 @@ ghost use Rattle.room_records.specs.Names.{Name, Path, name_cmp};
 ghost use Rattle.room_records.specs.Room.{Object, Room, IsRoom, fresh_room, object_at, children, list_of, follows};
 ghost use Rattle.room_records.specs.Room.{standing_of};
 ghost use Rattle.room_commands.specs.CommandModel.{CommandModel, Read, Write, Append, Rename, GetList, SetList};
+ghost use Rattle.room_commands.specs.CommandModel.{Chown, Stat};
 ghost use Rattle.room_commands.specs.CommandModel.{paths_of};
-ghost use Rattle.room_commands.specs.ReplyModel.{IsNotDone, Bytes, Entries, Done};
+ghost use Rattle.room_commands.specs.ReplyModel.{IsNotDone, Bytes, Entries, Done, NotDone, Refusal};
+ghost use Rattle.room_commands.specs.declared.reply.RefusalCode.TheVariants.{NoEnt};
 ghost use Rattle.room_commands.specs.SetList.{own_entries_of_setlist};
 ghost use Rattle.room_commands.specs.Lawful.{IsLawful};
-ghost use Rattle.room_commands.specs.Checks.{bytes_at, is_at_or_below, walk};
+ghost use Rattle.room_commands.specs.Checks.{bytes_at, is_at_or_below, walk, refusal_without_place};
 ghost use Rattle.room_commands.specs.Effect.{effect};
-ghost use Rattle.room_commands.specs.Needs.{NeedsAllowed};
+ghost use Rattle.room_commands.specs.Needs.{NeedsAllowed, IsDenial};
 ghost use Rattle.room_commands.specs.Sight.{LooksAlike, StayAlike, BytesUnseen, HasNoPower, OthersUnseen, Turn};
 ghost use Rattle.room_commands.specs.OtherBytes.{room_with, command_with, reply_with};
+ghost use Rattle.room_commands.specs.Made.{with_more, IsRoomFull};
 ghost use Rattle.room_commands.specs.Elsewhere.{IsOff, HoldsNeither, IsAboveNeither, but_full, but_depth};
-ghost use Rattle.room_commands.specs.Elsewhere.{but_names, view_less, IsOutOfSight, AddsNowhere};
+ghost use Rattle.room_commands.specs.Elsewhere.{but_names, view_less, IsOutOfSight, AddsNowhere, ListUnseen};
 ghost use Rattle.room_commands.specs.Sight.{may, changes_bytes_alone, Own, own_turns, replies_among};
+ghost use Rattle.room_commands.specs.Sight.{Sight, view, IsSightTold};
 
 /// A fresh room is a room.
 pub fn a_fresh_room_is_a_room()
@@ -49,6 +53,12 @@ pub fn a_refused_command_leaves_the_room()
 pub fn a_success_had_every_right()
     ensures { (room : Room) (caller : SubjectModel) (command : CommandModel) →
         (IsNotDone (effect room caller command).reply → ⊥) → NeedsAllowed room caller command }
+{}
+
+/// And a command that has every right that it needs is refused for none: no right is asked that it does not need.
+pub fn who_has_every_right_is_refused_for_none()
+    ensures { (room : Room) (caller : SubjectModel) (command : CommandModel) →
+        NeedsAllowed room caller command → IsDenial (effect room caller command).reply → ⊥ }
 {}
 
 /// The owner of an object can always read its list and set it, where the folders above let the owner through (`walk`
@@ -145,6 +155,17 @@ pub fn what_may_not_be_seen_does_not_show()
         replies_among a caller (map Own commands) ≡ replies_among b caller (map Own commands) }
 {}
 
+/// What a caller sees, it is told: each thing that a sight has, but for whether a number is left, is the answer to one
+/// of its commands. So nothing is seen without its right.
+pub fn what_is_seen_is_told()
+    ensures fault { (room : Room) (caller : SubjectModel) (path : Path) (fault : Refusal) →
+        view room caller path ≡ Err fault → (effect room caller (Stat path)).reply ≡ NotDone fault }
+    ensures absence { (room : Room) (caller : SubjectModel) (path : Path) → view room caller path ≡ Ok None →
+        (effect room caller (Stat path)).reply ≡ NotDone (refusal_without_place NoEnt) }
+    ensures there { (room : Room) (caller : SubjectModel) (path : Path) (s : Sight) →
+        IsRoom room → view room caller path ≡ Ok (Some s) → IsSightTold room caller path s }
+{}
+
 /// Rooms that look alike to a caller, and will after its commands, do so after each of its commands. After commands
 /// that change nothing but bytes, rooms that look alike do.
 pub fn rooms_that_look_alike_stay_alike()
@@ -173,8 +194,20 @@ pub fn what_others_do_unseen_does_not_show()
     ensures done { (room : Room) (caller other : SubjectModel) (command : CommandModel) →
         IsLawful command → IsRoom room → IsOutOfSight caller room (paths_of command).0 →
         IsOutOfSight caller room (paths_of command).1 →
-        ((effect room other command).room.made ≡ room.made) ⊎ AddsNowhere caller room →
+        ((effect room other command).room.left ≡ room.left) ⊎ AddsNowhere caller room →
         StayAlike caller room (effect room other command).room }
+{}
+
+/// What a list hides does not show: neither a SETLIST nor a CHOWN of anybody's shows to a caller that sees no list at
+/// and below the path, nor owner, group and list flags at it, and keeps its rights there.
+pub fn a_list_unseen_does_not_show()
+    ensures listed { (room : Room) (caller other : SubjectModel) (aclflag : ℕ) (entries : List EntryModel)
+        (path : Path) →
+        ListUnseen caller room (effect room other (SetList aclflag entries path)).room path →
+        LooksAlike caller room (effect room other (SetList aclflag entries path)).room }
+    ensures given { (room : Room) (caller other : SubjectModel) (group owner : List ℕ) (path : Path) →
+        ListUnseen caller room (effect room other (Chown group owner path)).room path →
+        LooksAlike caller room (effect room other (Chown group owner path)).room }
 {}
 
 /// Bytes reach answers by READ alone. With other bytes in its files and in what is to be written, as many as before, a
@@ -189,6 +222,15 @@ pub fn bytes_reach_answers_by_read_alone()
     ensures read { (room : Room) (caller : SubjectModel) (command : CommandModel) (bytes : List ℕ) →
         (effect room caller command).reply ≡ Bytes bytes →
         (path : Path) × (command ≡ Read path) × (may room caller path read_data ≡ true) }
+{}
+
+/// How many numbers are left shows by ROOM_FULL alone. With more of them a room answers each command alike, and goes on
+/// to the same room with as many more, unless it answers ROOM_FULL.
+pub fn what_is_left_shows_by_room_full_alone()
+    ensures { (more : ℕ) (room : Room) (caller : SubjectModel) (command : CommandModel) →
+        IsRoomFull (effect room caller command).reply
+        ⊎ (((effect (with_more more room) caller command).reply ≡ (effect room caller command).reply)
+        × ((effect (with_more more room) caller command).room ≡ with_more more (effect room caller command).room)) }
 {}
 
 /// A command of anybody's changes little of what a caller sees at paths neither at nor below those that it names, and,

@@ -1,6 +1,7 @@
 -- Rows that stand for a room.
 use Rattle.std.specs.Prelude.{◌≡◌, ℕ, ◌+◌, List, [], ◌∷◌, reverse, Option, None, Some, unwrap_or}
 use Rattle.room_records.specs.declared.node.Node.{Node}
+use Rattle.room_records.specs.Limits.{max_objects}
 use Rattle.room_records.specs.Names.{Name, Path}
 use Rattle.room_records.specs.Records.{ObjectRecords, root_number}
 use Rattle.room_records.specs.Rules.{ObjectRules}
@@ -41,7 +42,7 @@ pub record RepresentsRoom (t : ObjectRecords) (room : Room) : Type 0 where
   -- each object has a node that shows it
   pub objects : (path : Path) (o : Object) → object_at room path ≡ Some o
       → (id : ℕ) × (node : Node) × NodeIsObject t room id node path o
-  pub next : t.next ≡ room.made + 1
+  pub next : t.next + room.left ≡ max_objects + 1
 
 -- the node at a path, if an object is there
 abbrev pub IsNodeAt : ObjectRecords → Room → Path → Option Node → Type 0

@@ -17,7 +17,7 @@ use Rattle.room_acl.specs.Bits.{all_rights, reading_rights, inherit_flags, no_li
 pub use Rattle.room_acl.specs.Bits.{follows}
 use Rattle.room_acl.specs.Entries.{EntryModel}
 use Rattle.room_acl.specs.Inheritance.{with_inherited, max_own_entries}
-use Rattle.room_records.specs.Limits.{max_children, max_document}
+use Rattle.room_records.specs.Limits.{max_children, max_document, max_objects}
 use Rattle.room_records.specs.Names.{Name, Path, IsPath, name_cmp, name_eq, path_eq}
 
 -- a folder or a file (our own rule)
@@ -32,10 +32,10 @@ pub record Object : Type 0 where
   -- of a file, its document
   pub bytes : List ℕ
 
--- each path stands once. `made` is how many objects were ever made, the root included: it never falls (our own rule)
+-- each path stands once. `left` is how many objects can still be made: it never rises (our own rule)
 pub record Room : Type 0 where
   pub objects : List (Path × Object)
-  pub made : ℕ
+  pub left : ℕ
 
 abbrev pub object_at : Room → Path → Option Object
 object_at room path = lookup (path_eq path) room.objects
@@ -125,4 +125,4 @@ fresh_object owner group =
 
 -- a fresh room: a root folder with these entries, and nothing in it (our own rule)
 abbrev pub fresh_room : List ℕ → List ℕ → Room
-fresh_room owner group = record { objects = ([], fresh_object owner group) ∷ []; made = 1 }
+fresh_room owner group = record { objects = ([], fresh_object owner group) ∷ []; left = max_objects - 1 }

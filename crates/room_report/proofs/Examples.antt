@@ -23,7 +23,7 @@ with_plans = record {
     record { kind = Folder; owner = codes "ann"; group = codes "eng"; aclflag = 1; own = []; bytes = [] },
   )
       ∷ (fresh_room (codes "ann") (codes "eng")).objects;
-  made = 2;
+  left = 999998;
 }
 
 example_fresh : access_text (fresh_room (codes "ann") (codes "eng")) (ann ∷ bob ∷ eng ∷ []) ≡ codes

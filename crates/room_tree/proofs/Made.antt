@@ -3,7 +3,7 @@ use Rattle.std.proofs.lemmas.Grind.{common_steps}
 use Rattle.std.proofs.Common.{◌≡◌, ◌≢◌, ℕ, ◌+◌, ◌<◌, ◌≤◌, refl, ap, sym, ◌∙◌, subst, arith, cond, false, List}
 use Rattle.std.proofs.Common.{[], ◌∷◌, ◌++◌, length, reverse, Option, None, Some, IsSome, IsNone, unwrap_or, inl, inr}
 use Rattle.std.proofs.lemmas.List.{reverse-append}
-use Rattle.std.specs.Prelude.{nat_lt, nat_le, Vec}
+use Rattle.std.specs.Prelude.{nat_lt, nat_le, ◌==◌, Vec}
 use Rattle.std.specs.declared.alloc.Global.{Global}
 use Rattle.std.proofs.lemmas.Bool.Decides.{nat_tests}
 use Rattle.room_acl.specs.declared.subject.Kind.{Kind}
@@ -52,12 +52,12 @@ use Rattle.room_tree.proofs.StoredLists.{stored_list, is_present}
 abbrev object_group : Room → Path → List ℕ
 object_group room path = (object_or_default room (parent_of path)).group
 
--- the next number is past a bound where as many were made
-pub before_next : (m n : ℕ) → nat_lt m (n + 1) ≡ nat_le m n
-before_next m n = grind (arith, nat_tests)
+-- the next number is past the last one where none is left
+pub before_next : (m n left : ℕ) → n + left ≡ m + 1 → nat_lt m n ≡ (left == 0)
+before_next m n left all = grind (arith, nat_tests, all)
 
-below_by_test : (m n : ℕ) → nat_le m n ≡ false → n < m
-below_by_test m n h = grind (arith, nat_tests)
+some_by_test : (left : ℕ) → (left == 0) ≡ false → 0 < left
+some_by_test left h = grind (arith, nat_tests)
 
 module _ {t : ObjectRecords} {room : Room} {caller : SubjectModel} {path : Path} {above : LoadedObject} {kind : Kind}
     {id : ℕ} {node : Node} (stand : RepresentsRoom t room) (is_path : IsPath path) (root_off : is_root path ≡ false)
@@ -183,7 +183,7 @@ module _ {t : ObjectRecords} {room : Room} {caller : SubjectModel} {path : Path}
             let before = stand.objects q p there in
             (before.0, before.1, old_is before.0 before.1 q p before.2)
       ];
-      next = next ∙ ap (λ n. n + 1) (number ∙ stand.next);
+      next = omega (arith, next, number, stand.next, few);
     },
     keeps,
   )
@@ -252,7 +252,7 @@ module _ {t : ObjectRecords} {room : Room} {caller : SubjectModel} {path : Path}
 few_made : {t : ObjectRecords} {room : Room} → RepresentsRoom t room → check_room_full room ≡ None
     → t.next ≤ max_objects
 few_made {room} stand passed =
-    let below = below_by_test max_objects room.made (not_refused (nat_le max_objects room.made) RoomFull passed) in
+    let below = some_by_test room.left (not_refused (room.left == 0) RoomFull passed) in
     omega (arith, below, stand.next)
 
 -- MKDIR

@@ -1,6 +1,6 @@
 -- SETLIST: what is planned is the effect.
 use Rattle.std.proofs.lemmas.Grind.{common_steps}
-use Rattle.std.proofs.Common.{arith, ◌≡◌, ℕ, ◌⊎◌, refl, ap, sym, ◌∙◌, Bool, true, false, inl, inr, List, [], ◌∷◌}
+use Rattle.std.proofs.Common.{arith, ◌≡◌, ℕ, ◌+◌, ◌⊎◌, refl, ap, sym, ◌∙◌, Bool, true, false, inl, inr, List, [], ◌∷◌}
 use Rattle.std.proofs.Common.{◌++◌, map, drop, length, reverse, append-nil, Option, None, Some, unwrap_or}
 use Rattle.std.specs.Prelude.{Vec}
 use Rattle.std.specs.declared.alloc.Global.{Global}
@@ -158,7 +158,7 @@ module _ {t : ObjectRecords} {room : Room} (stand : RepresentsRoom t room) {path
             nodes_away = λ id other. node_after id ∙ if_other id loaded.id (Some now) (t.node id) other;
             lists_away = λ q id at other. lists_below q id at;
             documents_away = λ id other. ap (λ (f : ℕ → Option (List ℕ)). f id) (documents_stay puts first);
-            next = next_stays puts first ∙ stand.next;
+            next = ap (λ n. n + room.left) (next_stays puts first) ∙ stand.next;
             lawful = setlist_is_room room caller flag sent path stand.lawful passed;
             at_path = at_path;
             away = λ q p other there. elsewhere_unchanged room path change q other ∙ there;

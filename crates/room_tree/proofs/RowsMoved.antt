@@ -1,6 +1,6 @@
 -- Rows where one node has another folder and name stand for the room with its subtree moved.
 use Rattle.std.proofs.lemmas.Grind.{common_steps}
-use Rattle.std.proofs.Common.{◌≡◌, ◌≢◌, ℕ, refl, ap, sym, ◌∙◌, arith, Bool, true, false, cond, ◌⊎◌, inl}
+use Rattle.std.proofs.Common.{◌≡◌, ◌≢◌, ℕ, ◌+◌, refl, ap, sym, ◌∙◌, arith, Bool, true, false, cond, ◌⊎◌, inl}
 use Rattle.std.proofs.Common.{inr, List, [], ◌∷◌, ◌++◌, map, reverse, length, drop, append_assoc, append-nil}
 use Rattle.std.proofs.Common.{Option, None, Some, unwrap_or}
 use Rattle.std.proofs.lemmas.List.{reverse-append, reverse-reverse, drop-append-le, drop_all, same_from_push}
@@ -255,7 +255,7 @@ module _ {t : ObjectRecords} {room : Room} (stand : RepresentsRoom t room) {path
           nodes_away = λ id other. row_after id ∙ away id other;
           lists_away = λ q id at other. lists_after q id at;
           documents_away = λ id other. ap (λ (f : ℕ → Option (List ℕ)). f id) (documents_stay puts later);
-          next = next_stays puts later ∙ stand.next;
+          next = ap (λ n. n + room.left) (next_stays puts later) ∙ stand.next;
           lawful = m.lawful;
           at_path = at_new path o m.is_there.object_stands;
           away = λ q p other. at_new q p;

@@ -4,6 +4,7 @@ use Rattle.std.proofs.Common.{arith, ◌≡◌, ◌≢◌, ℕ, ◌+◌, refl, a
 use Rattle.std.proofs.Common.{reverse, Some, IsSome, IsNone, option_map, true, false}
 use Rattle.std.proofs.lemmas.List.{reverse-reverse}
 use Rattle.room_records.specs.declared.node.Node.{Node}
+use Rattle.room_records.specs.Limits.{max_objects}
 use Rattle.room_records.specs.Names.{Path}
 use Rattle.room_records.specs.Records.{ObjectRecords}
 use Rattle.room_records.specs.Rules.{ObjectRules}
@@ -52,7 +53,7 @@ pub record Replaces (t later : ObjectRecords) (room after : Room) (to : Path →
   pub nodes_away : (id : ℕ) → id ≢ node.id → later.node id ≡ t.node id
   pub lists_away : (q : Path) (id : ℕ) → HasPath t q id → id ≢ node.id → later.entries id ≡ list_of after (to q)
   pub documents_away : (id : ℕ) → id ≢ node.id → later.document id ≡ t.document id
-  pub next : later.next ≡ after.made + 1
+  pub next : later.next + after.left ≡ max_objects + 1
   pub lawful : IsRoom after
   pub at_path : object_at after (to path) ≡ Some now_is
   pub away : (q : Path) (p : Object) → (q ≡ path → ⊥) → object_at room q ≡ Some p → object_at after (to q) ≡ Some p

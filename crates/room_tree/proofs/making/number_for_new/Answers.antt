@@ -18,8 +18,9 @@ number_left : (t : ObjectRecords) (room : Room) → RepresentsRoom t room
     → first_refusal (check_folder_full room folder ∷ check_room_full room ∷ [])
     ≡ refuse_if (nat_lt max_objects next) RoomFull
 number_left t room stand folder next is passed = skip (check_folder_full room folder) (check_room_full room ∷ []) passed
-    ∙ first_alone (check_room_full room) ∙ ap (λ b. refuse_if b RoomFull) (sym (before_next max_objects room.made))
-    ∙ ap (λ n. refuse_if (nat_lt max_objects n) RoomFull) (sym (is ∙ stand.next))
+    ∙ first_alone (check_room_full room)
+    ∙ ap (λ b. refuse_if b RoomFull) (sym (before_next max_objects t.next room.left stand.next))
+    ∙ ap (λ n. refuse_if (nat_lt max_objects n) RoomFull) (sym is)
 
 pub returns-in_err-check_children-clause-value : goal.returns-in_err-check_children-clause-value
 returns-in_err-check_children-clause-value g c = λ available laid_out t e room stand folder found.

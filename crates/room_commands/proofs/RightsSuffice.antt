@@ -1,0 +1,273 @@
+-- Where the lists allow all that a command needs, no check refuses it for a right.
+use Rattle.std.proofs.Common.{◌≡◌, ℕ, refl, ap, sym, subst, ◌∙◌, Bool, true, false, List, [], ◌∷◌, ◌++◌, map, Option}
+use Rattle.std.proofs.Common.{None, Some, inl, inr}
+use Rattle.std.specs.Prelude.{is_none, ◌||◌, ◌⊎◌, if◌then◌else◌}
+use Rattle.std.specs.List.{AllByRecursion}
+use Rattle.room_acl.specs.SubjectModel.{SubjectModel}
+use Rattle.room_acl.specs.declared.subject.Kind.{Kind}
+use Rattle.room_acl.specs.declared.subject.Kind.TheVariants.{File, Folder}
+use Rattle.room_acl.specs.declared.inheritance.ListFault.{ListFault}
+use Rattle.room_acl.specs.declared.inheritance.ListFault.TheVariants as L
+use Rattle.room_acl.specs.declared.access.Decision.TheVariants.{Denied}
+use Rattle.room_acl.specs.Bits.{read_data, list_directory, write_data, add_file, append_data, add_subdirectory, execute}
+use Rattle.room_acl.specs.Bits.{delete_child, read_attributes, delete_object, read_acl, write_acl, write_owner, IsMask}
+use Rattle.room_acl.proofs.Decisions.{decision-allowed}
+use Rattle.room_records.specs.Names.{Name, Path, path_eq}
+use Rattle.room_records.specs.Room.{Object, Room, object_at, list_of, standing_of, parent_of}
+use Rattle.room_commands.specs.declared.reply.RefusalCode.{RefusalCode}
+use Rattle.room_commands.specs.declared.reply.RefusalCode.TheVariants.{Access, NoEnt, Inval}
+use Rattle.room_commands.specs.CommandModel.{CommandModel}
+use Rattle.room_commands.specs.CommandModel as C
+use Rattle.room_commands.specs.ReplyModel.{ReplyModel, Refusal, NotDone, IsNotDone}
+use Rattle.room_commands.specs.Checks.{first_refusal, checks, check_right, check_removal, denied_at, walk, refuse_if}
+use Rattle.room_commands.specs.Checks.{prefix_refusal, proper_prefixes, check_exists, check_folder, right_to_add, may}
+use Rattle.room_commands.specs.Checks.{object_or_default, check_lawful, check_folder_full, check_absent, check_depth}
+use Rattle.room_commands.specs.Checks.{is_root, is_at_or_below}
+use Rattle.room_commands.specs.Effect.{effect, effect_by}
+use Rattle.room_commands.specs.Needs.{HasRight, HasRemoval, HasWay, NeedsAllowed, IsDenial}
+use Rattle.room_commands.proofs.ChecksTell.{exists_there}
+use Rattle.room_commands.proofs.RoomLaws.{reply_is_no_refusal}
+use Rattle.room_commands.proofs.Shorthands.{right_on, or_no_object}
+
+-- a check passes, or refuses for something else than a right
+abbrev pub IsNoDenial : Option Refusal → Type 0
+IsNoDenial None = Unit {0}
+IsNoDenial (Some r) = r.code ≡ Access → ⊥
+
+passes : (x : Option Refusal) → x ≡ None → IsNoDenial x
+passes x is = subst IsNoDenial (sym is) tt
+
+-- a refusal without a place is none, but for its code
+plain : (refused : Bool) (code : RefusalCode) → (code ≡ Access → ⊥) → IsNoDenial (refuse_if refused code)
+plain true code other = other
+plain false code other = tt
+
+lawful_plain : (fault : Option ListFault) → IsNoDenial (check_lawful fault)
+lawful_plain None = tt
+lawful_plain (Some L.Inval) = λ e. cc
+lawful_plain (Some L.AttrNotSupp) = λ e. cc
+
+first_plain : (checked : List (Option Refusal)) → AllByRecursion IsNoDenial checked → IsNoDenial (first_refusal checked)
+first_plain [] all = tt
+first_plain (None ∷ others) all = first_plain others all.1
+first_plain (Some r ∷ others) all = all.0
+
+-- and where one passes, so do those behind it
+first_by : (a : Option Refusal) (others : List (Option Refusal)) → IsNoDenial a
+    → (a ≡ None → IsNoDenial (first_refusal others)) → IsNoDenial (first_refusal (a ∷ others))
+first_by None others plain rest = rest refl
+first_by (Some r) others plain rest = plain
+
+all_mapped : {X Y : Type 0} (P : Y → Type 0) (g : X → Y) (xs : List X)
+    → AllByRecursion (λ x. P (g x)) xs → AllByRecursion P (map g xs)
+all_mapped P g [] h = tt
+all_mapped P g (x ∷ xs) h = (h.0, all_mapped P g xs h.1)
+
+-- what holds of each folder on the way
+each_front : (P : Path → Type 0) (path : Path)
+    → ((front rest : Path) (name : Name) → path ≡ front ++ name ∷ rest → P front)
+    → AllByRecursion P (proper_prefixes path)
+each_front P [] h = tt
+each_front P (first ∷ path) h = (
+  h [] path first refl,
+  all_mapped P (λ front. first ∷ front) (proper_prefixes path)
+      (each_front (λ front. P (first ∷ front)) path
+      (λ front rest name is. h (first ∷ front) rest name (ap (λ p. first ∷ p) is))),
+)
+
+pub if_true : (path : Path) (may : Bool) → may ≡ true → (if may then None else denied_at path
+    (Denied delete_object)) ≡ None
+if_true path true is = refl
+if_true path false is = cc
+
+or_true : (a b : Bool) → (a ≡ true) ⊎ (b ≡ true) → (a || b) ≡ true
+or_true true b h = refl
+or_true false b (inl h) = cc
+or_true false b (inr h) = h
+
+module _ (room : Room) (caller : SubjectModel) where
+  granted : (path : Path) (right : ℕ) → IsMask right → HasRight room caller path right
+      → check_right room caller path right ≡ None
+  granted path right mask (o, is, allows) =
+      ap (λ found. right_on room caller path right found) is
+      ∙ ap (λ d. denied_at path d)
+      ((decision-allowed (list_of room path) caller (standing_of o) right mask).1 allows)
+
+  granted_may : (path : Path) (right : ℕ) → IsMask right → HasRight room caller path right
+      → may room caller path right ≡ true
+  granted_may path right mask has = ap is_none (granted path right mask has)
+
+  removal_granted : (path : Path) → HasRemoval room caller path → check_removal room caller path ≡ None
+  removal_granted path (inl own) =
+      if_true path _ (or_true _ _ (inl (granted_may path delete_object refl own)))
+  removal_granted path (inr by_folder) =
+      if_true path _ (or_true _ _ (inr (granted_may (parent_of path) delete_child refl by_folder)))
+
+  way_plain : (path : Path) → HasWay room caller path → IsNoDenial (walk room caller path)
+  way_plain path way = first_plain _ (all_mapped IsNoDenial (prefix_refusal room caller) (proper_prefixes path)
+      (each_front (λ front. IsNoDenial (prefix_refusal room caller front)) path
+      (λ front rest name is. first_plain
+      (check_exists room front ∷ check_folder room front ∷ check_right room caller front execute ∷ []) (
+        plain _ _ (λ e. cc),
+        (
+          plain _ _ (λ e. cc),
+          (
+            passes _ (granted front execute refl (way front rest name is)),
+            tt,
+          ),
+        ),
+      ))))
+
+  right_plain : (path : Path) (right : ℕ) → IsMask right → HasRight room caller path right
+      → IsNoDenial (check_right room caller path right)
+  right_plain path right mask has = passes _ (granted path right mask has)
+
+  -- the right to add what is moved
+  added_plain : (path to : Path) (o : Object) → object_at room path ≡ Some o
+      → (o.kind ≡ File → HasRight room caller (parent_of to) add_file)
+      × (o.kind ≡ Folder → HasRight room caller (parent_of to) add_subdirectory)
+      → IsNoDenial (check_right room caller (parent_of to) (right_to_add (object_or_default room path).kind))
+  added_plain path to o is adds =
+      subst (λ found. IsNoDenial (check_right room caller (parent_of to) (right_to_add (or_no_object found).kind)))
+      (sym is) (by_kind o.kind refl)
+    where
+      by_kind : (kind : Kind) → o.kind ≡ kind → IsNoDenial (check_right room caller (parent_of to) (right_to_add kind))
+      by_kind File file = right_plain (parent_of to) add_file refl (adds.0 file)
+      by_kind Folder folder = right_plain (parent_of to) add_subdirectory refl (adds.1 folder)
+
+  full_plain : (same : Bool) (folder : Path) → IsNoDenial (if same then None else check_folder_full room folder)
+  full_plain true folder = tt
+  full_plain false folder = plain _ _ (λ e. cc)
+
+  no_denial : (command : CommandModel) → NeedsAllowed room caller command
+      → IsNoDenial (first_refusal (checks room caller command))
+  no_denial (C.Stat path) (right, way, _) = first_plain (checks room caller (C.Stat path))
+      (way_plain path way, (plain _ _ (λ e. cc), (right_plain path read_attributes refl right, tt)))
+  no_denial (C.ListNames path) (right, way, _) = first_plain (checks room caller (C.ListNames path)) (
+    way_plain path way,
+    (
+      plain _ _ (λ e. cc),
+      (
+        plain _ _ (λ e. cc),
+        (
+          right_plain path list_directory refl right,
+          tt,
+        ),
+      ),
+    ),
+  )
+  no_denial (C.Mkdir path) (right, way, _) = first_plain (checks room caller (C.Mkdir path)) (
+    plain _ _ (λ e. cc),
+    (
+      way_plain path way,
+      (
+        plain _ _ (λ e. cc),
+        (
+          right_plain
+              (parent_of path) add_subdirectory refl right,
+          (plain _ _ (λ e. cc), (plain _ _ (λ e. cc), tt)),
+        ),
+      ),
+    ),
+  )
+  no_denial (C.Create bytes path) (right, way, _) = first_plain (checks room caller (C.Create bytes path)) (
+    plain _ _ (λ e. cc),
+    (
+      way_plain path way,
+      (
+        plain _ _ (λ e. cc),
+        (
+          right_plain
+              (parent_of path) add_file refl right,
+          (plain _ _ (λ e. cc), (plain _ _ (λ e. cc), (plain _ _ (λ e. cc), tt))),
+        ),
+      ),
+    ),
+  )
+  no_denial (C.Read path) (right, way, _) = first_plain (checks room caller (C.Read path))
+      (way_plain path way, (plain _ _ (λ e. cc), (plain _ _ (λ e. cc), (right_plain path read_data refl right, tt))))
+  no_denial (C.Write bytes path) (right, way, _) = first_plain (checks room caller (C.Write bytes path)) (
+    way_plain path way,
+    (
+      plain _ _ (λ e. cc),
+      (
+        plain _ _ (λ e. cc),
+        (
+          right_plain path write_data refl right,
+          (plain _ _ (λ e. cc), tt),
+        ),
+      ),
+    ),
+  )
+  no_denial (C.Append bytes path) (right, way, _) = first_plain (checks room caller (C.Append bytes path)) (
+    way_plain path way,
+    (
+      plain _ _ (λ e. cc),
+      (
+        plain _ _ (λ e. cc),
+        (
+          right_plain path append_data refl right,
+          (plain _ _ (λ e. cc), tt),
+        ),
+      ),
+    ),
+  )
+  no_denial (C.Remove path) (removal, way, _) = first_plain (checks room caller (C.Remove path)) (
+    plain _ _ (λ e. cc),
+    (
+      way_plain path way,
+      (
+        plain _ _ (λ e. cc),
+        (
+          passes _ (removal_granted path removal),
+          (plain _ _ (λ e. cc), tt),
+        ),
+      ),
+    ),
+  )
+  no_denial (C.Rename path to) ((removal, adds), way, way_to) =
+      first_by (refuse_if (is_root path || is_root to || is_at_or_below to path) Inval) _
+      (plain _ Inval (λ e. let no : Inval ≡ Access = e in cc))
+      (λ _. first_by (walk room caller path) _ (way_plain path way)
+      (λ _. first_by (check_exists room path) _ (plain _ NoEnt (λ e. let no : NoEnt ≡ Access = e in cc)) (λ there.
+      let (o, is) = exists_there room path there in
+      first_plain (
+      walk room caller to ∷ check_absent room to ∷ check_removal room caller path
+      ∷ check_right room caller (parent_of to) (right_to_add (object_or_default room path).kind)
+      ∷ check_depth room path to
+      ∷ (if path_eq (parent_of path) (parent_of to) then None else check_folder_full room (parent_of to)) ∷ []
+      ) (
+        way_plain to way_to,
+        (
+          plain _ _ (λ e. cc),
+          (
+            passes _ (removal_granted path removal),
+            (added_plain path to o is (adds o is), (plain _ _ (λ e. cc), (full_plain _ (parent_of to), tt))),
+          ),
+        ),
+      ))))
+  no_denial (C.GetList path) (right, way, _) = first_plain (checks room caller (C.GetList path))
+      (way_plain path way, (plain _ _ (λ e. cc), (right_plain path read_acl refl right, tt)))
+  no_denial (C.SetList aclflag entries path) (right, way, _) = first_plain (checks room caller
+      (C.SetList aclflag entries path))
+      (way_plain path way, (plain _ _ (λ e. cc), (right_plain path write_acl refl right, (lawful_plain _, tt))))
+  no_denial (C.Chown group owner path) (right, way, _) = first_plain (checks room caller (C.Chown group owner path))
+      (way_plain path way, (plain _ _ (λ e. cc), (right_plain path write_owner refl right, tt)))
+  no_denial (C.Access mask path) (_, way, _) = first_plain (checks room caller (C.Access mask path))
+      (way_plain path way, (plain _ _ (λ e. cc), tt))
+
+  code_of : ReplyModel → RefusalCode
+  code_of (NotDone r) = r.code
+  code_of other = NoEnt
+
+  at_end : (command : CommandModel) (x : Option Refusal) → IsNoDenial x
+      → IsDenial (effect_by room caller command x).reply → ⊥
+  unfolding code_of
+  at_end command None h (place, is) = reply_is_no_refusal room caller command (subst IsNotDone (sym is) tt)
+  at_end command (Some r) h (place, is) = h (ap code_of is)
+
+-- so no answer refuses it for one
+pub never_denied : (room : Room) (caller : SubjectModel) (command : CommandModel)
+    → NeedsAllowed room caller command → IsDenial (effect room caller command).reply → ⊥
+never_denied room caller command needs =
+    at_end room caller command (first_refusal (checks room caller command)) (no_denial room caller command needs)
