@@ -32,3 +32,10 @@ pub mod Sent
 pub mod Secrets
 pub mod SecretRuns
 pub mod OtherBytes
+pub mod LeftShows
+pub mod Clients
+pub mod Attempts
+pub mod AttemptRuns
+mod ClientExamples
+pub mod ClientRuns
+pub mod ClientStreams

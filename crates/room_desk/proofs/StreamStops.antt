@@ -76,7 +76,7 @@ module _ {S : Type 0} (view : S → View)
         let same : next ≡ past = elim step [ inl is ↦ is.1 | inr is ↦ is.1 ] in
         rw same (λ left may. elim (crash left may) [ inl old ↦ leaves left old | inr none ↦ absurd none.1 ])
 
-    after_ask : (ask : Result AskModel WireFault) → Answered ask (view before) answered (view after)
+    pub after_ask : (ask : Result AskModel WireFault) → Answered ask (view before) answered (view after)
         → (next : History) × AnswersOrDelays start past ask answered next × StandsFor start next (view after)
         × LeavesNew (view after) (StandsInDoubt start next (doubt_after doubted ask answered))
     after_ask (Ok (Check question)) call =

@@ -65,8 +65,7 @@ is_own caller is_own_name event = bytes_eq caller.name (caller_of event).name &&
 abbrev pub asks_own : SubjectModel → (List ℕ → Bool) → Result AskModel WireFault → Bool
 asks_own caller is_own_name ask = by_event (is_own caller is_own_name) false ask
 
--- the answers to those of some events, or messages, that are the caller's own. DELAY is left out: what is answered so
--- has not joined the history, and these laws do not speak of DELAY
+-- the answers to those of some events, or messages, that are the caller's own, but DELAY: these laws say nothing of it
 abbrev pub told : {X : Type 0} → (is_its_own : X → Bool) → List X → List AnswerModel → List AnswerModel
 told is_its_own (x ∷ xs) (answered ∷ answers) = if is_its_own x && not (is_delay answered)
     then answered ∷ told is_its_own xs answers else told is_its_own xs answers

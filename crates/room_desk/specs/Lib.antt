@@ -9,3 +9,6 @@ pub mod Trying
 pub mod Verdicts
 pub mod AlikePasts
 pub mod OtherBytes
+pub mod Made
+pub mod Client
+pub mod ClientRuns

@@ -22,6 +22,10 @@ ghost use Rattle.room_desk.specs.Verdicts.{answer_by};
 ghost use Rattle.room_desk.specs.AlikePasts.{AlikePasts, asks_lawfully, caller_of, sid_of};
 ghost use Rattle.room_commands.specs.OtherBytes.{room_with, blank};
 ghost use Rattle.room_desk.specs.OtherBytes.{DifferInBytes, TellsOfRead};
+ghost use Rattle.room_commands.specs.Made.{with_more};
+ghost use Rattle.room_desk.specs.Made.{NeverFull, ended};
+ghost use Rattle.room_desk.specs.SessionRows.{closed_row};
+ghost use Rattle.std.specs.Option.{option_map};
 ghost use Rattle.std.specs.Prelude.{IsTrue, Bool, ◌⊎◌};
 ghost use Rattle.std.specs.Str.{bytes_eq};
 
@@ -187,4 +191,28 @@ pub fn the_bytes_of_documents_show_to_reads_alone()
         bytes_eq caller.name (caller_of event).name ≡ true →
         (answer_to a past event ≡ answer_to b other event)
         ⊎ TellsOfRead a past event (answer_to a past event) }
+{}
+
+/// How many numbers are left shows in a history by ROOM_FULL alone: where no request that a history accepts is answered
+/// ROOM_FULL, with more numbers left at its beginning each event is answered alike, and as many more are left after it.
+/// So a room can be put anew with fewer numbers used up: its rows, with the sessions and what the slots keep, stand for
+/// the same history.
+pub fn what_is_left_shows_in_a_history_by_room_full_alone()
+    ensures answer { (more : ℕ) (start : Room) (past : History) (event : EventModel) →
+        NeverFull start (event ∷ past) → answer_to (with_more more start) past event ≡ answer_to start past event }
+    ensures room { (more : ℕ) (start : Room) (past : History) → NeverFull start past →
+        state_after (with_more more start) past ≡ with_more more (state_after start past) }
+    ensures rows { (more : ℕ) (start : Room) (r other : Records) (past : History) → NeverFull start past →
+        RepresentsHistory start r past → RepresentsRoom other.objects (with_more more (state_after start past)) →
+        other.session ≡ r.session → other.slot ≡ r.slot → RepresentsHistory (with_more more start) other past }
+{}
+
+/// A room that is put anew in the place of one, as with other numbers for its objects: where each session is closed and
+/// no slot keeps anything, the rows stand for a history that began with it.
+pub fn a_room_put_anew_ends_its_sessions()
+    ensures { (start anew : Room) (r other : Records) (past : History) → RepresentsHistory start r past →
+        RepresentsRoom other.objects anew →
+        ((sid : List ℕ) → other.session sid ≡ option_map closed_row (r.session sid)) →
+        ((sid : List ℕ) (slot : ℕ) → other.slot sid slot ≡ None) →
+        RepresentsHistory anew other (ended past) }
 {}

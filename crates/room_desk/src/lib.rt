@@ -1,6 +1,7 @@
 //! Answers events, and streams of messages, over a shelf as their history says; an accepted request is one commit.
 #![tactic(auto)]
 
+mod client_laws;
 mod desk;
 mod laws;
 mod repeating;
@@ -11,6 +12,10 @@ mod serving;
 mod sessions;
 mod stop_laws;
 
+pub use client_laws::{
+    a_client_acts_once_across_stops, a_client_that_asks_until_it_is_answered_acts_once,
+    messages_lead_where_their_attempts_do, requests_in_turn_run_once, runs_and_stops_take_attempts,
+};
 pub use desk::Desk;
 pub use laws::{
     a_history_begins_with_a_room, a_history_keeps_a_room, a_refused_event_changes_nothing,
