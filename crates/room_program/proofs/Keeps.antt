@@ -23,7 +23,7 @@ use Rattle.room_program.specs.Calls.{Exchange}
 use Rattle.room_program.specs.Machines.{Call}
 use Rattle.room_program.specs.Machines.Call.{closes}
 use Rattle.room_program.specs.Ends.{InitEnds}
-use Rattle.room_program.specs.Files.{Takes, TakesRoster, Made, Unmade}
+use Rattle.room_program.specs.Files.{Takes, TakesRoom, TakesRoster, Made, Unmade}
 use Rattle.room_program.specs.Rooms.{Reports, ServesRoom}
 use Rattle.room_program.specs.Found.{HoldsStill, IsLeftBy, ActsOn, SeesSums}
 use Rattle.room_program.specs.Restarts.{KeepsRoomOrMore}
@@ -59,30 +59,36 @@ module _ {D M : Type 0} (g : Ghosts D) (image : Image) (does : M → Call (Held 
   Keeps = HoldsStill image one ⊎ ((roster : List ℕ) × (users : List SubjectModel) × (read : M)
       × TakesRoster does roster before read (Ok users) × KeepsRoomOrMore users image one)
 
-  as_it_was : left later ≡ left before → Keeps
-  as_it_was same = inl (as_found g image does left stays tells one
-      (unopened_still g image does left stays tells before later one none same at))
+  pub as_it_was : left later ≡ left before → HoldsStill image one
+  as_it_was same = as_found g image does left stays tells one
+      (unopened_still g image does left stays tells before later one none same at)
+
+  pub untaken_keeps : (roster db : List ℕ) (users : List SubjectModel) (read : M) (why : Fault)
+      → TakesRoster does roster before read (Ok users) → TakesRoom does takes db read later (Err why)
+      → HoldsStill image one
+  untaken_keeps roster db users read why took untook =
+      untaken_run g image does left stays tells db read later why one untook
+      (roster_left g image does left stays tells roster before read (Ok users) took ∙ none) sees at
 
   init_keeps : (db owner group : List ℕ) (done : Result (Unit {0}) Fault)
       → InitEnds does (Made over_files owner group) (Unmade over_files owner group) db owner group before later done
-      → Keeps
+      → HoldsStill image one
   init_keeps db owner group (Err why) ends =
-      inl (unmade_run g image does left stays tells db owner group before later why one ends none sees at)
+      unmade_run g image does left stays tells db owner group before later why one ends none sees at
   init_keeps db owner group (Ok done) (inl (why, is, (names, same))) = absurd (let e = is in cc)
   init_keeps db owner group (Ok done) (inr (principals, inl (why, is, unopened))) = absurd (let e = is in cc)
   init_keeps db owner group (Ok done) (inr (principals, inr (opened, begun, is, (closed, made, did)))) =
       let clean = (closed_in g closed (left later) image one (tells begun later (closes closed) did) at).0 in
       let never = (made_on g image does left stays tells db owner group before begun later opened closed is made did
       clean).0 in
-      inl (λ start past held. absurd (never start past held))
+      λ start past held. absurd (never start past held)
 
   serve_keeps : (db roster : List ℕ) (port count : ℕ) (done : Result (Unit {0}) Fault)
       → ServesRoom does accepts fails takes (λ taken. taken.0.conn) shown db roster port count before later done → Keeps
   serve_keeps db roster port count done (inl (why, is, untook)) =
-      as_it_was (roster_left g image does left stays tells roster before later (Err why) untook)
+      inl (as_it_was (roster_left g image does left stays tells roster before later (Err why) untook))
   serve_keeps db roster port count done (inr (users, read, took, inl (why, is, untook))) =
-      inl (untaken_run g image does left stays tells db read later why one untook
-      (roster_left g image does left stays tells roster before read (Ok users) took ∙ none) sees at)
+      inl (untaken_keeps roster db users read why took untook)
   serve_keeps db roster port count done
       (inr (users, read, took, inr (shelf, last, taken, over, room, listens, closed))) =
       inr (
@@ -95,35 +101,50 @@ module _ {D M : Type 0} (g : Ghosts D) (image : Image) (does : M → Call (Held 
       )
 
   report_keeps : (db roster : List ℕ) (kind : ReportKind) (old new : Option (List ℕ)) (done : Result (Unit {0}) Fault)
-      → Reports does takes (λ taken. taken.0.conn) shown db roster kind before later old new done → Keeps
+      → Reports does takes (λ taken. taken.0.conn) shown db roster kind before later old new done
+      → HoldsStill image one
   report_keeps db roster kind old new done (inl ((why, is, untook), same)) =
       as_it_was (roster_left g image does left stays tells roster before later (Err why) untook)
   report_keeps db roster kind old new done (inr (users, read, took, inl ((why, is, untook), same))) =
-      inl (untaken_run g image does left stays tells db read later why one untook
-      (roster_left g image does left stays tells roster before read (Ok users) took ∙ none) sees at)
+      untaken_keeps roster db users read why took untook
   report_keeps db roster kind old new done (inr (users, read, took, inr (taken, last, seen, room, writes, gone))) =
-      inl (reported_run g image does left stays tells db kind users read seen later taken last old new done one room
-      writes gone at)
+      reported_run g image does left stays tells db kind users read seen later taken last old new done one room
+      writes gone at
 
-  job_keeps : (job : Job) (old new : Streams) (status : ℕ) → RunsJob program before later job old new status → Keeps
-  job_keeps (Init db owner group) old new status (input, output, (done, ends, told)) =
+  -- of a run of any other job than a `serve`
+  abbrev pub Others : Job → Type 0
+  Others (Serve db roster port count) = Unit {0}
+  Others job = HoldsStill image one
+
+  pub others_keep : (job : Job) (old new : Streams) (status : ℕ) → RunsJob program before later job old new status
+      → Others job
+  others_keep (Init db owner group) old new status (input, output, (done, ends, told)) =
       init_keeps (string_bytes db) (string_bytes owner) (string_bytes group) done ends
-  job_keeps (Serve db roster port count) old new status (input, output, (done, ends, told)) =
-      serve_keeps (string_bytes db) (string_bytes roster) port count done ends
-  job_keeps (Report db roster kind) old new status (input, (done, ends, told)) =
+  others_keep (Serve db roster port count) old new status (input, output, (done, ends, told)) = tt
+  others_keep (Report db roster kind) old new status (input, (done, ends, told)) =
       report_keeps (string_bytes db) (string_bytes roster) kind old.output new.output done ends
-  job_keeps Check old new status (same, ran) = as_it_was (ap left same)
-  job_keeps (Replay roster owner group) old new status (done, ran, told) =
+  others_keep Check old new status (same, ran) = as_it_was (ap left same)
+  others_keep (Replay roster owner group) old new status (done, ran, told) =
       as_it_was (replay_left g image does left stays tells (string_bytes roster) (string_bytes owner)
       (string_bytes group) before later old.input new.input old.output new.output done ran)
-  job_keeps Selftest old new status (input, inl (ends, told)) =
+  others_keep Selftest old new status (input, inl (ends, told)) =
       as_it_was (selftest_left g image does left stays tells accepts fails accepts_so fails_so before later (Ok tt)
       ends)
-  job_keeps Selftest old new status (input, inr (output, why, ends, told)) =
+  others_keep Selftest old new status (input, inr (output, why, ends, told)) =
       as_it_was (selftest_left g image does left stays tells accepts fails accepts_so fails_so before later (Err why)
       ends)
+
+  job_keeps : (job : Job) (old new : Streams) (status : ℕ) → RunsJob program before later job old new status → Keeps
+  job_keeps (Serve db roster port count) old new status (input, output, (done, ends, told)) =
+      serve_keeps (string_bytes db) (string_bytes roster) port count done ends
+  job_keeps Check old new status ran = inl (others_keep Check old new status ran)
+  job_keeps (Init db owner group) old new status ran = inl (others_keep (Init db owner group) old new status ran)
+  job_keeps (Report db roster kind) old new status ran = inl (others_keep (Report db roster kind) old new status ran)
+  job_keeps (Replay roster owner group) old new status ran =
+      inl (others_keep (Replay roster owner group) old new status ran)
+  job_keeps Selftest old new status ran = inl (others_keep Selftest old new status ran)
 
   pub run_keeps : (words : List Text) (old new : Streams) (status : ℕ)
       → Runs program before later words old new status → Keeps
   run_keeps words old new status (Ok job, is, ran) = job_keeps job old new status ran
-  run_keeps words old new status (Err why, is, (same, unread, told)) = as_it_was (ap left same)
+  run_keeps words old new status (Err why, is, (same, unread, told)) = inl (as_it_was (ap left same))

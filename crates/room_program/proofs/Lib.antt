@@ -8,3 +8,6 @@ mod Keeps
 mod Jobs
 mod Streams
 mod Faults
+mod ClientFiles
+mod ClientJobs
+mod ClientFilesExamples

@@ -48,7 +48,7 @@ use Rattle.room_program.specs.Found.{IsOpenedOver, Holds, HoldsRoom, HoldsStill,
 use Rattle.room_program.specs.Found.{SparesRoom}
 use Rattle.room_program.specs.Restarts.{ActsOnce, Steps, KeepsRoom, KeepsRoomOrMore}
 use Rattle.room_program.specs.Restarts.{GoesOnOrMore, AnswersOrMore}
-use Rattle.room_program.proofs.Found.{stands, closed_holds, closed_in, kept_in, unopened, served, read_stands}
+use Rattle.room_program.proofs.Found.{stands, closed_holds, closed_in, kept_in, unopened, served}
 use Rattle.room_program.proofs.Streams.{stays, connections_answered}
 use Rattle.room_program.proofs.Found.{spares, not_made, one_database, found_database}
 use Rattle.room_program.proofs.Unopened.{may_hold}
@@ -64,7 +64,7 @@ module _ {D : Type 0} (g : Ghosts D) where
       (λ found. subst (λ (d : Database). recovers it d.trees) (sym shown.0.clean) found)
 
   -- trees of rooms are databases
-  databases : (it : FileStore D g) → ((trees : Trees) → recovers it trees → AreOfRoom trees)
+  pub databases : (it : FileStore D g) → ((trees : Trees) → recovers it trees → AreOfRoom trees)
       → AreDatabases (recovers it)
   databases it laid trees may = let (schema, room) = laid trees may in (schema, room.sound)
 
@@ -213,6 +213,21 @@ module _ {D : Type 0} (g : Ghosts D) (image one : Image) (opened : Held (FileSto
             (sym (as_before ∙ ap records_of (settled before was_left))) rows;
       })
 
+-- the laws of a shelf, of the program's
+module _ {D : Type 0} (g : Ghosts D) (stays : (file : D) → g.may_leave file (g.seen file)) where
+  abbrev pub shelf_view : SqlShelf (FileStore D g) over_files × Known → View
+  shelf_view = cached_view (sql_view over_files)
+
+  pub settled : (s : SqlShelf (FileStore D g) over_files × Known) (left : Records) → (shelf_view s).is_available
+      → (shelf_view s).crash_may_leave left → left ≡ (shelf_view s).records
+  settled s left there may =
+      leaves_rest (s.0.rests there.1) (λ trees. settled_at s.0.conn.store stays trees there.1) left may.1
+
+  pub leaves_laid_out : (s : SqlShelf (FileStore D g) over_files × Known) → (shelf_view s).is_available
+      → (shelf_view s).is_laid_out → (shelf_view s).leaves_laid_out
+  leaves_laid_out s there laid =
+      leaves_a_room (s.0.rests there.1) laid.0.0 (λ trees. settled_at s.0.conn.store stays trees there.1)
+
 -- a `serve` that took its room and closed it
 module _ {D M : Type 0} (g : Ghosts D) (image : Image) (does : M → Call (Held (FileStore D g)) → M → Type 0)
     (left : M → Left D g) (stays : (file : D) → g.may_leave file (g.seen file))
@@ -221,7 +236,7 @@ module _ {D M : Type 0} (g : Ghosts D) (image : Image) (does : M → Call (Held 
   abbrev Taken : Type 0
   Taken = SqlShelf (FileStore D g) over_files × Known
 
-  took : (db : List ℕ) (old new : M) (shelf : Taken)
+  pub took : (db : List ℕ) (old new : M) (shelf : Taken)
       → TakesRoom does (λ opened taken. Takes over_files opened taken) db old new (Ok shelf)
       → (opened : Held (FileStore D g)) × IsOpenedOver image opened × Adopted over_files opened shelf
   took db old new shelf (inl (begun, looked, none)) = absurd (unopened begun shelf none)
@@ -248,24 +263,14 @@ module _ {D M : Type 0} (g : Ghosts D) (image : Image) (does : M → Call (Held 
       keeps_room g image one opened shelf last users is adopted clean (some.run clean)
       is_open (closed_holds g stays last.0.conn (left later) image one told is_open (last.0.rests is_open) at)
 
-  -- the laws of a shelf, of this one
-  settled : (s : Taken) (left : Records) → (shown s).is_available → (shown s).crash_may_leave left
-      → left ≡ (shown s).records
-  settled s left there may =
-      leaves_rest (s.0.rests there.1) (λ trees. settled_at s.0.conn.store stays trees there.1) left may.1
-
-  leaves_laid_out : (s : Taken) → (shown s).is_available → (shown s).is_laid_out → (shown s).leaves_laid_out
-  leaves_laid_out s there laid =
-      leaves_a_room (s.0.rests there.1) laid.0.0 (λ trees. settled_at s.0.conn.store stays trees there.1)
-
   -- and where a fault had shut its store
   module _ (accepts : M → Exchange → M → Type 0) (fails : M → M → Type 0) where
     leave_answered : (users : List SubjectModel) (n : ℕ) (old last : M) (before after : Taken)
         → ServesEach accepts (Served shown users) n old last before after → (shown before).is_available
         → (shown after).is_intact → AnswersOrMore shown users before after
     leave_answered users n old last before after each there intact =
-        connections_answered shown settled leaves_laid_out accepts users n old last before after after [] [] each tt
-        ([], refl, refl) there intact
+        connections_answered shown (settled g stays) (leaves_laid_out g stays) accepts users n old last before after
+        after [] [] each tt ([], refl, refl) there intact
 
     answered : (users : List SubjectModel) (port count : ℕ) (taken over : M) (shelf last : Taken)
         (done : Result (Unit {0}) Fault) → Listens does accepts fails shown users port count taken over shelf last done

@@ -10,3 +10,4 @@ pub mod Replays
 pub mod Rooms
 pub mod Runs
 pub mod Streams
+pub mod ClientFiles

@@ -4,6 +4,7 @@
 //! any two writers, so that contracts name what is read and written and tests can call it.
 #![tactic(auto)]
 
+mod client_laws;
 mod fault;
 mod halts;
 mod host;
@@ -23,6 +24,11 @@ mod running;
 mod selftest;
 mod serving;
 
+pub use client_laws::{
+    a_client_acts_once_over_files, a_client_is_told_of_its_one_run,
+    a_close_cut_off_takes_its_attempts, a_run_cut_off_takes_its_attempts,
+    a_run_that_ends_takes_its_attempts, a_run_that_stops_takes_its_attempts,
+};
 pub use fault::Fault;
 pub use halts::{
     a_take_cut_off_leaves_the_room, an_event_cut_off_acts_once, an_event_cut_off_leaves_old_or_new,
