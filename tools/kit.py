@@ -7,7 +7,7 @@ import shutil
 import sys
 
 
-KIT = "rattle-kit-13b"  # for which the scripts were written
+KIT = "rattle-kit-13b"  # the oldest that the scripts are known to do with
 
 
 def load(who, used):
