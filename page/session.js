@@ -19,6 +19,9 @@ const write = (key, it) => localStorage.setItem(key, JSON.stringify(it));
 const bodyOf = (command) =>
   JSON.stringify(Object.fromEntries(Object.entries(command).sort(([a], [b]) => (a < b ? -1 : 1))));
 
+/** Gives up a command, whose number it takes. It is the same each time: so a false retry tells that the command ran. */
+const GIVES_UP = { cmd: "STAT", path: "/" };
+
 /** A command that changes nothing, and hardly ever is the same again. */
 const harmless = () =>
   ({ cmd: "ACCESS", mask: crypto.getRandomValues(new Uint32Array(1))[0] & 0x1f07ff, path: "/" });
@@ -107,7 +110,7 @@ class Lane {
   /** A step that was stopped is not done late: another request takes its number. A false retry: it was done. */
   async #drop() {
     const { number } = this.kept.pending;
-    const reply = await this.#send(number, bodyOf(harmless()));
+    const reply = await this.#send(number, bodyOf(GIVES_UP));
     const isUsed = reply.code < 20 || reply.code === FALSE_RETRY;
     if (!isUsed) this.session.renew(this.kept.name);
     this.#keep({ pending: null, number: isUsed ? number : this.kept.number });

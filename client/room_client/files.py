@@ -1,6 +1,6 @@
 """Files of up to 16 MiB: a small one is a document, and a large one a folder with pieces and a manifest."""
 import base64
-from collections.abc import Callable
+from collections.abc import Callable, Sequence
 from dataclasses import dataclass
 
 from . import manifest as form
@@ -93,9 +93,15 @@ def read(room: Room, path: str, heard: Callable[[dict], None] = unheard) -> byte
         text = text_at(room, path)
         if text is None or read_manifest(text) is None:
             raise fault
+    return of_version(room, path, text, lambda its: pieces_of(room, path, its, heard))
+
+
+def of_version(room: Room, path: str, text: bytes, gathers: Callable[[Manifest], object]):
+    """What is gathered of a large file by its manifest, or by that of a version that comes meanwhile. (None is gathered
+    of one that is not whole.)"""
     for _ in range(TRIES):
         its = read_manifest(text)
-        data = its and pieces_of(room, path, its, heard)
+        data = its and gathers(its)
         if data is not None:
             return data
         before, text = text, text_at(room, path)
@@ -109,15 +115,29 @@ def read(room: Room, path: str, heard: Callable[[dict], None] = unheard) -> byte
 
 def pieces_of(room: Room, path: str, its: Manifest, heard: Callable[[dict], None]) -> bytes | None:
     """None where it is not whole."""
-    commands = [{"cmd": "READ", "keep": False, "path": f"{path}/{its.folder}/{it}"} for it in its.pieces]
-    replies = room.ask_all(commands, heard)
+    pieces = [b""] * len(its.pieces)
+    if not fetch(room, path, its, range(len(pieces)), pieces.__setitem__, heard):
+        return None
+    data = b"".join(pieces)
+    return data if its.is_of(data) else None
+
+
+def fetch(room: Room, path: str, its: Manifest, numbers: Sequence[int], put: Callable[[int, bytes], object],
+          heard: Callable[[dict], None] = unheard) -> bool:
+    """Has each of these pieces put in its place, as it comes. Whether all are there, and of their length."""
+    commands = [{"cmd": "READ", "keep": False, "path": f"{path}/{its.folder}/{its.pieces[it]}"} for it in numbers]
+
+    def keeps(at: int, reply: dict) -> dict:
+        piece = base64.b64decode(reply.get("data", ""))
+        fits = reply["code"] == 0 and len(piece) == its.length_of(numbers[at])
+        if fits:
+            put(numbers[at], piece)
+        return {name: it for name, it in reply.items() if name != "data"} | {"fits": fits}
+    replies = room.ask_all(commands, heard, keeps)
     denied = next((it for it in zip(replies, commands) if it[0]["code"] == ACCESS), None)
     if denied:
         raise Refused(*denied)
-    pieces = [base64.b64decode(it.get("data", "")) for it in replies]
-    fits = all(it["code"] == 0 for it in replies) and all(len(it) == form.PIECE for it in pieces[:-1])
-    data = b"".join(pieces)
-    return data if fits and its.is_of(data) else None
+    return all(it["fits"] for it in replies)
 
 
 # Writing
@@ -162,6 +182,20 @@ def other_owner(room: Room, path: str) -> str | None:
 
 def takes_versions(room: Room, path: str) -> bool:
     return form.is_unfinished(room.children(path)) or manifest_in(room, path) is not None
+
+
+class Creates(Sequence):
+    """The requests that make the pieces of a version, each of which is made when it is its turn."""
+
+    def __init__(self, folder: str, data: bytes, its: Manifest):
+        self.folder, self.data, self.its = folder, data, its
+
+    def __len__(self) -> int:
+        return len(self.its.pieces)
+
+    def __getitem__(self, at: int) -> dict:
+        name, piece = self.its.pieces[at], form.piece(self.data, at)
+        return {"cmd": "CREATE", "data": base64.b64encode(piece).decode(), "path": f"{self.folder}/{name}"}
 
 
 @dataclass
@@ -244,13 +278,12 @@ class Upload:
         """All pieces in a folder of that name, which is there once they are."""
         writing = f"{at}/{form.other_name(form.WRITING)}"
         self.room.ask({"cmd": "MKDIR", "path": writing}, is_step=True)
-        commands = [{"cmd": "CREATE", "data": base64.b64encode(piece).decode(), "path": f"{writing}/{name}"}
-                    for name, piece in form.split(self.data, self.its)]
+        commands = Creates(writing, self.data, self.its)
         replies = self.room.ask_all(commands, self.heard)
-        failed = next((it for it in zip(replies, commands) if it[0]["code"] != 0), None)
+        failed = next((at for at, it in enumerate(replies) if it["code"] != 0), None)
         try:
-            if failed:
-                raise refused(*failed)
+            if failed is not None:
+                raise refused(replies[failed], commands[failed])
             self.room.rename(writing, f"{at}/{self.its.folder}")
         except Refused as fault:
             if refused_as(fault, "NOENT"):

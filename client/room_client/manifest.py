@@ -43,6 +43,10 @@ class Manifest:
         return compact({"folder": self.folder, "form": 1, "pieces": self.pieces, "sha256": self.sha256,
                         "size": self.size})
 
+    def length_of(self, number: int) -> int:
+        """Of a piece."""
+        return min(self.size - PIECE * number, PIECE)
+
     def is_of(self, data: bytes) -> bool:
         return len(data) == self.size and hashlib.sha256(data).hexdigest() == self.sha256
 
@@ -111,6 +115,5 @@ def is_large(names: dict[str, str]) -> bool:
     return NAME in names and names[NAME] != FOLDER and are_parts({it: names[it] for it in names if it != NAME})
 
 
-def split(data: bytes, manifest: Manifest) -> list[tuple[str, bytes]]:
-    """Each piece's name and bytes."""
-    return [(name, data[PIECE * it:PIECE * (it + 1)]) for it, name in enumerate(manifest.pieces)]
+def piece(data: bytes, number: int) -> bytes:
+    return data[PIECE * number:PIECE * (number + 1)]

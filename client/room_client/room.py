@@ -3,7 +3,7 @@ import base64
 import contextlib
 import json
 import sys
-from collections.abc import Callable, Iterable
+from collections.abc import Callable, Iterable, Sequence
 
 from .faults import FBIG, Fault, Refused, refused
 from .line import Line
@@ -23,6 +23,10 @@ def say(text: str) -> None:
 
 def unheard(_: dict) -> None:
     pass
+
+
+def counted(commands: Iterable[dict]) -> Sequence[dict]:
+    return commands if isinstance(commands, Sequence) else list(commands)
 
 
 class Room:
@@ -134,15 +138,17 @@ class Room:
             self.say(SAME)
         return found
 
-    def ask_all(self, commands: Iterable[dict], heard: Callable[[dict], None] = unheard) -> list[dict]:
-        """The replies to some commands, refusals too, of which none waits for another: over several slots at once."""
-        commands = list(commands)
+    def ask_all(self, commands: Iterable[dict], heard: Callable[[dict], None] = unheard,
+                keeps: Callable[[int, dict], object] = lambda _, reply: reply) -> list:
+        """The replies to some commands, refusals too, of which none waits for another: over several slots at once. Or
+        what `keeps` makes of each, which is told its place."""
+        commands = counted(commands)
         if any(it["cmd"] in CHANGES for it in commands):
             self.finished = []
         # (a room's port serves one connection after another: a second one would wait for the end of the first)
         width = 1 if self.settings.login is None else self.state.session.slots
         slots = [self.slot(number) for number in range(min(width, len(commands)))]
-        crew = Crew(commands, heard)
+        crew = Crew(commands, heard, keeps)
         if len(slots) > 1:
             return crew.run(slots)
         for slot in slots:

@@ -6,7 +6,7 @@ import threading
 import time
 from collections.abc import Callable, Sequence
 
-from .faults import BadWords, Fault, NoAnswer, Refused, refused
+from .faults import BadWords, Fault, NoAnswer, Refused, SessionLost, refused
 from .line import NO_SUCH_NAME, Answer, Line, Lost, NotSent
 from .settings import Settings
 from .state import State
@@ -80,9 +80,12 @@ class Slot:
         self.number, self.line, self.settings = number, line, settings
         self.state, self.pace, self.say = state, pace, say
         self.is_answered = self.may_be_sent = self.is_stopped = False
+        self.left: Fault | None = None  # why it is not known whether the number on record was used: nothing follows it
 
     def ask(self, command: dict) -> dict:
         """The room's reply, a refusal too. One that was not to be kept, and is lost, is asked for anew."""
+        if self.left:
+            raise self.left
         request = compact(command)
         try:
             request.encode()
@@ -102,10 +105,10 @@ class Slot:
             if not (is_refused_as(answer, UNCACHED) and command.get("keep") is False):
                 self.need_done(answer, command)
         except NoAnswer as fault:
-            raise NoAnswer(f"{fault}; {self._settle()}") from None
-        except Fault:
+            raise self._leave(NoAnswer(f"{fault}; {self._settle()}")) from None
+        except Fault as fault:
             self._settle()
-            raise
+            raise self._leave(fault)
         except BaseException:  # (stopped at the keyboard)
             self.say(f"{told(command)}: {self._settle()}")
             raise
@@ -139,6 +142,11 @@ class Slot:
                     "or by: room session finish")
         self.state.withdraw(self.number)
         return "nothing was done, and nothing is kept"
+
+    def _leave(self, fault: Fault) -> Fault:
+        if self.may_be_sent or isinstance(fault, SessionLost):
+            self.left = fault
+        return fault
 
     def need_done(self, answer: Answer, command: dict | None = None) -> dict:
         if answer.is_done:
@@ -208,9 +216,10 @@ def answered(slot: Slot, command: dict) -> dict:
 class Crew:
     """Some requests over several slots at once: each slot takes the next one that nobody took."""
 
-    def __init__(self, commands: Sequence[dict], heard: Callable[[dict], None]):
-        self.left, self.heard = iter(enumerate(commands)), heard
-        self.replies: list[dict | None] = [None] * len(commands)
+    def __init__(self, commands: Sequence[dict], heard: Callable[[dict], None],
+                 keeps: Callable[[int, dict], object] = lambda _, reply: reply):
+        self.left, self.heard, self.keeps = iter(enumerate(commands)), heard, keeps
+        self.replies: list = [None] * len(commands)
         self.faults: list[BaseException] = []
         self.lock = threading.Lock()
 
@@ -222,14 +231,16 @@ class Crew:
         try:
             while (taken := self.next()) is not None:
                 reply = answered(slot, taken[1])
+                kept = self.keeps(taken[0], reply)
                 with self.lock:
-                    self.replies[taken[0]] = reply
+                    self.replies[taken[0]] = kept
                     self.heard(reply)
         except BaseException as fault:
             self.faults.append(fault)
 
-    def run(self, slots: Sequence[Slot]) -> list[dict]:
-        """The replies in the order of the requests, or the first fault, once no request is under way."""
+    def run(self, slots: Sequence[Slot]) -> list:
+        """What is kept of the replies, in the order of the requests, or the first fault, once no request is under way.
+        """
         for slot in slots:
             slot.is_stopped = False
         threads = [threading.Thread(target=self.work, args=(slot,)) for slot in slots]

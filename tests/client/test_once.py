@@ -59,6 +59,21 @@ class Lost(Desk):
             self.assertEqual(room.read("/log"), b"piece")
         self.assertEqual(said, ["finished what was pending: APPEND /log: done"])
 
+    def test_nothing_follows_what_got_no_answer(self):
+        """Whoever goes on after a fault, as to clear up, would count on without knowing that the number was used."""
+        with self.behind() as room:
+            room.create("/log", b"")
+        with self.behind() as room:
+            self.front.faults[:] = ["drop"] + [504] * 50
+            with clock_of_looks(), self.assertRaises(NoAnswer) as first:
+                room.append("/log", b"first")
+            del self.front.faults[:]
+            with self.assertRaises(NoAnswer) as next:
+                room.append("/log", b"next")
+            self.assertEqual(str(next.exception), str(first.exception))
+        with self.behind() as room:
+            self.assertEqual(room.read("/log"), b"first")
+
     def test_a_pending_read_is_finished_without_a_word(self):
         self.front.faults[:] = ["pass", "lose"] + [504] * 50
         with self.assertRaises(NoAnswer):
