@@ -1,15 +1,16 @@
 """The gateway as a WSGI application: what it answers to a request, and never more than the caller's login is told."""
 import contextlib
+import functools
 import json
 import os
 import re
 import sys
-import threading
 import traceback
+from collections.abc import Iterable
 
 from room_client.faults import Fault
 
-from . import bodies, locking, moving, props, reading, writing
+from . import bodies, locking, moving, props, reading, saving, writing
 from .asked import Asked, Reply
 from .bodies import DAV
 from .faults import Answered, LATER, REASONS, as_answered
@@ -19,10 +20,12 @@ from .names import BASE, ROOM, for_making, is_passing
 from .passing import MOST_BYTES as MOST_PASSING, Passing
 from .seats import Seats
 from .seen import Seen
+from .spool import Sent
+from .steps import Asides, Steps
 from .tree import sum_of
+from .turns import MOST_AT_WORK, MOST_UNREAD, Share
 
 MOST_BODY = 1 << 24
-HEAVY, MOST_HEAVY = 1 << 20, 2  # bytes; so many files of more are under way at once, each of which takes some 60 MB
 METHODS = {"GET": reading.get, "HEAD": reading.get, "PUT": writing.put, "DELETE": writing.delete,
            "MKCOL": writing.mkcol, "COPY": moving.copy, "MOVE": moving.move, "LOCK": locking.lock,
            "UNLOCK": locking.unlock, "PROPFIND": props.propfind, "PROPPATCH": props.proppatch}
@@ -41,10 +44,9 @@ class Gate:
         os.makedirs(folder, mode=0o700, exist_ok=True)
         self.seats, self.locks = Seats(front, folder, patience), Locks(os.path.join(folder, "locks"))
         self.seen, self.memory, self.passing = Seen(os.path.join(folder, "seen")), Memory(), Passing()
-        self.heavy = threading.BoundedSemaphore(MOST_HEAVY)
-
-    def for_size(self, size: int | None):
-        return self.heavy if (size or 0) > HEAVY else contextlib.nullcontext()
+        self.asides, self.steps = Asides(os.path.join(folder, "asides")), Steps(os.path.join(folder, "steps"))
+        self.at_work = Share(MOST_AT_WORK)
+        self.unread = Share(MOST_UNREAD, "too many large answers to you are not read yet")
 
     @contextlib.contextmanager
     def changing(self, room: str, path: str):
@@ -55,20 +57,22 @@ class Gate:
         finally:
             self.memory.changed(room, path)
 
-    def __call__(self, environ: dict, start_response) -> list[bytes]:
+    def __call__(self, environ: dict, start_response) -> Iterable[bytes]:
         reply = self.answer(environ)
         is_bare = environ["REQUEST_METHOD"] == "HEAD" or reply.status in (204, 304)
         fields = [*reply.fields, *GUARDED]
         if not any(name == "Content-Length" for name, _ in fields) and reply.status not in (204, 304):
             fields.append(("Content-Length", str(len(reply.body))))
         start_response(f"{reply.status} {REASONS[reply.status]}", fields)
+        if isinstance(reply.body, Sent):
+            return environ["wsgi.file_wrapper"](reply.body)
         return [] if is_bare else [reply.body]
 
     def answer(self, environ: dict) -> Reply:
         try:
             if environ["REQUEST_METHOD"] == "OPTIONS":
                 return Reply(200, b"", OFFERED)
-            return self.done(Asked.of(environ, MOST_BODY))
+            return self.in_turn(Asked.of(environ, MOST_BODY))
         except Answered as fault:
             return refusal(fault)
         except Fault as fault:
@@ -76,6 +80,15 @@ class Gate:
         except Exception:
             traceback.print_exc(file=sys.stderr)
             return refusal(Answered(500, "the gateway failed: its log says how"))
+
+    def in_turn(self, asked: Asked) -> Reply:
+        with self.at_work.of(asked.user):
+            self.unread.need(asked.user)
+            reply = self.done(asked)
+            if isinstance(reply.body, Sent):
+                reply.body.at_end = functools.partial(self.unread.leave, asked.user)
+                self.unread.add(asked.user)
+            return reply
 
     def done(self, asked: Asked) -> Reply:
         if asked.method not in METHODS:
@@ -89,6 +102,7 @@ class Gate:
     def visited(self, visit, asked: Asked) -> Reply:
         if asked.method == "LOCK" or asked.field("If"):  # (locks are looked at before the room is asked)
             self.need_login(asked, "/whoami")
+        saving.settle(self, visit, asked)
         return METHODS[asked.method](self, visit, asked)
 
     # Above the rooms
@@ -110,7 +124,7 @@ class Gate:
         if asked.depth == "infinity":
             raise Answered(403, "ask for one folder at a time (Depth 0 or 1)", "propfind-finite-depth")
         where = [BASE] + [f"{BASE}{it}/" for it in names if asked.depth == "1"]
-        told = [bodies.response(it, props.told_of(wanted, found)) for it in where]
+        told = [bodies.response(it, props.Wanted(wanted).told_of(found)) for it in where]
         return Reply(207, bodies.multistatus(told), [props.XML])
 
     # What does not reach a room
@@ -135,7 +149,7 @@ class Gate:
                                      ("Content-Disposition", "attachment")])
         its = props.Thing(asked.path, False, len(data), sum_of(data))
         wanted = bodies.propfind_of(asked.body(bodies.MOST_BYTES)) if asked.method == "PROPFIND" else []
-        inside = props.told_of(wanted, props.properties(its, "", None))
+        inside = props.Wanted(wanted).told_of(props.properties(its, "", None))
         return Reply(207, bodies.multistatus([bodies.response(
             props.href(asked.room, asked.path, False), inside)]), [props.XML])
 

@@ -1,11 +1,13 @@
 """One request as it came, and one answer."""
 import base64
 import binascii
+import mmap
 import re
 from dataclasses import dataclass, field
 
 from .faults import Answered
 from .names import split_destination, split_target
+from .spool import MOST_IN_MEMORY, Sent, mapped
 
 USER = re.compile("[A-Za-z0-9._-]{1,32}")
 MOST_PASSWORD = 400
@@ -14,7 +16,7 @@ MOST_PASSWORD = 400
 @dataclass
 class Reply:
     status: int
-    body: bytes = b""
+    body: bytes | Sent = b""
     fields: list[tuple[str, str]] = field(default_factory=list)
 
 
@@ -38,11 +40,13 @@ class Asked:
         return cls(environ["REQUEST_METHOD"], room, path, user, password, length_of(environ, most),
                    environ.get("HTTP_HOST", ""), environ)
 
-    def body(self, most: int) -> bytes:
+    def body(self, most: int) -> bytes | mmap.mmap:
         if self.length > most:
             raise Answered(413, f"that is longer than {most} bytes")
-        self.environ["wsgi.input"].seek(0)  # (a visit that begins anew reads it again)
-        body = self.environ["wsgi.input"].read(self.length)
+        file = self.environ["wsgi.input"]
+        file.seek(0)  # (a visit that begins anew reads it again)
+        # (waitress has it in a file)
+        body = mapped(file.fileno(), self.length) if self.length > MOST_IN_MEMORY else file.read(self.length)
         if len(body) != self.length:
             raise Answered(400, "the body is cut short")
         return body

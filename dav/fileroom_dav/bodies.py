@@ -1,11 +1,14 @@
 """XML: what callers send, which is read without entities and within bounds, and what they are answered."""
+import itertools
 import xml.etree.ElementTree as plain
+from collections.abc import Iterable
 from xml.sax.saxutils import escape
 
 from defusedxml.ElementTree import DefusedXMLParser
 from defusedxml.common import DefusedXmlException
 
 from .faults import Answered, REASONS
+from .spool import Sent, joined
 
 MOST_BYTES = 16384  # of a body of XML
 DEEPEST, MOST_ELEMENTS = 20, 1000
@@ -78,8 +81,9 @@ def response(where: str, inside: str) -> str:
     return f"<D:response><D:href>{text(where)}</D:href>{inside}</D:response>\n"
 
 
-def multistatus(responses: list[str]) -> bytes:
-    return f'{HEAD}<D:multistatus xmlns:D="DAV:">\n{"".join(responses)}</D:multistatus>\n'.encode()
+def multistatus(responses: Iterable[str]) -> bytes | Sent:
+    top = f'{HEAD}<D:multistatus xmlns:D="DAV:">\n'
+    return joined(it.encode() for it in itertools.chain([top], responses, ["</D:multistatus>\n"]))
 
 
 def prop(inside: str) -> bytes:

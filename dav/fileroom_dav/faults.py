@@ -27,12 +27,18 @@ class Busy(Answered):
         super().__init__(503, why)
 
 
-def not_there(path: str) -> Answered:
-    return Answered(404, f"nothing is at {path}")
+class NotThere(Answered):
+    def __init__(self, path: str):
+        super().__init__(404, f"nothing is at {path}")
 
 
 def is_refused(fault: Refused, *names: str) -> bool:
     return fault.reply.get("error") in names
+
+
+def is_sure(fault: BaseException) -> bool:
+    """Whether the room refused it, and so did nothing: with a session that is lost, nobody knows."""
+    return isinstance(fault, Refused) and not isinstance(fault, SessionLost)
 
 
 def as_answered(fault: Fault, front_status: int = 0) -> Answered:

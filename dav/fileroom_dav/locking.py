@@ -6,9 +6,10 @@ from .locks import Held, Lock, timeout_of
 from .names import href, is_below
 from .props import XML, active
 from .rules import ALL_BELOW, Rules
+from .saving import put_in_place
 from .tree import is_folder, spelled, standing
 from .visit import Visit
-from .writing import need_folder_above, place, put_bytes
+from .writing import need_folder_above, place
 
 
 def lock(gate, visit: Visit, asked: Asked) -> Reply:
@@ -21,7 +22,7 @@ def lock(gate, visit: Visit, asked: Asked) -> Reply:
     is_shared, owner = bodies.lockinfo_of(body)
     if asked.depth == "1":
         raise Answered(400, "a lock has Depth 0 or infinity")
-    path = asked.path if asked.path == "/" else place(visit, asked.path)
+    path = asked.path if asked.path == "/" else place(gate, visit, asked, asked.path)
     is_there = rules.need_right(path)
     if is_there and asked.depth == "infinity" and is_folder(visit, path):
         # (it holds others off from all that is in the folder: so it is for who may take that away)
@@ -36,7 +37,7 @@ def lock(gate, visit: Visit, asked: Asked) -> Reply:
         try:
             need_folder_above(gate, visit, asked, path)
             with gate.changing(asked.room, path):
-                put_bytes(visit, path, b"", True)
+                put_in_place(gate, visit, asked.room, path, b"", True)
         except BaseException:
             gate.locks.drop([held.token])
             raise

@@ -4,19 +4,25 @@ They hold among callers of this gateway alone. A token is told to nobody but who
 alone.
 """
 import contextlib
+import errno
 import json
+import math
 import os
 import re
 import secrets
 import threading
 import time
-from dataclasses import asdict, dataclass
+from collections import Counter
+from collections.abc import Iterator
+from dataclasses import asdict, dataclass, replace
 
 from .faults import Answered, Busy
 from .names import above, is_below
+from .spool import disk
 
 LONGEST = 1800  # seconds
-MOST, MOST_OF_ONE = 5000, 200
+MOST, MOST_OF_ONE = 10_000, 2000  # (davfs2 has one for each file that it has not put yet)
+MOST_OVER = 1000  # lines of the file that are over, beside as many as hold
 MOST_CONDITIONS = 50
 WORDS = re.compile(r"\s*(?:(<[^<>]*>)|(\[[^\[\]]*\])|(\()|(\))|([Nn][Oo][Tt]\b))")
 
@@ -46,82 +52,163 @@ class Held(Exception):
 
 
 class Locks:
+    """By rooms and paths. Each change is a line at the end of the file, which is written anew once most is over."""
+
     def __init__(self, path: str, now=time.time):
         self.path, self.now = path, now
         self.mutex = threading.RLock()
         self.held: dict[str, Lock] = {}
-        # (where there is none, or a halt of the machine cut it, there are no locks)
-        with contextlib.suppress(OSError, ValueError, TypeError, KeyError), open(path, encoding="utf-8") as file:
-            self.held = {it["token"]: Lock(**it) for it in json.load(file)}
+        self.rooms: dict[str, dict[str, dict[str, Lock]]] = {}  # by path and token
+        self.counts: Counter[str] = Counter()  # of users
+        self.first_end, self.file = 0.0, -1
+        for it in lines_of(path):
+            self._take_line(it)
+        self._write_anew()
 
-    def _save(self) -> None:
-        with open(os.open(self.path + ".new", os.O_WRONLY | os.O_CREAT | os.O_TRUNC, 0o600), "w",
-                  encoding="utf-8") as file:
-            json.dump([asdict(it) for it in self.held.values()], file)
+    # What is kept
+
+    def _take_line(self, line: object) -> None:
+        """(What a halt of the machine cut is no lock.)"""
+        with contextlib.suppress(TypeError, KeyError):
+            if isinstance(line, dict):
+                for token in line["gone"]:
+                    self._forget(token)
+            else:
+                for it in line:
+                    self._remember(Lock(**it))
+
+    def _write_anew(self) -> None:
+        new = os.open(self.path + ".new", os.O_WRONLY | os.O_CREAT | os.O_TRUNC | os.O_APPEND, 0o600)
+        for it in self.held.values():
+            os.write(new, line_of([asdict(it)]))
         os.replace(self.path + ".new", self.path)
+        if self.file >= 0:
+            os.close(self.file)
+        self.file, self.lines = new, len(self.held)
 
-    def of(self, room: str) -> list[Lock]:
+    def _note(self, what: list | dict) -> None:
+        line = line_of(what)
+        count = os.write(self.file, line)
+        if count < len(line):
+            os.ftruncate(self.file, os.fstat(self.file).st_size - count)
+            raise OSError(errno.ENOSPC, os.strerror(errno.ENOSPC))
+        self.lines += 1
+        if self.lines > 2 * len(self.held) + MOST_OVER:
+            self._write_anew()
+
+    def _remember(self, lock: Lock) -> None:
+        self._forget(lock.token)
+        self.held[lock.token] = lock
+        self.rooms.setdefault(lock.room, {}).setdefault(lock.path, {})[lock.token] = lock
+        self.counts[lock.user] += 1
+        self.first_end = min(self.first_end, lock.end)
+
+    def _forget(self, token: str) -> None:
+        lock = self.held.pop(token, None)
+        if lock is None:
+            return
+        self.counts[lock.user] -= 1
+        room = self.rooms[lock.room]
+        del room[lock.path][token]
+        if not room[lock.path]:
+            del room[lock.path]
+
+    def _paths(self, room: str) -> dict[str, dict[str, Lock]]:
+        """Of a room, the locks that have not ended."""
+        now = self.now()
+        if now >= self.first_end:
+            for token in [it.token for it in self.held.values() if it.end <= now]:
+                self._forget(token)
+            self.first_end = min((it.end for it in self.held.values()), default=math.inf)
+        return self.rooms.get(room, {})
+
+    # Which there are
+
+    def on(self, room: str, path: str) -> list[Lock]:
         with self.mutex:
-            now = self.now()
-            over = [it.token for it in self.held.values() if it.end <= now]
-            for token in over:
-                del self.held[token]
-            if over:
-                self._save()
-            return [it for it in self.held.values() if it.room == room]
+            return list(self._paths(room).get(path, {}).values())
 
     def at(self, room: str, path: str) -> list[Lock]:
-        return [it for it in self.of(room) if it.covers(path)]
+        """Those that cover it: its own first."""
+        found = self.on(room, path)
+        while path != "/":
+            path = above(path)
+            found += [it for it in self.on(room, path) if it.is_deep]
+        return found
+
+    def below(self, room: str, top: str) -> list[Lock]:
+        with self.mutex:
+            return [it for path, its in self._paths(room).items() if is_below(path, top) for it in its.values()]
+
+    def named(self, room: str, token: str, user: str) -> Lock | None:
+        with self.mutex:
+            self._paths(room)
+            lock = self.held.get(token)
+            return lock if lock and (lock.room, lock.user) == (room, user) else None
 
     def in_the_way(self, room: str, path: str, is_deep: bool, is_shared: bool) -> list[Lock]:
         """Those beside which a new lock cannot be, those of the path itself first."""
-        beside = [it for it in self.of(room) if not (is_shared and it.is_shared)]
-        return [it for it in beside if it.covers(path)] + [
-            it for it in beside if is_deep and is_below(it.path, path)]
-
-    def take(self, room: str, path: str, user: str, is_shared: bool, is_deep: bool, owner: str, seconds: int) -> Lock:
-        with self.mutex:
-            for lock in self.in_the_way(room, path, is_deep, is_shared):
-                raise Held(lock)
-            if len(self.held) >= MOST or sum(it.user == user for it in self.held.values()) >= MOST_OF_ONE:
-                raise Busy("there are too many locks")
-            token = f"opaquelocktoken:{secrets.token_hex(16)}"
-            lock = Lock(token, room, path, user, is_shared, is_deep, owner, seconds, self.now() + seconds)
-            self.held[token] = lock
-            self._save()
-            return lock
-
-    def refresh(self, lock: Lock, seconds: int) -> Lock:
-        with self.mutex:
-            again = Lock(**asdict(lock) | {"seconds": seconds, "end": self.now() + seconds})
-            self.held[lock.token] = again
-            self._save()
-            return again
-
-    def drop(self, tokens: list[str]) -> None:
-        with self.mutex:
-            for token in tokens:
-                self.held.pop(token, None)
-            if tokens:
-                self._save()
-
-    def drop_below(self, room: str, path: str) -> None:
-        """What is gone, or has another name, is locked no longer."""
-        self.drop([it.token for it in self.of(room) if it.path == path or is_below(it.path, path)])
+        found = self.at(room, path) + (self.below(room, path) if is_deep else [])
+        return [it for it in found if not (is_shared and it.is_shared)]
 
     def foreign(self, room: str, path: str, user: str, tokens: set[str], *, is_deep: bool = False,
                 is_member: bool = False) -> Lock | None:
         """A lock that keeps this caller from changing what is at a path: with `is_deep` also what is below it, with
         `is_member` also which names the folder above has."""
-        mine = {it.token for it in self.of(room) if it.user == user and it.token in tokens}
-        parent = above(path)
-        for lock in self.of(room):
-            is_parent = is_member and lock.path == parent
-            if lock.covers(path) or is_deep and is_below(lock.path, path) or is_parent:
-                beside = {it.token for it in self.of(room) if it.is_shared and it.path == lock.path}
-                if lock.token not in mine and not (lock.is_shared and beside & mine):
-                    return lock
+        found = self.at(room, path) + (self.below(room, path) if is_deep else [])
+        found += self.on(room, above(path)) if is_member else []
+        mine = {it for it in tokens if self.named(room, it, user)}
+        for lock in found:
+            beside = {it.token for it in self.on(room, lock.path) if it.is_shared}
+            if lock.token not in mine and not (lock.is_shared and beside & mine):
+                return lock
         return None
+
+    # Changes
+
+    def take(self, room: str, path: str, user: str, is_shared: bool, is_deep: bool, owner: str, seconds: int) -> Lock:
+        with self.mutex:
+            for lock in self.in_the_way(room, path, is_deep, is_shared):
+                raise Held(lock)
+            if len(self.held) >= MOST or self.counts[user] >= MOST_OF_ONE:
+                raise Busy("there are too many locks")
+            token = f"opaquelocktoken:{secrets.token_hex(16)}"
+            return self._keep(Lock(token, room, path, user, is_shared, is_deep, owner, seconds, self.now() + seconds))
+
+    def refresh(self, lock: Lock, seconds: int) -> Lock:
+        with self.mutex:
+            return self._keep(replace(lock, seconds=seconds, end=self.now() + seconds))
+
+    def _keep(self, lock: Lock) -> Lock:
+        with disk():
+            self._note([asdict(lock)])
+        self._remember(lock)
+        return lock
+
+    def drop(self, tokens: list[str]) -> None:
+        with self.mutex:
+            for token in tokens:
+                self._forget(token)
+            if tokens:
+                with contextlib.suppress(OSError):  # (a full disk: after a kill they are there until they end)
+                    self._note({"gone": tokens})
+
+    def drop_below(self, room: str, path: str) -> None:
+        """What is gone, or has another name, is locked no longer."""
+        with self.mutex:
+            self.drop([it.token for it in [*self.on(room, path), *self.below(room, path)]])
+
+
+def line_of(what: list | dict) -> bytes:
+    return json.dumps(what).encode() + b"\n"
+
+
+def lines_of(path: str) -> Iterator[object]:
+    """Each line of the file: a list of locks that are held, or the tokens of those that are gone."""
+    with contextlib.suppress(OSError), open(path, encoding="utf-8", errors="replace") as file:
+        for line in file:
+            with contextlib.suppress(ValueError):
+                yield json.loads(line)
 
 
 @dataclass(frozen=True)

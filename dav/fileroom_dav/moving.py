@@ -1,33 +1,34 @@
 """COPY and MOVE. What is in the way has another name meanwhile, and its own back where the rest is refused."""
 import contextlib
-import secrets
 
 from room_client import files, trash
 from room_client.faults import Fault, Refused
 from room_client.manifest import is_hidden
 
 from .asked import Asked, Reply
-from .faults import Answered, is_refused
-from .names import above, below, is_below, is_passing, last
+from .faults import Answered, is_refused, is_sure
+from .names import above, below, beside, is_backup, is_below, is_passing, is_short_lived, is_temporary, last
 from .rules import Rules
+from .saving import awaited, exchange, is_closed, put_backup, put_bytes, put_in_place, renamed
+from .steps import Step
 from .tree import Thing, bytes_of, standing, thing_at
 from .visit import Visit
-from .writing import make_folder, need_folder_above, place, put_bytes
+from .writing import make_folder, need_folder_above, place
 
 MOST_COPIED = 2000  # things of a folder, by one COPY
 MOST_DEEP = 16
 
 
-def destination(visit: Visit, asked: Asked) -> str:
+def destination(gate, visit: Visit, asked: Asked) -> str:
     to = asked.destination()
     if is_passing(to):
         raise Answered(403, f"{last(to)}: no file of that name is kept in a room")
-    return place(visit, to)
+    return place(gate, visit, asked, to)
 
 
 def two_places(gate, visit: Visit, asked: Asked, *, leaves: bool) -> tuple[str, str]:
     """From where to where, once both may be changed (the first where it `leaves`)."""
-    source, target = standing(visit, asked.path), destination(visit, asked)
+    source, target = standing(visit, asked.path), destination(gate, visit, asked)
     need_apart(source, target)
     rules = Rules(visit, asked, gate.locks)
     rules.need()
@@ -46,32 +47,38 @@ def move(gate, visit: Visit, asked: Asked) -> Reply:
 
 
 def moved(gate, visit: Visit, asked: Asked, source: str, target: str) -> bool:
-    """By one RENAME where nothing is there. A file in the place of a file is a new version of that: whose it is and its
-    list stay, and at no time nothing has the name."""
+    """By one RENAME where nothing is there. A file in the place of a file, or of one that was moved aside a moment ago,
+    is a new version of that: whose it is and its list stay. But what is moved aside, over what lay there, stays itself.
+    """
+    found = awaited(gate, visit, asked.room, target, source)
+    if found:
+        exchange(gate, visit, *found, source=source)
+        return True
     try:
-        visit.rename(source, target)
+        renamed(gate, visit, asked.room, source, target)
         return True
     except Refused as fault:
         if not is_refused(fault, "EXIST"):
             raise moving(visit, fault, source) from None
     need_overwrite(asked)
     its, there = thing_at(visit, source), thing_at(visit, target, is_shown=True)
-    if not its.is_folder and not there.is_folder:
-        put_over(gate, visit, source, target)
+    is_fresh = gate.asides.is_fresh(asked.room, asked.user, source)
+    is_aside = is_backup(target, source, is_fresh) and not is_temporary(source)
+    if not its.is_folder and not there.is_folder and not is_aside:
+        put_over(gate, visit, asked.room, source, target)
     else:
-        with out_of_the_way(visit, target):
-            visit.rename(source, target)
+        with out_of_the_way(gate, visit, asked.room, target):
+            renamed(gate, visit, asked.room, source, target)
     return False
 
 
-def put_over(gate, visit: Visit, source: str, target: str) -> None:
+def put_over(gate, visit: Visit, room: str, source: str, target: str) -> None:
     """(What goes is what was read: under another name nobody writes to it meanwhile.)"""
-    aside = set_aside(visit, source)
-    with put_back(visit, aside, source):
+    with set_aside(gate, visit, room, source) as aside:
         its = thing_at(visit, aside)
-        with gate.for_size(its.size):
-            put_bytes(visit, target, bytes_of(visit, its))
+        put_bytes(visit, target, bytes_of(visit, its))
         files.remove_file(visit, aside) if its.large else visit.remove(aside)
+    gate.asides.drop(room, source)
 
 
 def moving(visit: Visit, fault: Refused, source: str) -> Exception:
@@ -108,9 +115,15 @@ def copied(gate, visit: Visit, asked: Asked, its: Thing, target: str) -> bool:
         there = None
     if there:
         need_overwrite(asked)
-    with out_of_the_way(visit, target) if there and (its.is_folder or there.is_folder) else contextlib.nullcontext():
+    is_away = there and (its.is_folder or there.is_folder or is_closed_backup(visit, its.path, target))
+    with out_of_the_way(gate, visit, asked.room, target) if is_away else contextlib.nullcontext():
         copy_whole(gate, visit, asked, its, target)
     return there is None
+
+
+def is_closed_backup(visit: Visit, path: str, to: str) -> bool:
+    """Whether a document with a list of its own is copied to a backup. (By one that is there it could be read.)"""
+    return is_backup(to, path, True) and is_closed(visit, path)
 
 
 def copy_whole(gate, visit: Visit, asked: Asked, its: Thing, target: str) -> None:
@@ -118,9 +131,9 @@ def copy_whole(gate, visit: Visit, asked: Asked, its: Thing, target: str) -> Non
     made: list[str] = []
     try:
         if its.is_folder:
-            copy_folder(gate, visit, its.path, target, made, MOST_DEEP if asked.depth != "0" else 0)
+            copy_folder(gate, visit, asked.room, its.path, target, made, MOST_DEEP if asked.depth != "0" else 0)
         else:
-            copy_file(gate, visit, its, target, not asked.may_overwrite)
+            copy_file(gate, visit, asked.room, its, target, not asked.may_overwrite)
     except (Refused, Answered) as fault:
         remove_each(visit, made)
         if isinstance(fault, Refused) and is_refused(fault, "EXIST"):  # (made by somebody else meanwhile)
@@ -135,13 +148,15 @@ def remove_each(visit: Visit, made: list[str]) -> None:
             trash.remove(visit, path, False)
 
 
-def copy_file(gate, visit: Visit, its: Thing, target: str, is_new: bool) -> None:
-    with gate.for_size(its.size):
-        put_bytes(visit, target, bytes_of(visit, its), is_new)
-        its.data = None
+def copy_file(gate, visit: Visit, room: str, its: Thing, target: str, is_new: bool) -> None:
+    is_backed_up = is_backup(target, its.path) and not is_temporary(target) and put_backup(
+        visit, its.path, target, bytes_of(visit, its))
+    if not is_backed_up:
+        put_in_place(gate, visit, room, target, bytes_of(visit, its), is_new)
+    its.data = None
 
 
-def copy_folder(gate, visit: Visit, source: str, target: str, made: list[str], deep: int) -> None:
+def copy_folder(gate, visit: Visit, room: str, source: str, target: str, made: list[str], deep: int) -> None:
     make_folder(visit, target)
     made.append(target)
     names = [it for it in visit.children(source) if not is_hidden(it)] if deep else []
@@ -150,40 +165,66 @@ def copy_folder(gate, visit: Visit, source: str, target: str, made: list[str], d
     for name in names:
         its = thing_at(visit, below(source, name))
         if its.is_folder:
-            copy_folder(gate, visit, its.path, below(target, name), made, deep - 1)
+            copy_folder(gate, visit, room, its.path, below(target, name), made, deep - 1)
         else:
-            copy_file(gate, visit, its, below(target, name), True)
+            copy_file(gate, visit, room, its, below(target, name), True)
             made.append(below(target, name))
 
 
 # What is in the way
 
 @contextlib.contextmanager
-def out_of_the_way(visit: Visit, path: str):
+def out_of_the_way(gate, visit: Visit, room: str, path: str):
     """What is at a path has another name while something takes its place, and goes once that is there."""
-    bin_ = trash.trash_of(visit)
-    is_kept = bin_ and path != trash.TOP and not is_below(path, trash.TOP)
-    aside = below(bin_, trash.put_in_trash(visit, path, bin_)) if is_kept else set_aside(visit, path)
-    with put_back(visit, aside, path):
+    bin_ = None if is_short_lived(path) else trash.trash_of(visit)
+    if bin_ and path != trash.TOP and not is_below(path, trash.TOP):
+        with Noted(gate, visit, room) as noted:
+            trash.put_in_trash(noted, path, bin_)
+            yield
+        return
+    with set_aside(gate, visit, room, path) as aside:
         yield
-    if not is_kept:
         trash.remove(visit, aside, True)
 
 
-def set_aside(visit: Visit, path: str) -> str:
-    """The name, in the same folder, that what was there has from now on."""
-    name = last(path).encode()[:40].decode(errors="ignore")
-    aside = below(above(path), f"{name}~{secrets.token_hex(8)}")
-    visit.rename(path, aside)
-    return aside
-
-
 @contextlib.contextmanager
-def put_back(visit: Visit, aside: str, path: str):
-    """Where something is refused, what was set aside has its name back."""
-    try:
-        yield
-    except BaseException:
-        with contextlib.suppress(Fault):  # (else it stays under the other name)
-            visit.rename(aside, path)
-        raise
+def set_aside(gate, visit: Visit, room: str, path: str):
+    """The name, in the same folder, that what was there has meanwhile."""
+    aside = beside(path)
+    with Noted(gate, visit, room) as noted:
+        noted.rename(path, aside)
+        yield aside
+
+
+class Noted:
+    """Renames so that it is known what to put back, where what comes behind it is refused or stopped."""
+
+    def __init__(self, gate, visit: Visit, room: str):
+        self.steps, self.visit, self.room, self.step = gate.steps, visit, room, None
+
+    def __enter__(self) -> "Noted":
+        return self
+
+    def rename(self, path: str, to: str) -> dict:
+        if self.step:  # (that name was taken)
+            self.steps.end(self.step)
+        self.step = self.steps.begin(Step("back", self.room, self.visit.settings.user, path, to))
+        self.is_done = False
+        reply = self.visit.rename(path, to)
+        self.is_done = True
+        return reply
+
+    def __exit__(self, kind, fault, _) -> None:
+        """Where something is refused, what was set aside has its name back: or at a later request, where even that has
+        no answer."""
+        if self.step is None:
+            return
+        if fault is not None and (self.is_done or not is_sure(fault)):
+            try:
+                self.visit.rename(self.step.aside, self.step.path)
+            except Refused as why:
+                if not is_sure(why):
+                    return self.steps.leave(self.step)
+            except Fault:
+                return self.steps.leave(self.step)
+        self.steps.end(self.step)

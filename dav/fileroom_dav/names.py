@@ -1,5 +1,6 @@
 """Paths: of a URL, and of a room. What a request names is looked at here before anybody is asked."""
 import re
+import secrets
 from unicodedata import normalize
 from urllib.parse import quote, unquote_to_bytes, urlsplit
 
@@ -15,8 +16,12 @@ MOST_NAMES, MOST_BYTES = 16, 64
 # What Finder and Explorer lay beside each file, and nobody looks at.
 PASSING = re.compile(r"\._.*|\.DS_Store|\.Spotlight-V100|\.TemporaryItems|\.Trashes|\.fseventsd|\.hidden|"
                      r"\.metadata_never_index.*|desktop\.ini|Thumbs\.db", re.DOTALL | re.IGNORECASE)
-# What office programs lay beside a document while it is open: it goes for good, and not to the trash.
-SHORT_LIVED = re.compile(r"\.~lock\..*#|~\$.*|.*\.tmp|~WRL.*|\.~.*|.*~", re.DOTALL | re.IGNORECASE)
+# What programs lay beside a document while it is open, or is saved: it goes for good, and not to the trash.
+SHORT_LIVED = re.compile(r"\.~lock\..*#|~\$.*|.*\.tmp|~WRL.*|\.~.*|.*~|\..*\.sw[a-z]|4913|\.goutputstream-.*|#.*#",
+                         re.DOTALL | re.IGNORECASE)
+TELLS_OTHERS = re.compile(r"\.~lock\..*#|~\$.*", re.DOTALL | re.IGNORECASE)  # who has a document open
+EXCEL = re.compile("(?=.*[A-F])[0-9A-F]{8}")  # a name that Excel gives a new version
+BACKUPS = (".bak", ".old", ".orig")
 
 
 def split_target(raw: bytes) -> tuple[str | None, str]:
@@ -68,6 +73,12 @@ def below(path: str, name: str) -> str:
     return f"{path.rstrip('/')}/{name}"
 
 
+def beside(path: str) -> str:
+    """A name that nothing has, in the same folder, for a while."""
+    name = last(path).encode()[:40].decode(errors="ignore")
+    return below(above(path), f"{name}~{secrets.token_hex(8)}")
+
+
 def is_below(path: str, top: str) -> bool:
     return path != top and (top == "/" or path.startswith(top + "/"))
 
@@ -103,3 +114,16 @@ def is_passing(path: str) -> bool:
 
 def is_short_lived(path: str) -> bool:
     return SHORT_LIVED.fullmatch(last(path)) is not None
+
+
+def is_temporary(path: str) -> bool:
+    """Whether a program puts a new version under such a name, before that takes the document's."""
+    name = last(path)
+    return EXCEL.fullmatch(name) is not None or is_short_lived(path) and not TELLS_OTHERS.fullmatch(name)
+
+
+def is_backup(path: str, source: str, is_fresh: bool = False) -> bool:
+    """Whether it is a name that a program gives to what has been at `source`. (One that has only letters in common with
+    the name of what was made a moment ago may be the document that this is to be a version of.)"""
+    return (is_short_lived(path) or last(path).lower().endswith(BACKUPS)
+            or not is_fresh and last(source) in last(path))

@@ -8,7 +8,7 @@ from .asked import Asked, Reply
 from .bodies import DAV
 from .faults import Answered
 from .locks import Lock
-from .names import href, is_below
+from .names import href
 from .rules import Rules, may_write
 from .tree import Thing, listed, thing_at
 from .visit import Visit
@@ -53,14 +53,27 @@ def properties(its: Thing, locks: str, time: int | None) -> dict[str, str]:
     return found
 
 
-def told_of(wanted: list[str] | str, found: dict[str, str]) -> str:
-    if wanted == "allprop":
-        return bodies.propstat(200, "".join(bodies.element(it, found[it]) for it in found))
-    if wanted == "propname":
-        return bodies.propstat(200, "".join(map(bodies.element, found)))
-    has = "".join(bodies.element(it, found[it]) for it in dict.fromkeys(wanted) if it in found)
-    lacks = "".join(bodies.element(it) for it in dict.fromkeys(wanted) if it not in found)
-    return (bodies.propstat(200, has) if has or not lacks else "") + (bodies.propstat(404, lacks) if lacks else "")
+class Wanted:
+    """What is asked of each thing in a folder. What things of a kind lack is one text, which is made once."""
+
+    def __init__(self, names: list[str] | str):
+        self.names = names if isinstance(names, str) else list(dict.fromkeys(names))
+        self.lacks: dict[frozenset[str], str] = {}
+
+    def told_of(self, found: dict[str, str]) -> str:
+        if self.names == "allprop":
+            return bodies.propstat(200, "".join(bodies.element(it, found[it]) for it in found))
+        if self.names == "propname":
+            return bodies.propstat(200, "".join(map(bodies.element, found)))
+        has, lacks = "".join(bodies.element(it, found[it]) for it in self.names if it in found), self.lacking(found)
+        return (bodies.propstat(200, has) if has or not lacks else "") + lacks
+
+    def lacking(self, found: dict[str, str]) -> str:
+        kind = frozenset(found)
+        if kind not in self.lacks:
+            lacks = "".join(bodies.element(it) for it in self.names if it not in found)
+            self.lacks[kind] = bodies.propstat(404, lacks) if lacks else ""
+        return self.lacks[kind]
 
 
 def propfind(gate, visit: Visit, asked: Asked) -> Reply:
@@ -75,20 +88,21 @@ def propfind(gate, visit: Visit, asked: Asked) -> Reply:
         top, inside = thing_at(visit, asked.path, is_shown=True), []
     things = [top, *inside]
     times = gate.seen.times(asked.room, {it.path: it.sum for it in things if it.sum}) if wants_sums else {}
-    locks = told_locks(gate, visit, asked, things)
-    told = []
-    for it in things:
+    locks, wanted = told_locks(gate, visit, asked, things), Wanted(wanted)
+
+    def told(it: Thing) -> str:
         held = "".join(active(lock, lock.user == asked.user) for lock in locks if lock.covers(it.path))
-        found = properties(it, held, times.get(it.path))
-        told.append(bodies.response(href(asked.room, it.path, it.is_folder), told_of(wanted, found)))
-    return Reply(207, bodies.multistatus(told), [XML])
+        inside = wanted.told_of(properties(it, held, times.get(it.path)))
+        return bodies.response(href(asked.room, it.path, it.is_folder), inside)
+    with visit.pace.places:  # (it computes as the requests to rooms do)
+        return Reply(207, bodies.multistatus(map(told, things)), [XML])
 
 
 def told_locks(gate, visit: Visit, asked: Asked, things: list[Thing]) -> list[Lock]:
     """The caller's own locks of what is shown, and then others', where the caller may write what is locked (or is shown
     of it): some of those that a path has."""
     top, paths = things[0].path, {it.path for it in things}
-    locks = [it for it in gate.locks.of(asked.room) if it.path in paths or it.is_deep and is_below(top, it.path)]
+    locks = gate.locks.at(asked.room, top) + [it for path in paths - {top} for it in gate.locks.on(asked.room, path)]
     places = list({it.path if it.path in paths else top for it in locks if it.user != asked.user})
     allowed = dict(zip(places, may_write(visit, places)))
     found, counts = [], Counter()

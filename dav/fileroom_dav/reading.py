@@ -5,6 +5,7 @@ from email.utils import formatdate
 from .asked import Asked, Reply
 from .faults import Answered
 from .rules import Rules
+from .spool import part
 from .tree import Thing, bytes_of, thing_at
 from .visit import Visit
 
@@ -18,23 +19,24 @@ def get(gate, visit: Visit, asked: Asked) -> Reply:
     rules = Rules(visit, asked, gate.locks)
     rules.known(its)
     rules.need()
-    with gate.for_size(its.size):
-        return given(gate, visit, asked, its)
+    return given(gate, visit, asked, its)
 
 
 def given(gate, visit: Visit, asked: Asked, its: Thing) -> Reply:
     is_head, before = asked.method == "HEAD", asked.field("If-None-Match")
     is_known = before is not None and (before.strip() == "*" or its.etag in before)
     if not is_head and not is_known:
-        bytes_of(visit, its)  # (of a large file, whose version may be another by now)
+        bytes_of(visit, its, lambda it: range_of(asked, it))  # (of a large file the version may be another by now)
     fields = fields_of(gate, asked, its)
     if is_known:
         return Reply(304, b"", fields)
-    part = None if is_head else range_of(asked, its)
-    if part:
-        fields.append(("Content-Range", f"bytes {part[0]}-{part[1]}/{its.size}"))
-        return Reply(206, its.data[part[0]:part[1] + 1], fields)
-    return Reply(200, b"", [*fields, ("Content-Length", str(its.size))]) if is_head else Reply(200, its.data, fields)
+    if is_head:
+        return Reply(200, b"", [*fields, ("Content-Length", str(its.size))])
+    wanted = range_of(asked, its)
+    if wanted is None:
+        return Reply(200, part(its.data, 0, its.size), fields)
+    fields.append(("Content-Range", f"bytes {wanted[0]}-{wanted[1]}/{its.size}"))
+    return Reply(206, part(its.data, wanted[0], wanted[1] + 1 - wanted[0]), fields)
 
 
 def fields_of(gate, asked: Asked, its: Thing) -> list[tuple[str, str]]:

@@ -12,6 +12,8 @@ from .tree import Thing, spelled, thing_at
 from .visit import Visit
 
 WRITE = 0x2  # on a folder: to add a document
+CHANGE = WRITE | 0x4 | 0x10000  # any of these lets change what is there, or remove it
+CHANGE_ABOVE = WRITE | 0x4 | 0x40  # and any of these, on the folder above
 ALL_BELOW = WRITE | 0x4 | 0x40  # on a folder: to add what one likes, and to take away what is in it
 TAGS = re.compile(r'(?:W/)?"[^"]*"')
 
@@ -78,9 +80,8 @@ class Rules:
     def _is_so(self, path: str, it: Condition) -> bool:
         if it.kind == "etag":
             return bool(self.tag(path)) and self.tag(path) == it.value.removeprefix("W/")
-        held = [lock for lock in self.locks.of(self.asked.room)
-                if lock.token == it.value and lock.user == self.asked.user]
-        return any(lock.covers(self.place(path)) for lock in held)
+        lock = self.locks.named(self.asked.room, it.value, self.asked.user)
+        return lock is not None and lock.covers(self.place(path))
 
     def place(self, path: str) -> str:
         if path not in self.places:
@@ -88,19 +89,24 @@ class Rules:
         return self.places[path]
 
     def need_free(self, path: str, *, is_deep: bool = False, is_member: bool = False) -> None:
-        """That no lock keeps the caller from changing what is there. Whoever may not change it anyway is told what the
-        room says, and not that it is locked."""
+        """That no lock keeps the caller from changing what is there. Whoever may not change it anyway is told of none:
+        the room refuses what is asked of it next, in its own words."""
         lock = self.locks.foreign(self.asked.room, path, self.asked.user, self.tokens, is_deep=is_deep,
                                   is_member=is_member)
-        if lock is None:
-            return
-        self.need_right(path)
-        raise self.held(path, lock, "lock-token-submitted")
+        if lock is not None and self.may_change(path):
+            raise self.held(path, lock, "lock-token-submitted")
+
+    def may_change(self, path: str) -> bool:
+        masks = {path: CHANGE, above(path): CHANGE_ABOVE}
+        replies = self.visit.ask_all({"cmd": "ACCESS", "keep": False, "mask": mask, "path": it}
+                                     for it, mask in masks.items())
+        return any(it.get("allowed") for it in replies)
 
     def held(self, path: str, lock: Lock, condition: str) -> Answered:
-        """What is locked, and by whom; of what is below a path, for who may write that."""
-        if is_below(lock.path, path) and not may_write(self.visit, [lock.path])[0]:
-            return Answered(423, f"something in {path} is locked by somebody else")
+        """What is locked, and by whom, for who may write that."""
+        if not may_write(self.visit, [lock.path])[0]:
+            what = f"something in {path}" if is_below(lock.path, path) else path
+            return Answered(423, f"{what} is locked by somebody else")
         return Answered(423, f"{lock.path} is locked by {lock.user}", condition, href(lock.room, lock.path, False))
 
     def need_right(self, path: str, wanted: int = WRITE) -> bool:

@@ -1,61 +1,42 @@
 """Who visits a room at once: each user has some seats in it, each a session of its own, kept in a file."""
 import os
 import threading
-import time
 
 from room_client import Settings
 from room_client.faults import Fault, SessionLost
 
 from .faults import Busy, as_answered
-from .visit import RATE, Pace, Visit, file_of_front
+from .turns import MOST_AT_WORK, TOO_MANY
+from .visit import UserPace, Visit, file_of_front
 
-SEATS = 4  # of a user in a room: so many of their requests are under way at once, others wait
-MOST_WAITING = 12  # of a user's requests; with their seats as many as a front lets through at once
-LONGEST_WAIT = 60.0  # seconds for a seat
+SEATS = MOST_AT_WORK  # of a user in a room
 MOST_PACES = 2000
-TOO_MANY = "too many of your requests are under way"
 
 
 class Seats:
     def __init__(self, front: str, folder: str, patience: float):
         self.front, self.folder, self.patience = front, folder, patience
         self.taken: set[tuple[str, str, int]] = set()
-        self.waiting: dict[str, int] = {}
-        self.paces: dict[str, Pace] = {}
-        self.free = threading.Condition()
+        self.paces: dict[str, UserPace] = {}
+        self.mutex = threading.Lock()
 
     def take(self, room: str, user: str) -> int:
-        with self.free:
-            if self.waiting.get(user, 0) >= MOST_WAITING:
-                raise Busy(TOO_MANY)
-            self.waiting[user] = self.waiting.get(user, 0) + 1
-            try:
-                return self._take(room, user)
-            finally:
-                self.waiting[user] -= 1
-                if not self.waiting[user]:
-                    del self.waiting[user]
-
-    def _take(self, room: str, user: str) -> int:
-        end = time.monotonic() + LONGEST_WAIT
-        while True:
+        with self.mutex:
             number = next((it for it in range(SEATS) if (room, user, it) not in self.taken), None)
-            if number is not None:
-                self.taken.add((room, user, number))
-                return number
-            if not self.free.wait(end - time.monotonic()):
+            if number is None:
                 raise Busy(TOO_MANY)
+            self.taken.add((room, user, number))
+            return number
 
     def leave(self, room: str, user: str, number: int) -> None:
-        with self.free:
+        with self.mutex:
             self.taken.discard((room, user, number))
-            self.free.notify_all()
 
-    def pace(self, user: str) -> Pace:
-        with self.free:
+    def pace(self, user: str) -> UserPace:
+        with self.mutex:
             if user not in self.paces and len(self.paces) >= MOST_PACES:
                 self.paces.clear()
-            return self.paces.setdefault(user, Pace(is_free=False, rate=RATE))
+            return self.paces.setdefault(user, UserPace())
 
     def visits(self, room: str, user: str, password: str, does):
         """What `does` makes of a visit. Where the room does not know the session, because it was made anew, another one

@@ -2,20 +2,22 @@
 import base64
 import contextlib
 import hashlib
+import mmap
+from collections.abc import Callable
 from dataclasses import dataclass
 
 from room_client import files
 from room_client.faults import Refused
-from room_client.manifest import Manifest, NAME, is_hidden, is_large
+from room_client.manifest import Manifest, NAME, PIECE, is_hidden, is_large
 from room_client.manifest import read_manifest
 from room_client.words import FOLDER
 
-from .faults import Answered, is_refused, not_there
+from .faults import Answered, NotThere, is_refused
 from .memory import Memory, Told
 from .names import below, composed, is_passing, is_possible
+from .spool import filled
 from .visit import Visit
 
-AT_ONCE = 32  # documents that are read for a listing: each has up to 64 KiB
 DIGITS = 32  # of a sum
 
 
@@ -28,7 +30,7 @@ class Thing:
     size: int | None = None
     sum: str | None = None
     large: Manifest | None = None
-    data: bytes | None = None
+    data: bytes | mmap.mmap | None = None
 
     @property
     def etag(self) -> str | None:
@@ -69,7 +71,7 @@ def standing(visit: Visit, path: str) -> str:
     """How what is at a path is spelled in the room, if it is there."""
     found = spelled(visit, path)
     if not is_possible(found):
-        raise not_there(path)
+        raise NotThere(path)
     return found
 
 
@@ -80,7 +82,7 @@ def found_at(visit: Visit, path: str, look):
     except Refused as fault:
         if not is_refused(fault, "NOENT", "NOTDIR"):
             raise
-    raise not_there(path)
+    raise NotThere(path)
 
 
 def thing_at(visit: Visit, path: str, *, is_shown: bool = False) -> Thing:
@@ -115,12 +117,25 @@ def is_folder(visit: Visit, path: str) -> bool:
     return not (is_large(names) and files.manifest_in(visit, path))
 
 
-def bytes_of(visit: Visit, its: Thing) -> bytes:
-    """All bytes of one version. (That may be another than was looked at: its sum is then, too.)"""
+def bytes_of(visit: Visit, its: Thing, wanted: Callable[[Thing], tuple[int, int] | None] = lambda _: None):
+    """All bytes of one version, or of a large file the pieces from the first to the last byte that is `wanted`. (That
+    may be another version than was looked at: its size and sum are then, too.)"""
     if its.data is None:
-        its.data = files.read(visit, its.path)
-        its.size, its.sum = len(its.data), sum_of(its.data)
+        def gathers(found: Manifest) -> bytes | mmap.mmap | None:
+            its.size, its.sum, its.large = found.size, found.sha256[:DIGITS], found
+            first, last = wanted(its) or (0, max(found.size - 1, 0))
+            return pieces_of(visit, its.path, found, range(first // PIECE, last // PIECE + 1))
+        its.data = files.of_version(visit, its.path, its.large.text(), gathers)
     return its.data
+
+
+def pieces_of(visit: Visit, path: str, its: Manifest, numbers: range) -> bytes | mmap.mmap | None:
+    """A large file's bytes in their places, as far as they are in these pieces. Where that is not all, nothing tells
+    whether they are of one version but that they lie in its folder."""
+    data = filled(its.size, lambda put: files.fetch(
+        visit, path, its, numbers, lambda number, piece: put(PIECE * number, piece)))
+    is_all = len(numbers) >= len(its.pieces)
+    return data if data is not None and (not is_all or its.is_of(data)) else None
 
 
 # Listings
@@ -168,15 +183,13 @@ def thing_of(path: str, told: Told) -> Thing:
 
 def ask_of(visit: Visit, path: str, names: dict[str, str], wants_sums: bool) -> dict[str, Told]:
     """What the room tells of names in a folder: a request for each, and two for those that may be large files."""
-    told: dict[str, Told] = {}
     wanted = list(names)
-    for at in range(0, len(wanted), AT_ONCE):
-        some = wanted[at:at + AT_ONCE]
-        cmds = ["READ" if names[it] == FOLDER or wants_sums else "STAT" for it in some]
-        commands = [{"cmd": cmd, "keep": False, "path": below(path, it) + (f"/{NAME}" if names[it] == FOLDER else "")}
-                    for cmd, it in zip(cmds, some)]
-        for name, reply in zip(some, visit.ask_all(commands)):
-            told[name] = told_by(names[name], reply, wants_sums)
+    cmds = ["READ" if names[it] == FOLDER or wants_sums else "STAT" for it in wanted]
+    commands = [{"cmd": cmd, "keep": False, "path": below(path, it) + (f"/{NAME}" if names[it] == FOLDER else "")}
+                for cmd, it in zip(cmds, wanted)]
+    # (of up to 64 KiB each that are read, only the sums are kept)
+    told = dict(zip(wanted, visit.ask_all(
+        commands, keeps=lambda at, reply: told_by(names[wanted[at]], reply, wants_sums))))
     unread = [it for it in wanted if told[it].kind != FOLDER and told[it].size is None]
     sizes = visit.ask_all({"cmd": "STAT", "keep": False, "path": below(path, it)} for it in unread)
     for name, reply in zip(unread, sizes):

@@ -12,18 +12,20 @@ import http.client
 import json
 import os
 import socket
+import threading
 from dataclasses import replace
 
 from room_client import Room, Settings
-from room_client.faults import Fault, LocalFault
+from room_client.faults import Fault, LocalFault, SessionLost
 from room_client.line import Answer, Line, reply_of
-from room_client.room import CHANGES
+from room_client.room import CHANGES, counted
 from room_client.slots import Pace, Slot
 from room_client.state import Session, State
 
 RATE = 240.0  # requests a second of one user, below what the front's socket takes of one (front/dav-http.conf)
 PAGE = 4096
 WIDTH = 4  # slots of a session: with four sessions of a user that is what a front takes of one at once
+AT_ONCE = 2  # requests to rooms of one user, over all sessions: computing takes turns, and others wait for few of them
 BOOT = "/proc/sys/kernel/random/boot_id"
 
 
@@ -113,10 +115,22 @@ class KeptState(State):
             file.write(boot_id())
 
 
+class UserPace(Pace):
+    """What all requests to rooms of one user share: how many go out a second, and how many are under way."""
+
+    def __init__(self):
+        super().__init__(is_free=False, rate=RATE)
+        self.places = threading.BoundedSemaphore(AT_ONCE)
+
+
 class Seat(Slot):
     """A slot that tells its visit what the front answered in the room's place."""
 
     front_status = 0
+
+    def _attempt(self, *how):
+        with self.pace.places:
+            return super()._attempt(*how)
 
     def need_done(self, answer, command=None):
         if answer.reply is None:
@@ -125,11 +139,11 @@ class Seat(Slot):
 
 
 class Visit(Room):
-    """A room during one request of WebDAV. `has_changed` says whether a change was done by it."""
+    """A room during one request of WebDAV. `has_changed` says whether a change was done by it, or may have been."""
 
     slot_kind, state_kind = Seat, KeptState
 
-    def __init__(self, settings: Settings, front: str, pace: Pace):
+    def __init__(self, settings: Settings, front: str, pace: UserPace):
         super().__init__(settings, self._heard)
         self.line_kind, self.pace = line_to(front), pace
         self.has_changed, self.told = False, []
@@ -165,14 +179,19 @@ class Visit(Room):
         self.state.begin_anew()
 
     def ask(self, command: dict, is_step: bool = False) -> dict:
-        reply = super().ask(command, is_step)
-        self.has_changed |= command["cmd"] in CHANGES
+        is_change = command["cmd"] in CHANGES
+        try:
+            reply = super().ask(command, is_step)
+        except SessionLost:
+            self.has_changed |= is_change and self.slot().may_be_sent  # (no answer came before: it may have acted)
+            raise
+        self.has_changed |= is_change
         return reply
 
-    def ask_all(self, commands, heard=lambda _: None) -> list[dict]:
-        commands = list(commands)
+    def ask_all(self, commands, *how, **more) -> list:
+        commands = counted(commands)
         try:
-            return super().ask_all(commands, heard)
+            return super().ask_all(commands, *how, **more)
         finally:
             self.has_changed |= any(it["cmd"] in CHANGES for it in commands)
 
@@ -191,10 +210,10 @@ class Visit(Room):
         return self.ask({"cmd": "ACCESS", "keep": False, "mask": mask, "path": path})["allowed"]
 
 
-def file_of_front(front: str, settings: Settings, pace: Pace, target: str) -> tuple[int, bytes]:
+def file_of_front(front: str, settings: Settings, pace: UserPace, target: str) -> tuple[int, bytes]:
     """What the front answers to a caller's own login, beside the rooms: asked until it answers, as a room is."""
     line = line_to(front)(settings)
     try:
-        return Slot(0, line, settings, None, pace, lambda _: None).until_answered("GET", target, "").status, line.text
+        return Seat(0, line, settings, None, pace, lambda _: None).until_answered("GET", target, "").status, line.text
     finally:
         line.close()

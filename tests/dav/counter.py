@@ -6,6 +6,7 @@ import random
 import re
 import socket
 import subprocess
+import sys
 import tempfile
 import threading
 import time
@@ -20,7 +21,9 @@ from served import HERE, WAIT, Room as Served, end_with_parent, started_here
 
 GATEWAY = os.path.join(HERE, "..", "dav", "fileroom-dav")
 PYTHON = "/usr/bin/python3"  # (Debian's, which has Debian's packages)
+sys.path += [os.path.dirname(GATEWAY), "/usr/lib/python3/dist-packages"]  # (the gateway's parts, for tests of those)
 PAGE = os.path.join(HERE, "..", "page")
+UNIT = os.path.join(HERE, "..", "service", "dav", "fileroom-dav.service")
 ROSTER = '[users]\nann = ["eng"]\nbob = ["eng", "staff"]\ncat = []\n'
 PASSWORDS = {it: f"{it}-word" for it in ("ann", "bob", "cat")}
 HERS = {"flag": 3, "mask": 0x1F07FF, "type": 0, "who": "OWNER@"}
@@ -45,6 +48,9 @@ class Counter(unittest.TestCase):
 
     is_lossy = False
     patience = "60"
+    roster = None  # another than ROSTER
+    others = ()  # more rooms, of the same users
+    log = None  # the name of a file that has what the gateway says
     host = ""  # whose front and gateway it is
 
     @classmethod
@@ -52,8 +58,11 @@ class Counter(unittest.TestCase):
         held = tempfile.TemporaryDirectory(prefix="fileroom-")
         cls.folder = held.name
         cls.addClassCleanup(held.cleanup)
-        cls.served = Served(cls.folder, ROSTER).start()
+        cls.served = Served(cls.folder, cls.roster or ROSTER).start()
         cls.addClassCleanup(cls.served.kill)
+        cls.beside = {it: Served(cls.path(it), cls.roster or ROSTER).start() for it in cls.others}
+        for it in cls.beside.values():
+            cls.addClassCleanup(it.kill)
         cls.start_front()
         cls.addClassCleanup(lambda: stop(cls.front.server))
         cls.loser = None
@@ -71,7 +80,8 @@ class Counter(unittest.TestCase):
     @classmethod
     def start_front(cls):
         front = cls.path(f"front{cls.host}")
-        cls.front = Front(front, PASSWORDS, {"plans": cls.served.port}, PAGE, dav=cls.path("gate.sock"), opens="600r/m")
+        rooms = {"plans": cls.served.port} | {name: it.port for name, it in cls.beside.items()}
+        cls.front = Front(front, PASSWORDS, rooms, PAGE, dav=cls.path("gate.sock"), opens="600r/m")
         cls.at_front = os.path.join(front, "work", "dav.sock")
 
     @classmethod
@@ -80,8 +90,11 @@ class Counter(unittest.TestCase):
             os.remove(cls.path("gate.sock"))
         to = cls.path("lossy.sock") if cls.is_lossy else cls.at_front
         words = [PYTHON, "-B", GATEWAY, to, cls.path(f"state{cls.host}"), cls.path("gate.sock")]
-        env = {**os.environ, "PATIENCE": cls.patience}
-        cls.gateway = subprocess.Popen(words, preexec_fn=end_with_parent, env=env)
+        with open(UNIT) as file:
+            its = dict(re.findall("^Environment=([A-Z_]+)=([0-9]+)$", file.read(), re.MULTILINE))
+        env = {**os.environ, **its, "PATIENCE": cls.patience}
+        with open(cls.path(cls.log), "a") if cls.log else contextlib.nullcontext() as log:
+            cls.gateway = subprocess.Popen(words, preexec_fn=end_with_parent, env=env, stderr=log)
         started_here.append(cls.gateway)
         wait_for_socket(cls.path("gate.sock"), cls.gateway)
 

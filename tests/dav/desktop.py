@@ -1,6 +1,7 @@
 """Programs of a desktop: gio of GNOME, davfs2 (as root, where there is /dev/fuse), LibreOffice. By hand, not a part of
 `make test`: `tests/dav/run desktop`. They take dbus, gvfs-backends, davfs2, libreoffice-writer-nogui and python3-uno.
 """
+import contextlib
 import os
 import shutil
 import subprocess
@@ -40,7 +41,13 @@ cat d/note
 mv d e
 ls e | tr '\\n' ' '
 """
-DAVFS_CONF = "ask_auth 0\nbuf_size 64\ndelay_upload 0\ngui_optimize 0\nuse_locks 1\nsecrets {0}/secrets\n"
+DAVFS_CONF = "ask_auth 0\nbuf_size 64\ngui_optimize 0\nuse_locks 1\nsecrets {0}/secrets\n"
+AT_ONCE = "delay_upload 0\n"
+VIM = """set -e
+vim -es -u NONE -N -c 'set writebackup backupcopy=no backupskip=' -c "$3" -c 's/old/new/' -c wq "$4"
+sync
+ls -A | tr '\\n' ' '
+"""
 OFFICE = """
 import sys, time, uno, unohelper
 from com.sun.star.beans import PropertyValue
@@ -113,26 +120,95 @@ class Gio(Desktop):
 
 
 class Davfs(Desktop):
-    def test_davfs(self):
+    @contextlib.contextmanager
+    def mounted(self, conf=DAVFS_CONF + AT_ONCE):
         need("mount.davfs", "/dev/fuse")
         if os.geteuid() != 0:
             raise unittest.SkipTest("it takes root")
         place = self.path("mounted")
-        os.mkdir(place)
-        for name, text in (("conf", DAVFS_CONF.format(self.folder)),
+        os.makedirs(place, exist_ok=True)
+        for name, text in (("conf", conf.format(self.folder)),
                            ("secrets", f"{place} ann {PASSWORDS['ann']}\n")):
             with open(os.open(self.path(name), os.O_WRONLY | os.O_CREAT, 0o600), "w") as file:
                 file.write(text)
         subprocess.run(["mount", "-t", "davfs", "-o", f"conf={self.path('conf')}", self.url(), place], check=True,
                        timeout=120)
         try:
-            told = self.does_all(DAVFS, cwd=place)
+            yield place
         finally:
             subprocess.run(["umount", place], check=True, timeout=300)
+
+    def test_davfs(self):
+        with self.mounted() as place:
+            told = self.does_all(DAVFS, cwd=place)
         self.assertEqual(told, "three\ntwo\nmoved note ")
         self.assertEqual(self.does("ann", "GET", "/e/note", 200).body, b"three\ntwo\n")
         with open(self.path("large"), "rb") as file:
             self.assertEqual(self.does("ann", "GET", "/e/moved", 200).body, file.read())
+
+    def test_many(self):
+        """300 files are copied with davfs2 as it comes, which locks each one that is not sent yet."""
+        with self.mounted(DAVFS_CONF) as place:
+            for folder in "one", "two":
+                os.mkdir(os.path.join(place, folder))
+                for it in range(150):
+                    with open(os.path.join(place, folder, str(it)), "w") as file:
+                        file.write(f"{it}\n")
+        for folder in "one", "two":
+            self.assertEqual(len(self.names("ann", f"/{folder}")), 151)
+            self.assertEqual(self.does("ann", "GET", f"/{folder}/149", 200).body, b"149\n")
+
+    def test_vim(self):
+        """It moves the document aside and writes another, which keeps the list of the first."""
+        need("vim")
+        with self.room("ann") as room:
+            make_folders(room, vim=[ANNS, BOB_WRITES])
+        for size in 16, 200_000:
+            old = b"old " * (size // 4)
+            self.does("ann", "PUT", f"/vim/{size}", 201, old)
+            with self.room("ann") as room:
+                flag = 3 if size > 65536 else 0
+                room.set_list(f"/vim/{size}", 1, [{"flag": flag, "mask": 0x1, "type": 1, "who": "bob"}])
+                before = room.get_list(f"/vim/{size}")
+            with self.mounted() as place:
+                for at, kept in enumerate(("set nobackup", "set backup", "set backup")):
+                    told = subprocess.run(["bash", "-c", VIM, "bash", "", "", kept, str(size)], timeout=300, check=True,
+                                          cwd=os.path.join(place, "vim"), capture_output=True, text=True).stdout
+                    self.assertEqual(str(size) + "~" in told, at > 0)
+            self.does("bob", "GET", f"/vim/{size}", 403)
+            with self.room("ann") as room:
+                self.assertEqual(room.get_list(f"/vim/{size}"), before)
+            got = self.does("ann", "GET", f"/vim/{size}", 200).body
+            self.assertEqual(got.replace(b"new", b"old").rstrip(b"\n"), old)
+            self.assertEqual(got.count(b"new"), 3)
+
+    def test_office(self):
+        """LibreOffice saves to a mounted folder by a temporary file, or by writing over it: the list stays."""
+        need("soffice", "/usr/lib/python3/dist-packages/uno.py")
+        with self.room("ann") as room:
+            make_folders(room, office=[ANNS, BOB_WRITES])
+        words = ["soffice", "--headless", "--norestore", f"-env:UserInstallation=file://{self.folder}/office"]
+        with self.mounted() as place:
+            office = subprocess.Popen([*words, "--accept=pipe,name=fileroom;urp"],
+                                      env={**os.environ, "HOME": self.folder})
+            try:
+                user = subprocess.Popen([PYTHON, "-c", OFFICE, f"file://{place}/office/letter.odt", "", ""], text=True,
+                                        stdin=subprocess.PIPE, stdout=subprocess.PIPE)
+                self.assertEqual(user.stdout.readline(), "open\n")
+                subprocess.run(["sync"], check=True)
+                with self.room("ann") as room:
+                    room.set_list("/office/letter.odt", 1, [{"flag": 0, "mask": 0x1, "type": 1, "who": "bob"}])
+                    before, first = room.get_list("/office/letter.odt"), room.read("/office/letter.odt")
+                told, _ = user.communicate("\n", timeout=300)
+            finally:
+                office.terminate()
+                office.wait(60)
+        self.assertEqual(told, "first version, second version\n")
+        with self.room("ann") as room:
+            self.assertEqual(room.get_list("/office/letter.odt"), before)
+            self.assertNotEqual(room.read("/office/letter.odt"), first)
+            self.assertEqual(room.children("/office"), {"letter.odt": "file"})
+        self.does("bob", "GET", "/office/letter.odt", 403)
 
 
 class Office(Desktop):

@@ -4,19 +4,16 @@ import io
 import json
 import os
 import socket
-import sys
 import tempfile
 import threading
 import types
 import unittest
 from urllib.parse import quote
 
-from counter import BOB_READS, BOB_WRITES, GATEWAY, HERS, PASSWORDS, Counter, make_folders
+from counter import BOB_READS, BOB_WRITES, HERS, PASSWORDS, Counter, make_folders
+from fileroom_dav import app, bodies, faults, locks, memory, passing, props, seats, seen, tree, visit
 from nginx import hashed, login
 from test_refusals import EXCLUSIVE, tag_of
-
-sys.path += [os.path.dirname(GATEWAY), "/usr/lib/python3/dist-packages"]
-from fileroom_dav import app, bodies, faults, locks, memory, passing, props, seats, seen, tree, visit
 
 BOB_LISTS = {"flag": 0, "mask": 0x21, "type": 0, "who": "bob"}  # and is told nothing of what is inside
 BOB_ADDS = {"flag": 0, "mask": 0x1200A3, "type": 0, "who": "bob"}
@@ -236,28 +233,6 @@ class Alone(unittest.TestCase):
         return {"REQUEST_METHOD": method, "PATH_INFO": quote(path, safe="/"), "CONTENT_LENGTH": str(length),
                 "wsgi.input": body, "HTTP_AUTHORIZATION": login("ann", "word").partition(": ")[2], **fields}
 
-    def test_large_bodies_wait_for_their_turn(self):
-        """So many connections of 16 MiB as a front takes do not stand in the gateway's memory at once."""
-        gate, said = app.Gate("/none", self.folder), []
-        gate.seats = types.SimpleNamespace(visits=lambda room, user, word, does: does(None))
-
-        class Turn:
-            def __enter__(self):
-                said.append("turn")
-
-            def __exit__(self, *_):
-                said.append("over")
-
-        class Body(io.BytesIO):
-            def read(self, *how):
-                said.append("read")
-                raise faults.Answered(400, "enough")
-        gate.heavy, gate.need_login = Turn(), lambda *_: b""
-        for method in "PUT", "PROPFIND", "LOCK", "PROPPATCH", "MKCOL":
-            gate.answer(self.asked(method, "/dav/plans/x", app.MOST_BODY, Body()))
-        gate.answer(self.asked("PUT", "/dav/plans/._x", app.MOST_BODY, Body()))
-        self.assertIn(said, ([], ["turn", "read", "over"]))
-
     def test_a_listing_is_remembered_for_fifteen_seconds(self):
         """Also by who lists more often than that."""
         now, said = [0.0], []
@@ -269,9 +244,10 @@ class Alone(unittest.TestCase):
             def children(self, path):
                 return {"it": "file"}
 
-            def ask_all(self, commands):
+            def ask_all(self, commands, keeps=lambda _, reply: reply):
+                commands = list(commands)
                 said.extend((now[0], it["cmd"]) for it in commands)
-                return [{"code": 0, "data": "aGk="} for _ in said[:1]]
+                return [keeps(at, {"code": 0, "data": "aGk="}) for at, _ in enumerate(commands)]
         for now[0] in 0.0, 5.0, 10.0, 16.0, 20.0, 29.0, 32.0:
             tree.listed(Visit(), "/folder", True, its, "plans")
         self.assertEqual([it for it, cmd in said if cmd == "READ"], [0.0, 16.0, 32.0])
@@ -286,27 +262,6 @@ class Alone(unittest.TestCase):
         gate.need_login = lambda *_: b""
         for path in f"/dav/plans/{'n' * 65}/._x", f"/dav/plans/{'a/' * 16}._x":
             self.assertEqual(gate.answer(self.asked("PUT", path, 1, io.BytesIO(b"x"))).status, 403)
-
-    def test_others_get_a_turn(self):
-        """Of one user's requests as many wait as leave threads to others."""
-        its, said = seats.Seats("/none", self.folder, 1.0), []
-        for _ in range(seats.SEATS):
-            its.take("plans", "ann")
-
-        def wait():
-            try:
-                said.append(its.take("plans", "ann"))
-            except faults.Answered as fault:
-                said.append(fault.status)
-        waiting = [threading.Thread(target=wait, daemon=True) for _ in range(20)]
-        for it in waiting:
-            it.start()
-        for it in waiting:
-            it.join(1.0)
-            if said:
-                break
-        self.assertEqual(set(said), {503})
-        self.assertEqual(its.take("plans", "bob"), 0)
 
     def test_a_login_is_asked_for_again(self):
         """Where the front lets no more through for now."""
@@ -370,4 +325,4 @@ class Alone(unittest.TestCase):
         for text in "", "[{", json.dumps([{"token": "x"}]), "7":
             with open(os.path.join(self.folder, "locks"), "w") as file:
                 file.write(text)
-            self.assertEqual(locks.Locks(os.path.join(self.folder, "locks")).of("plans"), [])
+            self.assertEqual(locks.Locks(os.path.join(self.folder, "locks")).held, {})

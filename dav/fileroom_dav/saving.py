@@ -1,0 +1,365 @@
+"""How programs save by renames: the new bytes under a name of their own, the document aside, the new ones to its name,
+and what is aside removed. What has the name stays the document that had it, with its owner, group and list: so here it
+comes back to its name and takes the bytes, and those of before lie aside.
+
+Nobody is shown by it what the document's list denies them. Bytes that are to become a version lie, until they have a
+name, under a list for who put them alone (the veil); and those of before under no wider list than the document's.
+"""
+import contextlib
+from collections.abc import Callable
+
+from room_client import files
+from room_client.faults import Fault, NoAnswer, OtherVersion, Refused, SessionLost
+from room_client.manifest import NAME, Manifest, read_manifest
+from room_client.room import MOST_BYTES
+from room_client.words import ALL, FOLDER, GROUP, INHERITED, LIST_FLAGS, TO_FILES, TO_FOLDERS
+
+from .asked import Asked
+from .faults import Answered, NotThere, is_refused, is_sure, making
+from .names import above, below, beside, is_backup, is_temporary, last
+from .steps import Aside, Step, of_what, say
+from .tree import Thing, bytes_of, is_folder, is_there, thing_at
+from .visit import Visit
+
+FOLLOWS, PROTECTED = LIST_FLAGS["auto-inherit"], LIST_FLAGS["protected"]
+VEIL = PROTECTED | LIST_FLAGS["defaulted"]  # (nobody sets that by hand: what has it may have its folder's list again)
+MOST_ENTRIES = 32
+
+
+# What is put
+
+def put_in_place(gate, visit: Visit, room: str, path: str, data: bytes, is_new: bool = False) -> bool:
+    """Makes a file or a new version of it, also of what was moved aside from there. Whether nothing was there."""
+    found = awaited(gate, visit, room, path)
+    if found:
+        exchange(gate, visit, *found, data=data)
+        return True
+    if is_temporary(path):
+        need_own(visit, path)
+    is_made = put_bytes(visit, path, data, is_new)
+    if is_made:
+        gate.asides.made(room, visit.settings.user, path)
+    return is_made
+
+
+def need_own(visit: Visit, path: str) -> None:
+    """Where something has a program's name already, that it is the caller's. (Anyone who may add could make a file
+    there, to read what is to become a version of something that they are denied.)"""
+    if owner_of(visit, path) not in ("", visit.settings.user):
+        raise Answered(403, f"{path} is somebody else's, who could read there what your program saves")
+
+
+def put_bytes(visit: Visit, path: str, data: bytes, is_new: bool = False) -> bool:
+    """Makes a file or a new version of it. Whether it was not there before."""
+    try:
+        if is_temporary(path) and put_veiled(visit, path, data):
+            return True
+        return not files.put(visit, path, data, is_new=is_new)
+    except Refused as fault:
+        raise making(fault) from None
+
+
+def put_veiled(visit: Visit, path: str, data: bytes) -> bool:
+    return put_closed(visit, path, data, lambda is_large: visit.set_list(path, VEIL, [of_one("OWNER@", is_large)]))
+
+
+def put_backup(visit: Visit, source: str, path: str, data: bytes) -> bool:
+    """A copy of a document with a list of its own, by a name that programs give a backup."""
+    try:
+        return is_closed(visit, source) and put_closed(
+            visit, path, data, lambda is_large: close_like(visit, source, path, is_large))
+    except Refused as fault:
+        raise making(fault) from None
+
+
+def is_closed(visit: Visit, path: str) -> bool:
+    """Whether it has a list of its own, or one that the caller is not told."""
+    try:
+        return files.has_own_list(visit.get_list(path))
+    except Refused as fault:
+        if not is_refused(fault, "ACCESS"):
+            raise
+        return True
+
+
+def put_closed(visit: Visit, path: str, data: bytes, close: Callable[[bool], object]) -> bool:
+    """Makes a file whose list is set before its bytes are there. Whether nothing was there."""
+    is_large = len(data) > MOST_BYTES
+    if not make_empty(visit, path, is_large):
+        if not (is_large and is_left_veiled(visit, path)):
+            return False
+        files.remove_all(visit, path)
+        make_empty(visit, path, is_large)
+    try:
+        close(is_large)
+        if is_large:
+            upload = files.Upload(visit, path, data, files.unheard)
+            upload.put_pieces(path)
+            upload.put_manifest(path, True)
+        elif data:
+            visit.write(path, data)
+    except Refused:
+        with contextlib.suppress(Fault):
+            files.remove_all(visit, path)
+        raise
+    return True
+
+
+def make_empty(visit: Visit, path: str, is_folder: bool) -> bool:
+    try:
+        visit.mkdir(path) if is_folder else visit.create(path, b"")
+        return True
+    except Refused as fault:
+        if is_refused(fault, "EXIST"):
+            return False
+        raise
+
+
+def is_left_veiled(visit: Visit, path: str) -> bool:
+    """Whether it is what a stop left of a large file that was put under a veil."""
+    its = visit.stat(path)
+    if its["kind"] != FOLDER or its["owner"] != visit.settings.user:
+        return False
+    return files.form.are_parts(visit.children(path)) and is_veil(visit.get_list(path))
+
+
+def of_one(who: str, is_folder: bool) -> dict:
+    return {"flag": TO_FILES | TO_FOLDERS if is_folder else 0, "mask": ALL, "type": 0, "who": who}
+
+
+def is_veil(its: dict) -> bool:
+    return its["aclflag"] == VEIL and its["entries"] in ([of_one("OWNER@", False)], [of_one("OWNER@", True)])
+
+
+# What has another name
+
+def renamed(gate, visit: Visit, room: str, source: str, target: str) -> None:
+    """What had a program's name for a moment, and has one to stay, has its folder's list again."""
+    user, asides = visit.settings.user, gate.asides
+    is_fresh = asides.is_fresh(room, user, source)
+    is_aside = above(source) == above(target) and not is_temporary(source) and (
+        is_backup(target, source) or not is_fresh)
+    with asides.moving(room, user, source, target, owner_of(visit, source) if is_aside else None):
+        if is_temporary(source) and not is_temporary(target):
+            step = Step("opens", room, user, target)
+            with gate.steps.under_way(step, lambda _, why: is_sure(why)) as step:
+                visit.rename(source, target)
+                try:
+                    unveil(visit, step)
+                except Refused as fault:  # (somebody else's list)
+                    if not is_sure(fault):
+                        raise
+        else:
+            visit.rename(source, target)
+    if is_fresh:
+        asides.made(room, user, target)
+
+
+def owner_of(visit: Visit, path: str) -> str:
+    """As far as the room tells."""
+    reply, = visit.ask_all([{"cmd": "STAT", "keep": False, "path": path}])
+    return reply.get("owner", "")
+
+
+def unveil(visit: Visit, step: Step) -> None:
+    if is_veil(visit.get_list(step.path)):
+        visit.set_list(step.path, FOLLOWS, [])
+
+
+def awaited(gate, visit: Visit, room: str, path: str, source: str | None = None) -> tuple[Aside, Thing] | None:
+    """What was moved aside from a path where nothing is now, and what it is, where that waits for other bytes: not for
+    itself, nor for a folder, nor for what has an owner or a list of its own."""
+    found = gate.asides.of(room, visit.settings.user, path)
+    if not found or source in [it.aside for it in found] or is_there(visit, path):
+        return None
+    for one in found:
+        with contextlib.suppress(NotThere):
+            old = thing_at(visit, one.aside)
+            is_it = not old.is_folder and owner_of(visit, one.aside) == one.owner
+            return (one, old) if is_it and (source is None or is_version(visit, source)) else None
+    return None
+
+
+def is_version(visit: Visit, source: str) -> bool:
+    if visit.stat(source)["owner"] != visit.settings.user or is_folder(visit, source):
+        return False
+    its = visit.get_list(source)
+    return is_veil(its) or not files.has_own_list(its)
+
+
+# The exchange
+
+def exchange(gate, visit: Visit, one: Aside, old: Thing, *, data: bytes = b"", source: str | None = None) -> None:
+    """What is aside has its name again, and the bytes of `data` or of the file at `source`, which goes. A large file
+    takes the pieces of another by one request, where nobody else could reach them."""
+    its = thing_at(visit, source) if source else None
+    takes = bool(its and old.large and its.large) and is_veil(visit.get_list(source))
+    if its and not takes:
+        data = bytes_of(visit, its)
+    version = its.large if takes else Manifest.of(data)
+    text = files.text_at(visit, one.aside).decode("ascii") if old.large else ""
+    copy = below(above(one.aside), last(beside(one.path)))
+    step = Step("exchange", one.room, one.user, one.path, one.aside, copy, source or "", version.folder, text,
+                takes)
+    done: list[dict] = []
+    with gate.changing(one.room, one.aside), gate.steps.under_way(step, undone(visit, done)) as step:
+        make_copy(visit, step, old)
+        done.append(visit.rename(one.aside, one.path))
+        if old.large:
+            put_large(visit, step, version, data)
+        else:
+            put_bytes(visit, one.path, data)
+        finish(visit, step)
+    gate.asides.drop(one.room, one.path)
+
+
+def undone(visit: Visit, done: list[dict]):
+    """(Not where no answer came: what was done is not known then.)"""
+    return lambda step, why: isinstance(why, (Refused, OtherVersion, Answered)) and undo(visit, step, bool(done))
+
+
+def make_copy(visit: Visit, step: Step, old: Thing) -> None:
+    """A place for the bytes of before, which is no more open than where they are."""
+    make_empty(visit, step.copy, bool(old.large))
+    close_like(visit, step.aside, step.copy, bool(old.large))
+    if old.data:
+        visit.write(step.copy, old.data)
+
+
+def close_like(visit: Visit, path: str, copy: str, is_folder: bool) -> None:
+    """By the same list, where owner and group are the same; else by one with their names; or for the caller alone."""
+    its, ours = visit.stat(path), visit.stat(copy)
+    try:
+        told = visit.get_list(path)
+    except Refused as fault:
+        if not is_refused(fault, "ACCESS"):
+            raise
+        return visit.set_list(copy, PROTECTED, [of_one(visit.settings.user, is_folder)])
+    follows = told["aclflag"] & 3 == FOLLOWS
+    if (its["owner"], its["group"]) == (ours["owner"], ours["group"]):
+        if files.has_own_list(told):
+            own = [it for it in told["entries"] if not (follows and it["flag"] & INHERITED)]
+            visit.set_list(copy, told["aclflag"], own)
+        return None
+    entries = [named(it, its) for it in told["entries"]]
+    if len(entries) > MOST_ENTRIES:
+        entries = [of_one(visit.settings.user, is_folder)]
+    return visit.set_list(copy, PROTECTED, entries)
+
+
+def named(entry: dict, its: dict) -> dict:
+    """With the names of whom OWNER@ and GROUP@ are there, and its own."""
+    entry = entry | {"flag": entry["flag"] & ~INHERITED}
+    if entry["who"] == "OWNER@":
+        return entry | {"who": its["owner"], "flag": entry["flag"] & ~GROUP}
+    if entry["who"] == "GROUP@":
+        return entry | {"who": its["group"], "flag": entry["flag"] | GROUP}
+    return entry
+
+
+def put_large(visit: Visit, step: Step, version: Manifest, data: bytes) -> None:
+    """As every new version of a large file, but what was before it is not cleared."""
+    upload = files.Upload(visit, step.path, data, files.unheard)
+    upload.its = version
+    if step.takes:
+        visit.rename(f"{step.source}/{step.folder}", f"{step.path}/{step.folder}")
+    else:
+        upload.put_pieces(step.path)
+    upload.share(files.pieces_at(step.path, version))
+    if files.text_at(visit, step.path) != step.text.encode():
+        raise OtherVersion(files.overtaken(step.path))
+    visit.write(f"{step.path}/{NAME}", version.text())
+
+
+def finish(visit: Visit, step: Step) -> None:
+    """The new version has the name: what was before it lies aside, as far as the room lets it."""
+    try:
+        if step.text and is_there(visit, step.copy):
+            before = read_manifest(step.text.encode())
+            back(visit, f"{step.path}/{before.folder}", f"{step.copy}/{before.folder}")
+            visit.put(f"{step.copy}/{NAME}", step.text.encode())
+        back(visit, step.copy, step.aside)
+        if step.source:
+            files.remove_all(visit, step.source)
+    except Refused as fault:
+        if not is_sure(fault):
+            raise
+        say(f"room {step.room}: {of_what(step)}: {fault}")
+
+
+def undo(visit: Visit, step: Step, is_named: bool) -> bool:
+    """All is as it was before the exchange, by which the document had its name again, or had it not."""
+    if not is_undone(visit, step):
+        if is_named:
+            back(visit, step.path, step.aside)
+        remove_copy(visit, step)
+    return True
+
+
+def undo_left(visit: Visit, step: Step) -> None:
+    """Of one that was stopped the document keeps its name, and where nobody knows whether it has the new bytes, those
+    of before lie aside."""
+    if not is_undone(visit, step) and (step.text or not back(visit, step.copy, step.aside)):
+        remove_copy(visit, step)
+
+
+def is_undone(visit: Visit, step: Step) -> bool:
+    """Whether the version of a large file is there, which is the end of it, and no pieces are otherwise."""
+    if step.text and has_version(visit, step):
+        finish(visit, step)
+        return True
+    if step.text and step.takes:
+        back(visit, f"{step.path}/{step.folder}", f"{step.source}/{step.folder}")
+    elif step.text:
+        files.clear(visit, step.path, step.folder)
+    return False
+
+
+def remove_copy(visit: Visit, step: Step) -> None:
+    if is_there(visit, step.copy):
+        files.remove_all(visit, step.copy)
+
+
+def has_version(visit: Visit, step: Step) -> bool:
+    its = files.manifest_in(visit, step.path)
+    return its is not None and its.folder == step.folder
+
+
+def back(visit: Visit, path: str, to: str) -> bool:
+    """Whether it was there, and had room."""
+    try:
+        visit.rename(path, to)
+        return True
+    except Refused as fault:
+        if is_refused(fault, "NOENT", "NOTDIR", "EXIST"):
+            return False
+        raise
+
+
+# What a stop left
+
+def settle(gate, visit: Visit, asked: Asked) -> None:
+    """Before a request of who began it is served, or of somebody else to that folder who may."""
+    for step in gate.steps.claim(asked.room, asked.user, {asked.path, above(asked.path)}):
+        try:
+            with gate.changing(asked.room, step.path), gate.changing(asked.room, step.aside or step.path):
+                put_right(visit, step)
+        except (NoAnswer, SessionLost):
+            gate.steps.leave(step)
+            raise
+        except Fault as fault:
+            if step.user != asked.user and isinstance(fault, Refused) and is_refused(fault, "ACCESS"):
+                gate.steps.leave(step)
+                continue
+            say(f"room {step.room}: {of_what(step)}: {fault}")
+        gate.steps.end(step)
+
+
+def put_right(visit: Visit, step: Step) -> None:
+    if step.kind == "opens":
+        unveil(visit, step)
+    elif step.kind == "exchange":
+        undo_left(visit, step)
+    elif is_there(visit, step.aside):
+        visit.rename(step.aside, step.path)
+    say(f"room {step.room}: put right at a request of {visit.settings.user}: {of_what(step)}")
