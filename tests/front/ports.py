@@ -30,6 +30,9 @@ ELSEWHERE = "127.0.0.9"  # (nginx listens at 127.0.0.1)
 NEIGHBOURS = [f"10.99.0.{it}" for it in range(1, 21)]  # addresses of others
 SERVER, SIX = "fd00::1", 8003  # of IPv6
 NEAR, FAR = [f"fd00:0:0:1::{at:x}" for at in range(1, 31)], "fd00:0:0:2::1"
+SITE, SITE_AT_ONCE, SITE_A_SECOND = "fd00:5:5", 400, 60  # a network of many networks (/48), and what it begins
+FEW = 8  # elements of a set that is soon full
+ANY_ADDRESS = 15  # IP_FREEBIND
 UNSHARE = ["unshare", "--net"]
 tally = Tally()
 
@@ -57,12 +60,16 @@ def tried(all_counts):
     all_counts.take_over("the rules of front/fileroom.nft", said)
 
 
+def rules():
+    """As they are installed, but for the group, which this machine may lack."""
+    return text_of(os.path.join(FOLDER, "fileroom.nft")).replace("fileroom-front", WORKERS)
+
+
 def put_rules(folder):
-    """The rules as they are installed, but for the group, which this machine may lack."""
     shutil.copy(os.path.join(FOLDER, "..", "service", "fileroom-ports"), folder)
     shutil.copytree(os.path.join(FOLDER, "..", "service", "standby"), os.path.join(folder, "standby"))
     with open(os.path.join(folder, "fileroom.nft"), "w") as file:
-        file.write(text_of(os.path.join(FOLDER, "fileroom.nft")).replace("fileroom-front", WORKERS))
+        file.write(rules())
     for _ in range(2):  # (once more: the old rules go)
         tally.differs("the rules are put in force", ports(folder), (0, ""))
 
@@ -95,6 +102,10 @@ def whole_or_not(folder):
     ports(folder)
     told = re.findall(r"10\.[0-9.]+", nft("list", "set", "inet", "fileroom", "hosts"))
     tally.differs("hosts without a last line end", sorted(told), ["10.0.0.1", "10.0.0.2", "10.0.0.3"])
+    before = nft("list", "ruleset")
+    with open(hosts, "w") as file:
+        file.write("no host\n")
+    tally.differs("what fails changes nothing", (ports(folder)[0], nft("list", "ruleset")), (1, before))
 
 
 def halves(source):
@@ -276,13 +287,14 @@ def by_https(folder):
     os.rename(f"{listen}-away", listen)
 
 
-def connected(sources):
-    """The connections of these addresses of IPv6, those that are let in."""
+def connected(sources, patience=0.05):
+    """The connections of these addresses of IPv6, those that are let in within so many seconds."""
     lines = []
     for source in sources:
         line = socket.socket(socket.AF_INET6)
-        line.settimeout(0.05)
+        line.settimeout(patience)
         with contextlib.suppress(OSError):
+            line.setsockopt(socket.IPPROTO_IP, ANY_ADDRESS, 1)
             line.bind((source, 0))
             line.connect((SERVER, FRONT))
             lines.append(line)
@@ -298,6 +310,30 @@ def networks():
         lines += connected([FAR])
         tally.differs("another network beside them", taken("tcp6") - before, 1)
     limits_of_networks(NEAR, FAR)
+
+
+def sites(folder):
+    """Of the networks of one site (/48) so many connections come through as the site may begin; and where a set is full
+    nobody whom it cannot count. (An address of each network.)"""
+    subprocess.run(["ip", "-6", "route", "add", "local", f"{SITE}::/48", "dev", "lo"], check=True)
+    with socket.create_server((SERVER, FRONT), family=socket.AF_INET6, backlog=4 * SITE_AT_ONCE):
+        begin, before = time.monotonic(), taken("tcp6")
+        lines = connected(f"{SITE}:{at:x}::1" for at in range(SITE_AT_ONCE * 3 // 2))
+        count, most = taken("tcp6") - before, SITE_AT_ONCE + 10 + SITE_A_SECOND * (time.monotonic() - begin)
+        tally.differs(f"connections of one site: {count}", SITE_AT_ONCE // 2 < count <= most, True)
+        for it in lines:
+            it.close()
+        few = os.path.join(folder, "few.nft")
+        with open(few, "w", encoding="utf-8") as file:
+            file.write(re.sub(r"size \d+", f"size {FEW}", rules()))
+        nft("-f", few)
+        before = taken("tcp6")
+        lines = connected((f"{SITE}:{at:x}::2" for at in range(3 * FEW)), 0.5)
+        count = taken("tcp6") - before
+        tally.differs(f"what a full set lets through: {count}", 0 < count <= FEW, True)
+    for it in lines:
+        it.close()
+    tally.differs("the rules are put again", ports(folder), (0, ""))
 
 
 def sent(source, *fields, count=1):
@@ -351,6 +387,7 @@ def inside():
         front.server.wait()
         cookies()
         networks()
+        sites(folder)
         by_https(folder)
         whole_or_not(folder)
     tally.end()

@@ -5,10 +5,11 @@ import os
 import threading
 import time
 
-from hostile import OPENS_AT_ONCE, OPEN_AT_ONCE, at_once, in_pieces, status, until_too_many
+from hostile import OPEN_AT_ONCE, at_once, in_pieces, status, until_too_many
 from nginx import Front, login
-from served import Line, message, text_of
+from served import Line, free_port, message, text_of
 
+ADDRESSES = 4  # of one login
 BURST = 200  # requests of one login that come at once
 MANY = 900  # requests over one connection: nginx takes 1,000
 LONG = 5900  # letters, of a head that nginx takes
@@ -81,14 +82,13 @@ def no_body(front, tally):
 
 
 def no_such_room(front, tally):
-    """What is asked of a room that is not there counts as if it were."""
-    for at, (method, target, body, at_once_most) in enumerate((
-            ("POST", OPEN["target"].replace("plans", "nope"), b"", OPENS_AT_ONCE),
-            ("GET", "/rooms/nope/x", bytes(1000), BURST))):
+    """What is asked of a room that is not there counts too."""
+    for at, (method, target, body) in enumerate((
+            ("POST", OPEN["target"].replace("plans", "nope"), b""), ("GET", "/rooms/nope/x", bytes(1000)))):
         begin, right = time.monotonic(), login("u02", front.users["u02"])
         asked = message(None, method, target, body, fields=front.fields(None, [right]))
         found = sent_at_once(front, asked, MANY // 2, f"127.1.8.{at + 1}")
-        most = at_once_most + 2 + time.monotonic() - begin
+        most = BURST + 2 + time.monotonic() - begin
         tally.differs(f"{target[:12]}, {method}: answers", set(found), {404, 429})
         tally.differs(f"{target[:12]}, {method}: {found.count(404)} pass", 0 < found.count(404) <= most, True)
 
@@ -96,7 +96,8 @@ def no_such_room(front, tally):
 def without_end(front, tally):
     """A front of its own, which lets nobody ask more often than once a second, however slow this machine is."""
     folder = os.path.join(front.folder, "strange")
-    front = Front(folder, {it: front.users[it] for it in ("u01", "u02")}, {}, front.page, rate="1r/s")
+    users = {it: front.users[it] for it in ("u01", "u02")}
+    front = Front(folder, users, {"gone": free_port()}, front.page, rate="1r/s")
     before = logged(front)
     for net, how in enumerate(PLACES):
         for at, (what, (answer, fields)) in enumerate(floods(front).items()):
@@ -135,15 +136,19 @@ def said_long(front, target, length, source, its_login):
 
 
 def who_is_let_in(front, tally):
-    """A line for each, cut to a bound; none for what was too many."""
+    """A line for each that a room was asked, cut to a bound; none for what is not there, or was too many. They are
+    counted by login, from however many addresses it comes."""
     path = os.path.join(front.folder, "work", "access.log")
-    before = len(text_of(path).splitlines())
+    before, begin = len(text_of(path).splitlines()), time.monotonic()
     fields = front.fields("u01", [f"user-agent: {ODD}", 'referer: http://a.b/"x'])
     found = statuses(front, fields, MANY, "127.0.3.1", target="/" + "%41" * 900)
+    tally.differs("what is not there", set(found), {404, 429})
+    for at in range(ADDRESSES):
+        found = statuses(front, fields, BURST, f"127.0.4.{at + 1}", target="/rooms/gone/" + "%41" * 900)
+        tally.differs("of those let in", set(found) <= {502, 429}, True)
     front.settle()
-    told = text_of(path).splitlines()[before:]
-    tally.differs("of those let in", set(found), {404, 429})
-    tally.differs("a line each", len(told), found.count(404))
+    told, most = text_of(path).splitlines()[before:], BURST + 2 + time.monotonic() - begin
+    tally.differs(f"lines of one login from {ADDRESSES} addresses: {len(told)}", BURST <= len(told) <= most, True)
     tally.differs(f"the longest line: {max(told, key=len)}", len(max(told, key=len).encode()) <= LINE, True)
 
 
