@@ -8,6 +8,7 @@ import re
 import shutil
 import subprocess
 import sys
+import tempfile
 import time
 import zlib
 
@@ -231,6 +232,7 @@ def stopped(machine, step, *words, stdin=""):
         return os.waitstatus_to_exitcode(os.waitpid(child, 0)[1])
     try:
         os.environ.update(machine.env)
+        tempfile.tempdir = machine.folder  # (what a kill leaves there goes with the machine)
         os.umask(0o077)
         sys.stdin, sys.stdout = io.StringIO(stdin), open(os.devnull, "w", encoding="utf-8")
         sys.stderr = sys.stdout
@@ -257,7 +259,8 @@ def stops(machine, tally, *words, stdin="", broken=None):
     machine.told()
     machine.does(*words, stdin=stdin)
     after, asked = machine.files(logins), machine.told()
-    for at in range(zlib.crc32(" ".join(words).encode()) % EVERY, MOST, EVERY):
+    first = zlib.crc32(" ".join(words).replace(machine.folder, "").encode()) % EVERY
+    for at in range(first, MOST, EVERY):
         shutil.rmtree(machine.root)
         shutil.copytree(saved, machine.root, symlinks=True)
         machine.breaks(broken or "")

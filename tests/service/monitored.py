@@ -68,6 +68,7 @@ def of_a_machine(machine, tally):
     tally.differs("backup_age_seconds", 5 * HOUR <= float(of("backup_age_seconds", room="plans")) < 6 * HOUR, True)
     count = sum(not line.startswith("    ") for line in machine.does("check")[1].splitlines())
     tally.differs("findings", abs(int(of("findings")) - count) <= 1, True)  # (the room is served no more)
+    said_before(machine, tally)
     path = os.path.join(machine.folder, "fileroom.prom")
     for _ in range(2):
         tally.differs("to a file", (machine.does("check", "--prometheus", path)[:2], text_of(path).splitlines()[0][:19],
@@ -75,6 +76,32 @@ def of_a_machine(machine, tally):
     another_in_its_place(machine, tally, path)
     tally.differs("nothing beside it", [it for it in os.listdir(machine.folder) if it.startswith(".fileroom-")], [])
     return latest
+
+
+def said_before(machine, tally):
+    """What the unit may not ask in its sandbox was asked before: what nginx has against its files, and a standby's
+    state, which are then asked of nobody."""
+    its, folder = machine.env, os.path.join(machine.folder, "said")
+    os.mkdir(folder)
+    hosts, found = machine.at("etc/fileroom/club.hosts"), []
+    machine.write(hosts, "10.77.0.1\n")
+    for nginx, standby in ("true", "exit 0"), ("echo no such word; exit 1", "exit 1"):
+        machine.stand_in("nginx", nginx)
+        machine.stand_in("fileroom-standby", standby)
+        subprocess.run([os.path.join(SERVICE, "fileroom-asked"), folder], env={**its, "ETC": machine.at("etc")},
+                       check=True)
+        for name in "nginx", "fileroom-standby":
+            machine.stand_in(name, "exit 77")
+        machine.env = its | {"SAID": folder}
+        told = numbers(machine)[2]
+        found.append((int(told["fileroom_findings"]), told['fileroom_standby_whole{room="club"}']))
+        text = machine.does("check")[1]
+        machine.env = its
+    os.remove(hosts)
+    machine.stand_in("nginx", "true")
+    tally.differs("a standby that is whole, and that is not", [it for _, it in found], ["1", "0"])
+    tally.differs("findings more", found[1][0] - found[0][0], 2)
+    tally.differs("what nginx said", "configuration: no such word\n" in text, True)
 
 
 def another_in_its_place(machine, tally, path):

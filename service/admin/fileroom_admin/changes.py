@@ -72,7 +72,8 @@ def write(path, data, mode, owner):
 
 
 class Change:
-    """What is to become of files and services. `room` is a room's file that is made with it, by its owner and group."""
+    """What is to become of files and services. `room` is a room whose file is made with it, by its owner and group, or
+    is there already where it has none; where all is undone, the file is put aside."""
 
     def __init__(self, places):
         self.places = places
@@ -135,7 +136,7 @@ class Journal:
                 else:
                     forget(path)
                 keep(path)
-            if self.says["room"]:
+            if self.says["room"] and self.says["room"][1:]:
                 make_room(self.places, *self.says["room"])
             for words in self.says["looks"]:
                 asked(*words)
@@ -175,6 +176,17 @@ class Journal:
         for path, *_ in self.says["files"]:
             forget(beside(path, OLD))
             forget(beside(path, NEW))
+
+
+@contextlib.contextmanager
+def begun(places, room):
+    """Has the next call put a room's file aside that comes to its place meanwhile, where this one is stopped."""
+    journal = Journal(places, {"files": [], "room": [room], "looks": [], "does": [], "undoes": []})
+    try:
+        journal.write("prepared")
+        yield
+    finally:
+        journal.clear()
 
 
 def make_room(places, name, owner, group):

@@ -51,6 +51,7 @@ def add_rooms(words):
     add_command(room, "export", "writes the room as it is now, with roster and logins, to a file", "NAME", "FILE")
     one = add_command(room, "import", "serves a room from such a file", "FILE")
     one.add_argument("--as", dest="name", metavar="NAME", help="under another name")
+    one.add_argument("--certificate", action="store_true", help="and has the front listen by the file's certificate")
     add_command(room, "remove", "removes a room, and keeps it as such a file", "NAME")
 
 
@@ -114,7 +115,7 @@ DOES = {
     "room list": lambda it, given: it.room_list(),
     "room add": lambda it, given: it.room_add(given.NAME, given.OWNER, given.GROUP),
     "room export": lambda it, given: it.room_export(given.NAME, given.FILE),
-    "room import": lambda it, given: it.room_import(given.FILE, given.name),
+    "room import": lambda it, given: it.room_import(given.FILE, given.name, given.certificate),
     "room remove": lambda it, given: it.room_remove(given.NAME),
     "user add": lambda it, given: it.user_add(given.ROOM, given.USER, given.GROUP),
     "user import": lambda it, given: it.user_import(given.ROOM, given.CSV, given.update),

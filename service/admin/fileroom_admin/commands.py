@@ -12,10 +12,12 @@ from .changes import Change
 from .dav import SERVICE, Dav, need_place
 from .moving import Rooms, units_of
 from .people import FOR_WORKERS
-from .places import CHANGES, FRONT_FILES, HERE, LISTEN, LOGINS, REDIRECT, WORKERS, Fault, asked, read, said, sample
+from .places import (ASIDE, CHANGES, FRONT_FILES, HERE, LISTEN, LOGINS, REDIRECT, WORKERS, Fault, asked, read, said,
+                     sample)
 
 PORT = 8001  # of each room, in a network of its own
 ROOM_LISTS = "rooms.json"
+OF_QUEUES = "room_"
 OF_ROOM = {"rooms": "room.conf", "queues": "queue.conf"}  # of the front: a folder, and the sample of a room's file
 
 
@@ -37,7 +39,7 @@ class Commands(Rooms, Dav):
         rosters.need_room_name(room)
         rosters.need_name(owner, "the owner")
         rosters.need_name(group, "the group")
-        if room in places.rooms() or os.path.exists(places.file(room)):
+        if room in places.rooms() or any(map(os.path.lexists, places.files(room))):
             raise Fault(f"the room {room} already exists")
         change = Change(places)
         self.put_front(change)
@@ -112,9 +114,10 @@ class Commands(Rooms, Dav):
         if with_dav:
             need_place(self.places)
         self.put_dav(change, before, with_dav)
-        names = re.search(r'server_name ([^";]+);', read(self.places.at(REDIRECT), ""))
+        names = re.search(r'server_name ([^";]+);', read(self.places.at(REDIRECT), read(self.places.at(ASIDE), "")))
         if names:
             change.put(self.places.at(REDIRECT), sample("redirect.conf").replace("@NAMES@", names[1]))
+            change.remove(self.places.at(ASIDE))
         change.then("systemctl", "daemon-reload")
         change.then(*self.places.read_front("restart"))
         if rooms:
@@ -137,6 +140,8 @@ class Commands(Rooms, Dav):
             self.say(f"for the machines of {room}: fileroom-standby copy {room} | sh")
 
     def tls(self, cert, key):
+        if not os.path.exists(self.places.at(FRONT_FILES["fileroom.conf"])):
+            raise Fault("there is no front yet, which comes with a room: fileroom-admin room add NAME OWNER GROUP")
         change = Change(self.places)
         names = names_of(cert)
         need_pair(cert, key)
@@ -152,8 +157,9 @@ class Commands(Rooms, Dav):
 
 
 def of_room(sample_name, room):
-    """(nginx takes two queues for one whose names differ by large and small letters alone.)"""
-    queue = re.sub("[A-Z]", lambda letter: f"{letter[0].lower()}.", room)
+    """(nginx takes two queues for one whose names differ by large and small letters alone; and no queue or zone of the
+    front's own begins so.)"""
+    queue = OF_QUEUES + re.sub("[A-Z]", lambda letter: f"{letter[0].lower()}.", room)
     return sample(sample_name).replace("@NAME@", room).replace("@QUEUE@", queue)
 
 

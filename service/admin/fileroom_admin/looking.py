@@ -14,7 +14,8 @@ from . import dav, rosters
 from .changes import JOURNAL, sum_in
 from .commands import OF_ROOM, end_of, of_room
 from .owned import made_at
-from .places import CHANGES, FRONT_FILES, HERE, LISTEN, LOGINS, SEARCHED, WORKERS, Fault, read, said, sample
+from .places import (CHANGES, FRONT_FILES, HERE, LISTEN, LOGINS, SEARCHED, WORKERS, Fault, read, said, said_before,
+                     sample)
 
 PROGRAMS = {"nginx": "nginx-light", "openssl": "openssl", "sqlite3": "sqlite3", "nft": "nftables", "curl": "curl",
             "logrotate": "logrotate"}
@@ -107,7 +108,7 @@ class Findings:
         if not re.search(rf"(?m)^\s*user\s+\S+\s+{WORKERS}\s*;", main):
             self.add(f"nginx's workers lack the group {WORKERS}, so they reach no room",
                      f"{FRONT_REMEDY}, or the line in nginx.conf: user www-data {WORKERS};")
-        status, told = said("nginx", "-tq")
+        status, told = said_before("nginx", "nginx", "-tq")
         if status:
             self.add(f"nginx refuses its configuration: {told[:200]}", "correct what it names")
         if not any(map(self.places.has_standby, self.places.rooms())):  # (else it runs where the room is)
@@ -196,7 +197,7 @@ class Findings:
     def standby(self, room):
         if said("systemctl", "is-active", "-q", f"fileroom@{room}")[0] == 0:
             self.add(f"fileroom@{room} runs though the room has a standby", f"systemctl disable --now fileroom@{room}")
-        if said("fileroom-standby", "check", room)[0]:
+        if said_before(f"standby-{room}", "fileroom-standby", "check", room)[0]:
             self.add(f"{room}: its standby is not as it must be", f"fileroom-standby check {room}")
 
     def memory(self, room):

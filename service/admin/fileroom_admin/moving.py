@@ -1,31 +1,26 @@
 """A whole room in one tar file, with which it moves to another machine, or is kept once it is not served any more: the
 room's file and log, roster, logins, display names, and the front's certificate."""
 import contextlib
-import io
 import json
 import os
 import pwd
-import shutil
-import stat
 import subprocess
 import tarfile
-import tempfile
 import time
 
-from . import owned, rosters
-from .changes import AS_ROOMS, FOLDER, Change, own_folder, put_aside
+from . import archives, owned, rosters
+from .archives import ABOUT, CERT, DB, KEY, LOG, LOGINS, NAMES, NEW_HERE, ROSTER, add, add_file, new_file
+from .changes import AS_ROOMS, FOLDER, Change, begun, own_folder, put_aside
 from .people import People
-from .places import LISTEN, SEARCHED, Fault, asked, read, said
+from .places import HERE, LISTEN, SEARCHED, Fault, asked, read, said
 
-FORM = 1
-ABOUT, DB, LOG, ROSTER, LOGINS, NAMES = "about.json", "room.db", "room.db-wal", "roster.toml", "logins", "names.json"
-CERT, KEY = "tls/cert.pem", "tls/key.pem"
-TEXTS = {ABOUT, ROSTER, LOGINS, NAMES, CERT, KEY}
-LARGEST = 1 << 20  # bytes of a text
 MOST_SAID = 4096  # bytes of what a process of the rooms' user says
 FRESH = 3600  # seconds: a backup that is older was not made for this
 REMOVED = "var/backups/fileroom-removed"
-NEW_HERE = os.O_WRONLY | os.O_CREAT | os.O_EXCL | os.O_NOFOLLOW | os.O_CLOEXEC
+LOOKED_AT = ".roster.toml"  # in the room's folder, for the program
+SHARED = f"{DB}-shm"  # which sqlite3 leaves
+ASIDE = f"{DB}.undone-", f"{LOG}.undone-"
+NAMED = 5  # users, where there are more
 
 
 class Rooms(People):
@@ -66,7 +61,7 @@ class Rooms(People):
         users = self.users(room)
         logins = [it for it in self.passwords().splitlines() if it.partition(":")[0] in users]
         names = {user: name for user, name in self.names().items() if user in users}
-        about = {"form": FORM, "room": room, "backup": name}
+        about = {"form": archives.FORM, "room": room, "backup": name}
         texts = {ABOUT: json.dumps(about), ROSTER: read(self.places.roster(room)),
                  LOGINS: "".join(f"{it}\n" for it in logins), NAMES: json.dumps(names)}
         if " ssl" in read(self.places.at(LISTEN), ""):
@@ -128,155 +123,121 @@ class Rooms(People):
         change.then(*places.read_front())
         return change
 
-    def room_import(self, path, name=None):
+    def room_import(self, path, name=None, with_certificate=False):
         """A room that `room export` or `room remove` packed, under its name or another one."""
-        with packed(path) as (tar, texts):
-            room = name or str(json.loads(texts[ABOUT]).get("room"))
+        with archives.opened(path) as archive:
+            room, roster = name or archive.room, archive.text(ROSTER)
             rosters.need_room_name(room)
-            state = self.places.state(room)
-            if room in self.places.rooms() or os.path.lexists(self.places.file(room)):
+            if room in self.places.rooms() or any(map(os.path.lexists, self.places.files(room))):
                 raise Fault(f"the room {room} already exists (--as NAME brings it under another name)")
-            users, had = rosters.users_of(texts[ROSTER], ROSTER), rosters.logins_of(self.passwords())
-            own_folder(self.places, os.path.dirname(state))
-            own_folder(self.places, state)
+            if with_certificate and not archive.has_certificate():
+                raise Fault(f"{path} has no certificate")
+            users, had = rosters.users_of(roster, ROSTER), rosters.logins_of(self.passwords())
+            (logins, odd), names = rosters.logins_within(archive.text(LOGINS), users), archive.names()
             own_folder(self.places, self.places.backups().rstrip("/"))
-            try:
-                unpack(self.places, tar, state)
-                self.look_at(room, texts[ROSTER])
-                self.put_in(room, texts, users).happen()
-            except BaseException:
-                put_aside(state)
-                raise
-        self.say(f"the room {room} is served here, with {len(users)} users, and backed up each night")
-        self.tell_logins(users, had)
-        self.take_certificate(texts)
+            with begun(self.places, room), new_state(self.places, self.places.state(room)) as folder:
+                need_space(folder, archive)
+                unpack(self.places, archive, folder)
+                self.look_at(room, roster, folder)
+                self.put_in(room, roster, logins, names).happen()
+            self.say(f"the room {room} is served here, with {len(users)} users, and backed up each night")
+            self.tell_logins(users, had, odd)
+            self.take_certificate(archive, with_certificate)
 
-    def take_certificate(self, texts):
-        """Where the front of before listened by https, and that of this machine for itself alone."""
-        if CERT in texts and KEY in texts and " ssl" not in read(self.places.at(LISTEN), ""):
-            try:
-                with pair(texts) as paths:
-                    self.tls(*paths)
-            except Fault as fault:
-                self.say(f"the certificate that came with it is not put to work: {fault}")
+    def take_certificate(self, archive, is_wanted):
+        """By it whoever made the archive could have the front listen for everybody, with a key that they have too."""
+        if is_wanted:
+            with archive.pair() as paths:
+                self.tls(*paths)
+        elif archive.has_certificate():
+            self.say("the certificate that came with it is not put to work: fileroom-admin tls CERT KEY")
 
-    def look_at(self, room, roster):
-        """Whether the program takes it for a room, before anything else knows of it."""
-        path = os.path.join(self.places.state(room), ".roster.toml")
-        with open(os.open(path, NEW_HERE, 0o644), "w", encoding="utf-8") as file:
+    def look_at(self, room, roster, folder):
+        """Whether sqlite3 and the program take it for a room, before anything else knows of it."""
+        by_rooms(os.path.join(HERE, "../../fileroom-one"), "--room", self.places.state(room))
+        for it in {SHARED, LOOKED_AT} & {*os.listdir(folder)}:  # (the other is of a call that was killed)
+            os.unlink(it, dir_fd=folder)
+        with open(os.open(LOOKED_AT, NEW_HERE, 0o644, dir_fd=folder), "w", encoding="utf-8") as file:
             file.write(roster)
             os.fchmod(file.fileno(), 0o644)
-        words = [*AS_ROOMS, self.places.program, "report", self.places.file(room), path, "lists"]
-        nothing = {"stdin": subprocess.DEVNULL, "stdout": subprocess.DEVNULL, "env": {**os.environ, "PATH": SEARCHED}}
-        try:
-            with subprocess.Popen(words, stderr=subprocess.PIPE, cwd="/", **nothing) as report:
-                told = report.stderr.read(MOST_SAID).decode(errors="replace").strip()
-                report.stderr.close()  # (what a user's process says to root is bounded)
-        finally:
-            os.unlink(path)
-        if report.returncode:
-            raise Fault(f"it is no room: {owned.of_backups().shown(told[:300])}")
+        path = os.path.join(self.places.state(room), LOOKED_AT)
+        by_rooms(self.places.program, "report", self.places.file(room), path, "lists")
+        os.unlink(LOOKED_AT, dir_fd=folder)
 
-    def put_in(self, room, texts, users):
-        change, has = Change(self.places), {*rosters.logins_of(self.passwords())}
+    def put_in(self, room, roster, logins, names):
+        change, has, users = Change(self.places), {*rosters.logins_of(self.passwords())}, rosters.users_of(roster)
+        change.room = (room,)
         self.put_front(change)
-        change.put(self.places.roster(room), texts[ROSTER])
-        change.put(self.places.front(f"rooms/{room}.users.json"), rosters.page_copy(texts[ROSTER]))
+        change.put(self.places.roster(room), roster)
+        change.put(self.places.front(f"rooms/{room}.users.json"), rosters.page_copy(roster))
         self.put_room(change, room)
-        lines = dict(it.split(":", 1) for it in texts[LOGINS].splitlines() if ":" in it)
-        self.put_passwords(change, {user: line for user, line in lines.items() if user in users and user not in has})
-        names = json.loads(texts[NAMES])
-        self.put_names(change, {user: str(names[user]) for user in users if user in names and user not in self.names()})
+        self.put_passwords(change, {user: line for user, line in logins.items() if user not in has})
+        self.put_names(change, {user: names[user] for user in users if user in names and user not in self.names()})
         return change
 
-    def tell_logins(self, users, had):
+    def tell_logins(self, users, had, odd):
         """(Somebody of the same name who has a login here keeps it: logins are the machine's.)"""
-        has = rosters.logins_of(self.passwords())
-        for what, found in (("the password of this machine", [it for it in users if it in had]),
-                            ("no login", [it for it in users if it not in has])):
+        has, odd = rosters.logins_of(self.passwords()), [it for it in odd if it not in had]
+        for what, found in (("these have the password of this machine", [it for it in users if it in had]),
+                            ("these have no login, since the archive's has a form that is not written here", odd),
+                            ("these have no login", [it for it in users if it not in {*has, *odd}])):
             if found:
-                self.say(f"these have {what}: {', '.join(found)}")
+                more = f" and {len(found) - NAMED} more" if len(found) > NAMED else ""
+                self.say(f"{what}: {', '.join(found[:NAMED])}{more}")
 
 
-def units_of(room):
-    return f"fileroom@{room}", f"fileroom-backup@{room}.timer", f"fileroom-try@{room}.timer"
-
-
-# The file.
-
-@contextlib.contextmanager
-def new_file(path):
-    """One that its maker alone may read, which is whole or not there."""
-    file = open(os.open(path, NEW_HERE, 0o600), "wb")
-    try:
-        with file:
-            yield file
-            file.flush()
-            os.fsync(file.fileno())
-    except BaseException:
-        os.unlink(path)
-        raise
-
-
-def add(tar, member, data):
-    its = tarfile.TarInfo(member)
-    its.size, its.mode, its.mtime = len(data), 0o600, int(time.time())
-    tar.addfile(its, io.BytesIO(data))
-
-
-def add_file(tar, member, handle):
-    with open(handle, "rb") as file:
-        its, about = os.fstat(file.fileno()), tarfile.TarInfo(member)
-        if not stat.S_ISREG(its.st_mode):
-            raise Fault(f"{member} of the backup is no file")
-        about.size, about.mode, about.mtime = its.st_size, 0o600, int(its.st_mtime)
-        tar.addfile(about, file)
+def by_rooms(*words):
+    """Has the rooms' user read a file that anybody may have written. (What a process of theirs says is bounded.)"""
+    nothing = {"stdin": subprocess.DEVNULL, "stdout": subprocess.DEVNULL, "env": {**os.environ, "PATH": SEARCHED}}
+    with subprocess.Popen([*AS_ROOMS, *words], stderr=subprocess.PIPE, cwd="/", **nothing) as reader:
+        told = reader.stderr.read(MOST_SAID).decode(errors="replace").strip()
+        reader.stderr.close()
+    if reader.returncode:
+        raise Fault(f"it is no room: {owned.of_backups().shown(told[:300])}")
 
 
 @contextlib.contextmanager
-def packed(path):
-    """Such a file, opened, and its texts."""
-    try:
-        with tarfile.open(path, "r:") as tar:
-            found = {it.name: it for it in tar}
-            odd = [it for it, its in found.items() if it not in {*TEXTS, DB, LOG} or not its.isreg() or (
-                it in TEXTS and its.size > LARGEST)]
-            if odd or not {ABOUT, DB, ROSTER, LOGINS, NAMES} <= {*found}:
-                raise Fault(f"{path} is not what `room export` makes: {', '.join(odd[:3]) or 'a part is not there'}")
-            texts = {it: tar.extractfile(found[it]).read().decode() for it in TEXTS & {*found}}
-            if json.loads(texts[ABOUT]).get("form") != FORM:
-                raise Fault(f"{path} is of another form, by a newer program")
-            for it in json.loads(texts[NAMES]).values():
-                rosters.need_display_name(it)
-            yield tar, texts
-    except (tarfile.TarError, UnicodeDecodeError, json.JSONDecodeError, AttributeError, TypeError) as fault:
-        raise Fault(f"{path} is not what `room export` makes: {fault}") from None
-
-
-def unpack(places, tar, state):
-    """The room's file and its log, into a folder of the rooms' user. (The log first: a file without its log might pass
-    for the whole room.)"""
-    owner = pwd.getpwnam("fileroom") if places.is_machine else None
+def new_state(places, state):
+    """A room's folder, opened. Where what follows fails, what came into it meanwhile is removed, and itself if it is
+    new."""
+    own_folder(places, os.path.dirname(state))
+    is_new = not os.path.lexists(state)
+    own_folder(places, state)
     folder = os.open(state, FOLDER)
+    before = {*os.listdir(folder)}
     try:
-        for member in [LOG] * (LOG in tar.getnames()) + [DB]:
-            with open(os.open(member, NEW_HERE, 0o600, dir_fd=folder), "wb") as file:
-                if owner:
-                    os.fchown(file.fileno(), owner.pw_uid, owner.pw_gid)
-                shutil.copyfileobj(tar.extractfile(member), file)
-                file.flush()
-                os.fsync(file.fileno())
-        os.fsync(folder)
+        yield folder
+    except BaseException:
+        for it in {*os.listdir(folder)} - before:
+            if it in (DB, LOG, SHARED, LOOKED_AT) or it.startswith(ASIDE):
+                os.unlink(it, dir_fd=folder)
+        if is_new:
+            with contextlib.suppress(OSError):
+                os.rmdir(state)
+        raise
     finally:
         os.close(folder)
 
 
-@contextlib.contextmanager
-def pair(texts):
-    """The certificate and its key, as files that nobody else may read."""
-    with tempfile.TemporaryDirectory(prefix="fileroom-") as folder:
-        paths = [os.path.join(folder, it) for it in ("cert", "key")]
-        for path, member in zip(paths, (CERT, KEY)):
-            with open(os.open(path, NEW_HERE, 0o600), "w", encoding="utf-8") as file:
-                file.write(texts[member])
-        yield paths
+def need_space(folder, archive):
+    disk, need = os.fstatvfs(folder), archive.space()
+    free = disk.f_bavail * disk.f_frsize
+    if free <= need:
+        raise Fault(f"the rooms' disk has {free >> 20} MiB free, and this room takes {need >> 20}: free some space")
+
+
+def unpack(places, archive, folder):
+    """The room's file and its log. (The log first: a file without its log might pass for the whole room.)"""
+    owner = pwd.getpwnam("fileroom") if places.is_machine else None
+    for member in [LOG] * (LOG in archive.members) + [DB]:
+        with open(os.open(member, NEW_HERE, 0o600, dir_fd=folder), "wb") as file:
+            if owner:
+                os.fchown(file.fileno(), owner.pw_uid, owner.pw_gid)
+            archive.copy(member, file)
+            file.flush()
+            os.fsync(file.fileno())
+    os.fsync(folder)
+
+
+def units_of(room):
+    return f"fileroom@{room}", f"fileroom-backup@{room}.timer", f"fileroom-try@{room}.timer"

@@ -11,7 +11,7 @@ from . import rosters
 from .changes import answers
 from .looking import Findings, end_of, look
 from .owned import latest, made_at
-from .places import LISTEN, Fault, read, said
+from .places import LISTEN, Fault, read, said, said_before
 
 WINDOW = 600  # seconds of the front's log that are counted
 TAIL = 8 << 20  # bytes of it that are read at most
@@ -56,7 +56,8 @@ class Numbers:
         places = self.places
         is_here = not places.has_standby(room) or os.path.ismount(places.state(room))
         if places.has_standby(room):
-            self.add("standby_whole", not said("fileroom-standby", "check", room)[0], room=room)
+            is_whole = not said_before(f"standby-{room}", "fileroom-standby", "check", room)[0]
+            self.add("standby_whole", is_whole, room=room)
         self.add("users", len(rosters.users_of(read(places.roster(room)))), room=room)
         if is_here:
             self.add("up", answers(places.socket(room)), room=room)

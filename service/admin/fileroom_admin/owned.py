@@ -5,7 +5,6 @@ import datetime
 import importlib.machinery
 import importlib.util
 import os
-import sqlite3
 import sys
 import tempfile
 
@@ -45,11 +44,10 @@ def opened(places, room, name):
     with tempfile.TemporaryDirectory(prefix="fileroom-") as to:
         try:
             one.copy_room(os.path.join(places.backups(room), name), to)
-            with contextlib.closing(sqlite3.connect(f"file:{to}/room.db?mode=rw", uri=True)) as table:
-                table.execute("PRAGMA trusted_schema = OFF")
+            with one.opened(to) as table:
                 yield table
-        except (one.Fault, sqlite3.Error, TypeError) as fault:  # (the last of rows that no room has)
-            raise Fault(f"the backup {name} of {room} cannot be read: {fault}") from None
+        except (one.Fault, *one.NONE) as fault:
+            raise Fault(f"the backup {name} of {room} cannot be read: {one.why(fault)}") from None
 
 
 def path_of(table, node):

@@ -15,6 +15,7 @@ LISTEN = "etc/nginx/fileroom/listen.conf"
 LOGINS = "var/log/nginx/fileroom-logins.log"
 CHANGES = "var/log/fileroom/changes.log"
 REDIRECT = "etc/nginx/conf.d/fileroom-redirect.conf"
+ASIDE = "etc/nginx/fileroom/redirect.conf"  # the same, while the program is away
 
 
 class Fault(Exception):
@@ -31,6 +32,14 @@ def said(*words, stdin=""):
     except subprocess.TimeoutExpired:
         return 124, f"{words[0]} took longer than two minutes"
     return done.returncode, (done.stdout + done.stderr).strip()
+
+
+def said_before(name, *words):
+    """The same; or what the unit of `check` had asked (fileroom-asked), since it may not ask that itself."""
+    if "SAID" not in os.environ:
+        return said(*words)
+    status, _, told = read(os.path.join(os.environ["SAID"], name)).partition("\n")
+    return int(status), told.strip()
 
 
 def asked(*words, stdin=""):
@@ -83,6 +92,10 @@ class Places:
     def file(self, room):
         return os.path.join(self.state(room), "room.db")
 
+    def files(self, room):
+        """A room's file and its log."""
+        return self.file(room), f"{self.file(room)}-wal"
+
     def backups(self, room=""):
         return self.at(os.path.join("var/backups/fileroom", room))
 
@@ -119,9 +132,9 @@ def sample(name):
     raise Fault(f"the front's file {name} is not installed")
 
 
-def read(path, default=None):
+def read(path, default=None, encoding="utf-8"):
     try:
-        with open(path, encoding="utf-8") as file:
+        with open(path, encoding=encoding) as file:
             return file.read()
     except FileNotFoundError:
         if default is None:

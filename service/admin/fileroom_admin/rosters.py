@@ -16,6 +16,12 @@ LONGEST_NAME = 64  # letters of a display name
 USERS, GROUPS = 1000, 16  # a roster has at most so many, and a user so many groups
 
 
+# What stands behind a login: what was drawn, what was chosen, and what programs before 0.4.0 wrote (`$apr1$`), each of
+# the one cost that it is written with. (nginx computes any that it is given, for minutes too.)
+HASH = re.compile(r"\{SSHA\}[A-Za-z0-9+/]{48}|\$y\$j75\$[./A-Za-z0-9]{22}\$[./A-Za-z0-9]{43}"
+                  r"|\$apr1\$[./A-Za-z0-9]{1,8}\$[./A-Za-z0-9]{22}")
+DOTS = 2000  # so much a line in the square: of a key of many dots TOML's reader keeps each beginning
+
 LOGGED_OUT = "logged-out"  # by which the page has a browser forget its login: the front lets nobody in by that name
 
 
@@ -33,9 +39,11 @@ def need_room_name(name):
 
 def users_of(text, path="the roster"):
     """Each user with the groups, as the room reads them."""
+    if sum(line.count(".") ** 2 for line in text.split("\n")) > DOTS ** 2:
+        raise Fault(f"{path} has more dots than a roster")
     try:
         read = tomllib.loads(text)
-    except tomllib.TOMLDecodeError as fault:
+    except (ValueError, RecursionError) as fault:
         raise Fault(f"{path} is no TOML: {fault}") from None
     users = read.get("users")
     if set(read) != {"users"} or not isinstance(users, dict):
@@ -124,6 +132,13 @@ def with_renamed(text, old, new):
     """The front's passwords with that of one user as another's."""
     return "".join(f"{new if user == old else user}{colon}{rest}\n" for user, colon, rest in (
         it.partition(":") for it in text.splitlines()))
+
+
+def logins_within(text, users):
+    """Of these users' logins the hash by each, and whose has another form than those that are written here."""
+    lines = dict(it.split(":", 1) for it in text.splitlines() if it.partition(":")[0] in users and ":" in it)
+    return ({user: its for user, its in lines.items() if HASH.fullmatch(its)},
+            [user for user, its in lines.items() if not HASH.fullmatch(its)])
 
 
 def logins_of(text):

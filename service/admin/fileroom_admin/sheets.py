@@ -11,9 +11,19 @@ COLUMNS = ["user", "groups", "name"]
 LARGEST = 1 << 20  # letters of a table
 
 
+def text_of(path):
+    """(As Excel writes it: of UTF-8 with a mark, or of Windows' letters.)"""
+    try:
+        return read(path, encoding="utf-8-sig")
+    except Fault as fault:
+        if not isinstance(fault.__context__, UnicodeDecodeError):
+            raise
+    return read(path, encoding="cp1252")
+
+
 def rows_of(path):
     """Each row with its line: what stands in its columns."""
-    text = read(path).removeprefix("\ufeff")
+    text = text_of(path)
     first = text.partition("\n")[0]
     if len(text) > LARGEST:
         raise Fault(f"{path} is longer than a table of {rosters.USERS} users")

@@ -9,6 +9,7 @@ from .owned import of_backups
 from .places import CHANGES, Fault
 
 DONE_MOST = 24  # bytes of a reply: {"code":0,"size":65536} is the longest of what was done, and refusals are longer
+ODD_MOST = 200  # letters of one in an odd form
 APART = datetime.timedelta(minutes=10)  # pieces of a large file that come later than this are another upload
 # of a large file (docs/FILES.md)
 PART = re.compile(r"(.+?)/\.room-(?:file|(?:writing|pieces|gone|new)-[0-9a-f]{16})(?:/.*)?")
@@ -55,25 +56,27 @@ class Change:
         self.time, self.user, self.source = datetime.datetime.fromisoformat(its["time"]), its["user"], its["from"]
         self.text, self.count, self.parts, self.last = its["asked"], 1, 0, self.time
         self.status, self.outcome = its["status"], outcome_of(its["status"], its["length"])
-        try:
-            self.asked = json.loads(self.text)
-            self.asked = self.asked if isinstance(self.asked, dict) else {}
-        except (ValueError, RecursionError):
-            self.asked = {}
-        self.cmd, self.cmds, self.paths = str(self.asked.get("cmd", "?")), set(), self.all_paths()
+        self.asked = members_of(self.text)
+        self.cmd, self.path, self.cmds, self.paths = self.word("cmd"), self.word("path"), set(), self.all_paths()
         self.file = self.file_of_all()
 
-    @property
-    def path(self):
-        return str(self.asked.get("path", ""))
+    def word(self, member):
+        """A member that is a text, or an empty one."""
+        its = (self.asked or {}).get(member)
+        return its if isinstance(its, str) else ""
 
     def all_paths(self):
-        return {str(self.asked[it]) for it in ("path", "to") if it in self.asked}
+        return {*filter(None, map(self.word, ("path", "to")))}
 
     def file_of_all(self):
-        """The large file that each of its paths is a part of. (What leaves a file is something by itself.)"""
+        """The large file that each of its paths is a part of. (What leaves a file is something by itself, and so is a
+        list, which no line may hide.)"""
         files = {part and part[1] for part in map(PART.fullmatch, self.all_paths())}
-        return files.pop() if len(files) == 1 else None
+        return files.pop() if len(files) == 1 and self.cmd != "SETLIST" else None
+
+    def whose(self):
+        """To whom it gives what it names, if it does."""
+        return self.more() or "" if self.cmd == "CHOWN" else ""
 
     def is_below(self, top):
         """Whether it is, or may be: a path that is not known can be any."""
@@ -95,13 +98,23 @@ class Change:
 
     def words(self):
         if self.file:
-            return f"{'+'.join(sorted(self.cmds))} of the large file {self.file} ({self.parts} requests)"
-        if not self.path:
-            return f"in an odd form: {self.text[:200]}"
-        more = {"RENAME": lambda: f" -> {self.asked.get('to')}",
-                "CHOWN": lambda: f" to {self.asked.get('owner')}:{self.asked.get('group')}",
-                "SETLIST": lambda: f": {entries(self.asked.get('entries'))}"}.get(self.cmd, str)()
-        return f"{self.cmd} {self.path}{more}"
+            return f"{'+'.join(sorted(self.cmds))} of the large file {self.file}{self.whose()} ({self.parts} requests)"
+        more = self.more()
+        return self.odd() if None in (self.cmd or None, self.path or None, more) else f"{self.cmd} {self.path}{more}"
+
+    def more(self):
+        """What a command says besides its path; None where it says something else."""
+        texts = [*map(self.word, {"RENAME": ["to"], "CHOWN": ["owner", "group"]}.get(self.cmd, []))]
+        if "" in texts:
+            return None
+        if self.cmd == "SETLIST":
+            return entries(self.asked.get("entries"))
+        return f" {'->' if self.cmd == 'RENAME' else 'to'} {':'.join(texts)}" if texts else ""
+
+    def odd(self):
+        """Its beginning, without what only fills it."""
+        cut = f" (cut, or no command: {len(self.text)} letters are kept)" if self.asked is None else ""
+        return f"in an odd form{cut}: {' '.join(self.text.split())[:ODD_MOST] or 'blanks alone'}"
 
     def told(self):
         again = f"  ({self.count} times)" if self.count > 1 else ""
@@ -117,15 +130,27 @@ def outcome_of(status, length):
     return "done" if int(length) <= DONE_MOST else "refused"
 
 
+def members_of(text):
+    """Of a command; None of what is no object, as one that was cut."""
+    try:
+        found = json.loads(text)
+    except (ValueError, RecursionError):
+        return None
+    return found if isinstance(found, dict) else None
+
+
 def entries(its):
-    """A list in words, its rights as numbers."""
-    found = []
-    for it in its if isinstance(its, list) else []:
-        if isinstance(it, dict):
-            kind = "deny" if it.get("type") == 1 else "allow"
-            who = ("group " if int(it.get("flag") or 0) & 0x40 else "") + str(it.get("who"))
-            found.append(f"{kind} {who} {int(it.get('mask') or 0):x}")
-    return ", ".join(found) or "an empty list"
+    """A list in words, its rights as numbers; None of what is none."""
+    if not isinstance(its, list) or not all(map(is_entry, its)):
+        return None
+    words = [("deny " if it["type"] == 1 else "allow ") + ("group " if it["flag"] & 0x40 else "") +
+             f"{it['who']} {it['mask']:x}" for it in its]
+    return f": {', '.join(words) or 'an empty list'}"
+
+
+def is_entry(it):
+    return isinstance(it, dict) and isinstance(it.get("who"), str) and all(
+        type(it.get(name)) is int for name in ("type", "flag", "mask"))
 
 
 class Told:
@@ -140,13 +165,14 @@ class Told:
             before.again(change)
             return
         self.last[change.room, change.slot] = change
-        whole = change.file and self.files.get((change.room, change.user, change.file))
+        file = change.room, change.user, change.file, change.whose()
+        whole = change.file and self.files.get(file)
         if whole and change.time - whole.last < APART:
             whole.also(change)
             return
         if change.file:
             change.also(change)
-            self.files[change.room, change.user, change.file] = change
+            self.files[file] = change
         self.changes.append(change)
 
 
