@@ -5,7 +5,7 @@ RT ?= rt
 BUILT := $(if $(FILEROOM),,build)
 
 .PHONY: try demo quick build test wrong growth failing full wire tables upgrade crash hostile front soak client page
-.PHONY: decisions power
+.PHONY: decisions power wrong-around wrong-definitions
 .PHONY: bench dist deb install uninstall service firstday standby machine
 
 # Serves a room with sample folders, the front and the page, until Ctrl-C: with build/fileroom where `make build` made
@@ -42,6 +42,16 @@ test:
 # Tries the wrong bodies of tests/wrong in every round, of every crate or of CRATE: the prover must refuse each.
 wrong:
 	@RT='$(RT)' tests/wrong/rounds $(CRATE)
+
+# Tries the wrong edits of what no prover looks at, of every part or of PART: the tests that they name must refuse each.
+# `make test` tries a dozen.
+wrong-around: $(BUILT)
+	tests/wrong/around/run $(PART)
+
+# Tries the wrong definitions of tests/wrong/definitions, of every crate or of CRATE: the laws must refuse each. `make
+# test` tries the first of room_commands.
+wrong-definitions:
+	@RT='$(RT)' tests/wrong/definitions/run $(CRATE)
 
 # Refuses each growth of memory in turn, over questions, a room, runs and all examples. `make test` tries a sample of
 # those of the examples. Needs the player of examples, as `rt run` in crates/test_examples leaves it.
