@@ -15,11 +15,11 @@ use Rattle.room_wire.specs.Forms.Texts.{command_text}
 use Rattle.room_wire.proofs.Lemmas.Forms.CommandBack.{one_command}
 use Rattle.room_wire.specs.declared.answers.code.Code.TheVariants.{RetryUncached, SeqFalseRetry}
 use Rattle.room_desk.specs.AnswerModel.{AnswerModel, Reply, Refused}
-use Rattle.room_desk.specs.History.{History, Accepted, original_reply, answer_to}
+use Rattle.room_desk.specs.History.{History, Accepted, accepted, original_reply, answer_to}
 use Rattle.room_desk.specs.Client.{Lane, HoldsSlot, ran, is_others, HasNumber, IsAsk, IsUsed, Asks, Attempt, tells_done}
 use Rattle.room_desk.specs.Client.{Client, idle, AsksOn, KeepsRule, is_lost, Meets, Taken, answer_again}
 use Rattle.room_desk.specs.Client.{IsTold, HasDone}
-use Rattle.room_desk.proofs.Clients.{stands_after, first_answer, again_answer, other_answer}
+use Rattle.room_desk.proofs.Clients.{stands_after, number_of, first_answer, again_answer, other_answer}
 
 -- a client after it asked for a command
 abbrev after_ask : Client → CommandModel → (is_done : Bool) → Client
@@ -106,22 +106,37 @@ module _ (lane : Lane) (start : Room) (past : History) (holds : HoldsSlot lane p
   told_done a told (inl is) = rw is refl
   told_done a told (inr (is, unkept)) = rw is refl
 
+  -- the last accepted request came after all of which the client was told
+  after_done : (later : History) (command : CommandModel) (done : List CommandModel) (a : Accepted)
+      (earlier : List Accepted) → Asks lane count later (command ∷ done) → suc (length done) < 2 ^ 32
+      → accepted (later ++ past) lane.sid lane.slot ≡ a ∷ earlier → length earlier ≡ count + length done
+  after_done later command done a earlier asks few joins =
+      let stands = stands_after lane past later (command ∷ done) holds asks few in
+      let many = rw joins at (number_of lane past later (command ∷ done) stands) in omega (arith, many)
+
   -- the event was answered: the history has its command as the last, or another one that was asked for
   answered_by : (client : Client) (later : History) (event : EventModel) (told : Option AnswerModel)
       (command : CommandModel) → Has lane count client later
       → IsAsk lane (count + length client.done) command event → suc (length client.done) < 2 ^ 32
       → told ≡ Some (answer_to start (later ++ past) event)
-      → IsTold lane start client (event ∷ (later ++ past)) command told
+      → IsTold lane start count client (event ∷ (later ++ past)) command told
       × Has lane count (after_ask client command (tells_done told)) (event ∷ later)
   answered_by client later event told command (inl asks) ask few answered =
       let stands = stands_after lane past later client.done holds asks (omega (arith, few)) in
       let (a, earlier, joins, same, reply) = first_answer start lane past later client.done stands event command ask in
       let is = rw reply at answered in (
-        (a, earlier, joins, inl (same, inl is)),
+        (
+          a,
+          earlier,
+          joins,
+          after_done (event ∷ later) command client.done a earlier (inl (ask, asks)) few joins,
+          inl (same, inl is),
+        ),
         rw is (inl (inl (ask, asks))),
       )
   answered_by client later event told command (inr (asked, among, asks)) ask few answered =
       let stands = stands_after lane past later (asked ∷ client.done) holds asks few in
+      let again = last_again lane count later event asked command client.done ask asks in
       elim (cases_Bool (bytes_eq (command_text command) (command_text asked))) [
         | inl same_text ↦
             (let same = one_command command asked (has_ask lane count (count + length client.done) command event ask).1
@@ -129,18 +144,19 @@ module _ (lane : Lane) (start : Room) (past : History) (holds : HoldsSlot lane p
             ((bytes_decides (command_text command) (command_text asked)).0 same_text) in
             let (a, earlier, joins, of, reply) =
             again_answer start lane past later asked client.done stands few event (rw same at ask) in
-            let is = by_keeping a told (rw reply at answered) in (
-              (a, earlier, joins, inl (of ∙ sym same, is)),
-              rw (told_done a told is) (inl (rw same (last_again lane count later event asked command client.done
-                  ask asks))),
+            let is = by_keeping a told (rw reply at answered) in
+            let many = after_done (event ∷ later) asked client.done a earlier again few joins in (
+              (a, earlier, joins, many, inl (of ∙ sym same, is)),
+              rw (told_done a told is) (inl (rw same again)),
             ))
         | inr other_text ↦
             (let differs : command_text command ≢ command_text asked =
             λ e. both_ways _ other_text ((bytes_decides (command_text command) (command_text asked)).1 e) in
             let (a, earlier, joins, of, reply) =
             other_answer start lane past later asked client.done stands few event command differs ask in
-            let is = rw reply at answered in (
-              (a, earlier, joins, inr (rw of among, (λ e. differs (ap command_text (sym e ∙ of))), is)),
+            let is = rw reply at answered in
+            let many = after_done (event ∷ later) asked client.done a earlier again few joins in (
+              (a, earlier, joins, many, inr (rw of among, (λ e. differs (ap command_text (sym e ∙ of))), is)),
               rw is (not_told lane count client later event command ask (inr (asked, among, asks))),
             ))
       ]
@@ -282,14 +298,15 @@ module _ (lane : Lane) (start : Room) (past : History) (holds : HoldsSlot lane p
   told_by : (client : Client) (between : History) (event : EventModel) (told : Option AnswerModel)
       (command : CommandModel) → Knows lane count past client between
       → IsAsk lane (count + length client.done) command event → suc (length client.done) < 2 ^ 32
-      → told ≡ Some (answer_to start between event) → IsTold lane start client (event ∷ between) command told
+      → told ≡ Some (answer_to start between event) → IsTold lane start count client (event ∷ between) command told
   told_by client between event told command (later, is, has) ask few answered =
       rw is (answered_by client later event told command has ask few (rw is at answered)).0
 
   pub client_told : (client : Client) (between next : History) (sent : List Attempt) (one : Attempt)
       (command : CommandModel) → KeepsRule lane count idle sent client → Taken start past sent between
       → IsAsk lane (count + length client.done) command one.event → Meets start between one next
-      → is_lost one.told ≡ false → suc (length client.done) < 2 ^ 32 → IsTold lane start client next command one.told
+      → is_lost one.told ≡ false → suc (length client.done) < 2 ^ 32
+      → IsTold lane start count client next command one.told
   client_told client between next sent one command keeps taken ask (inl (answered, joins)) told few =
       rw joins (told_by client between one.event one.told command
       (after_attempts client between sent keeps taken few) ask few answered)

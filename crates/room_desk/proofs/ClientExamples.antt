@@ -1,17 +1,19 @@
 -- Worked examples of a client: what keeps its rule, and what does not.
-use Rattle.std.proofs.Common.{◌≡◌, ℕ, refl, arith, inl, inr, Bool, true, false, List, [], ◌∷◌, Option, None, Some}
+use Rattle.std.proofs.Common.{◌≡◌, ℕ, suc, refl, ap, arith, inl, inr, true, false, List, [], ◌∷◌, length, Option}
+use Rattle.std.proofs.Common.{None, Some}
 use Rattle.std.specs.Prelude.{codes}
 use Rattle.std.proofs.lemmas.Bool.{both_ways}
 use Rattle.room_records.proofs.PathParts.{root_is_path}
 use Rattle.room_acl.specs.SubjectModel.{SubjectModel}
+use Rattle.room_records.specs.Room.{Room}
 use Rattle.room_commands.specs.CommandModel as C
 use Rattle.room_commands.specs.CommandModel.{CommandModel}
 use Rattle.room_commands.specs.Lawful.{IsLawful}
 use Rattle.room_wire.specs.declared.answers.code.Code.TheVariants.{Delay, SeqFalseRetry}
 use Rattle.room_wire.specs.Asks.EventModel.{EventModel, Open, Close, Slot}
 use Rattle.room_desk.specs.AnswerModel.{AnswerModel, Reply, Refused}
-use Rattle.room_desk.specs.History.{History}
-use Rattle.room_desk.specs.Client.{Lane, HoldsSlot, Asks, Attempt, Client, idle, AsksOn, KeepsRule}
+use Rattle.room_desk.specs.History.{History, answer_to}
+use Rattle.room_desk.specs.Client.{Lane, HoldsSlot, Asks, Attempt, Client, idle, AsksOn, KeepsRule, IsTold}
 
 abbrev ann : SubjectModel
 ann = record { name = codes "ann"; groups = codes "eng" ∷ [] }
@@ -112,3 +114,30 @@ gives_up = (
   inr (stat_root, ((refl, refl), refl, lawful), inl refl),
   (_, inr (list_root, ((refl, refl), refl, lawful), inr (refl, stat_root, (inl refl, tt), refl)), refl),
 )
+
+-- ann asks for the same command twice, and for each is told the reply of its own run
+abbrev opened : History
+opened = Open ann s 3 ∷ []
+
+abbrev once : History
+once = by ann 1 stat_root ∷ opened
+
+abbrev twice : History
+twice = by ann 2 stat_root ∷ once
+
+told_first : (start : Room)
+    → IsTold lane start 0 idle once stat_root (Some (answer_to start opened (by ann 1 stat_root)))
+told_first start = (_, _, refl, refl, inl (refl, inl refl))
+
+told_second : (start : Room) → IsTold lane start 0 (record { done = stat_root ∷ []; asking = [] }) twice stat_root
+    (Some (answer_to start once (by ann 2 stat_root)))
+told_second start = (_, _, refl, refl, inl (refl, inl refl))
+
+-- but not that of the second run for the first, nor that of a run before the law begins
+not_of_the_second : (start : Room) (told : Option AnswerModel) → IsTold lane start 0 idle twice stat_root told → ⊥
+not_of_the_second start told (a, earlier, last, many, tells) =
+    let two : 2 ≡ suc (length earlier) = ap length last in absurd (omega (arith, two, many))
+
+not_of_one_before : (start : Room) (told : Option AnswerModel) → IsTold lane start 1 idle once stat_root told → ⊥
+not_of_one_before start told (a, earlier, last, many, tells) =
+    let one : 1 ≡ suc (length earlier) = ap length last in absurd (omega (arith, one, many))

@@ -208,7 +208,8 @@ module _ (start : Room) where
         → EventAnswered view before event answered after → (view after).is_intact
         → IsAsk lane (length (ran lane past) + length client.done) command event
         → (answered ≡ Refused Delay → ⊥)
-        → (next : History) × StandsFor start next (view after) × IsTold lane start client next command (Some answered)
+        → (next : History) × StandsFor start next (view after)
+        × IsTold lane start (length (ran lane past)) client next command (Some answered)
     client_hears lane past runs found left sent client before after event answered command stand holds stops less
         keeps few laid_out rows call intact ask other =
         let (mid, taken, at_end) = all_streams past runs found left stand stops in

@@ -152,13 +152,13 @@ answer_again start a = if a.request.keep then Reply (original_reply start a) els
 -- in its slot all have run of which it was told, each once, in order, and perhaps one that it asked for since, once
 abbrev pub HasDone : Lane → Client → (past next : History) → Type 0
 HasDone lane client past next = HoldsSlot lane next × ((ran lane next ≡ client.done ++ ran lane past)
-    ⊎ ((command : CommandModel) × Contains client.asking command
-    × (ran lane next ≡ command ∷ client.done ++ ran lane past)))
+    ⊎ ((c : CommandModel) × Contains client.asking c × (ran lane next ≡ c ∷ client.done ++ ran lane past)))
 
--- told, and not DELAY: the reply of the one run; RETRY_UNCACHED, if not kept; a false retry, if another ran instead
-abbrev pub IsTold : Lane → Room → Client → History → CommandModel → Option AnswerModel → Type 0
-IsTold lane start client next command told =
+-- told, of the one run after all that it knew of: its reply; RETRY_UNCACHED, if not kept; a false retry, if another's
+abbrev pub IsTold : Lane → Room → ℕ → Client → History → CommandModel → Option AnswerModel → Type 0
+IsTold lane start count client next command told =
     (a : Accepted) × (earlier : List Accepted) × (accepted next lane.sid lane.slot ≡ a ∷ earlier)
+    × (length earlier ≡ count + length client.done)
     × (((a.request.command ≡ command) × ((told ≡ Some (Reply (original_reply start a)))
     ⊎ ((told ≡ Some (Refused RetryUncached)) × (a.request.keep ≡ false))))
     ⊎ (Contains client.asking a.request.command × (a.request.command ≢ command)

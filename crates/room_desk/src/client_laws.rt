@@ -77,7 +77,7 @@ pub fn a_client_that_asks_until_it_is_answered_acts_once()
         KeepsRule lane (length (ran lane past)) idle sent client → Taken start past sent mid →
         IsAsk lane (length (ran lane past) + length client.done) command last.event → Meets start mid last next →
         is_lost last.told ≡ false → suc (length client.done) < 2 ^ 32 →
-        IsTold lane start client next command last.told }
+        IsTold lane start (length (ran lane past)) client next command last.told }
 {}
 
 /// The attempts of that law are what a room does: a run (`run`); a run with an event more that is in doubt, as after a
@@ -117,7 +117,7 @@ pub fn a_client_acts_once_across_stops<S: Shelf>()
         EventAnswered S.view before event answered after → (S.view after).is_intact →
         IsAsk lane (length (ran lane past) + length client.done) command event → answered ≢ Refused Delay →
         (next : History) × StandsFor start next (S.view after)
-        × IsTold lane start client next command (Some answered) }
+        × IsTold lane start (length (ran lane past)) client next command (Some answered) }
 {}
 
 /// Messages that are answered in turn from a store that is there are such attempts, and a stop after them leaves rows

@@ -259,7 +259,8 @@ taken_apart start past next (one ∷ rest) more (then, meets, taken) =
 abbrev pub WasTold : Lane → Room → Client → History → CommandModel → (sent later : List Attempt) → Attempt
     → (History → Type 0) → Type 0
 WasTold lane start client past command sent later asked Ends = (then next : History)
-    × Taken start past (sent ++ (asked ∷ [])) then × IsTold lane start client then command asked.told
+    × Taken start past (sent ++ (asked ∷ [])) then
+    × IsTold lane start (length (ran lane past)) client then command asked.told
     × Taken start then later next × Ends next
 
 module _ (start : Room) (lane : Lane) (past : History) (sent later : List Attempt) (asked : Attempt)

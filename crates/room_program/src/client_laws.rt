@@ -126,7 +126,7 @@ pub fn a_client_acts_once_over_files()
         KeepsRule lane (length (ran lane past)) idle sent client → suc (length client.done) < 2 ^ 32 →
         IsAsk lane (length (ran lane past) + length client.done) command asked.event → is_lost asked.told ≡ false →
         ∥ ((then next : History) × Taken start past (sent ++ asked ∷ []) then
-        × IsTold lane start client then command asked.told
+        × IsTold lane start (length (ran lane past)) client then command asked.told
         × Taken start then later next × HoldsRoom left start next) ∥₁ }
 {}
 
@@ -149,6 +149,6 @@ pub fn a_client_is_told_of_its_one_run<S: Start>()
         KeepsRule lane (length (ran lane past)) idle sent client → suc (length client.done) < 2 ^ 32 →
         IsAsk lane (length (ran lane past) + length client.done) command asked.event → is_lost asked.told ≡ false →
         ∥ ((then next : History) × Taken start past (sent ++ asked ∷ []) then
-        × IsTold lane start client then command asked.told × Taken start then later next
+        × IsTold lane start (length (ran lane past)) client then command asked.told × Taken start then later next
         × StandsFor start next (⟦<CachedShelf<SqlShelf<FileStore<FileFrom<S>>>> as Shelf>⟧.view last)) ∥₁ }
 {}
