@@ -1,10 +1,13 @@
 """The front's log of changes, and `fileroom-admin log`: each change once, however its request is written."""
 import base64
+import gzip
+import itertools
 import json
 import os
 import subprocess
 import sys
 
+import edited
 from nginx import Front
 from served import HERE, Line, Room, bytes_of, message
 
@@ -12,6 +15,7 @@ ADMIN = os.path.join(HERE, "..", "service", "admin", "fileroom-admin")
 CLIENT = os.path.join(HERE, "..", "client", "room")
 SID = "0123456789abcdef0123456789abcdef"
 USERS = {"ann": "ann-word", "bob": "bob-word"}
+MOST = 90 << 10  # KiB of memory, however long the log is
 LONGEST = 7500  # bytes of a line of the log, whatever is asked
 
 
@@ -202,7 +206,7 @@ def out_of_a_file(asked, tally):
 
 
 def hides_no_owner(asked, tally):
-    """Among the pieces of a large file too each new owner and each list is told."""
+    """Among the pieces of a large file too each new owner, each list and each odd command is told."""
     inside, entry = "/c/.room-pieces-0123456789abcdef", {"type": 0, "flag": 0, "mask": 0x1F07FF, "who": "eve"}
     about = {"time": "2026-11-28T09:00:00+00:00", "from": "::1", "user": "ann", "status": "200", "length": "10"}
     root = os.path.join(asked.folder, "owners")
@@ -213,13 +217,38 @@ def hides_no_owner(asked, tally):
                 {"cmd": "SETLIST", "path": f"{inside}/000", "aclflag": 0, "entries": [entry]},
                 {"cmd": "CHOWN", "path": f"{inside}/000", "owner": "bob", "group": "eng"},
                 {"cmd": "CHOWN", "path": inside, "owner": "bob", "group": "eng"},
-                {"cmd": "CHOWN", "path": inside, "owner": "eve", "group": "eng"})):
+                {"cmd": "CHOWN", "path": inside, "owner": "eve", "group": "eng"},
+                {"cmd": "TURN", "path": f"{inside}/000"})):
             its = {**about, "slot": f"plans/v1/sessions/{SID}/slots/0/{at}", "asked": json.dumps(body)}
             file.write(json.dumps(its) + "\n")
     of = "of the large file /c"
     tally.differs("owners and lists", asked.tells(root=root), (0, [["ann", f"done  {it}"] for it in (
         f"CREATE+MKDIR {of} (2 requests)", f"SETLIST {inside}/000: allow eve 1f07ff",
-        f"CHOWN {of} to bob:eng (2 requests)", f"CHOWN {of} to eve:eng (1 requests)")], ""))
+        f"CHOWN {of} to bob:eng (2 requests)", f"CHOWN {of} to eve:eng (1 requests)", f"TURN {inside}/000")], ""))
+
+
+def of_any_length(asked, tally):
+    """A long log takes little memory, whether each line is a change, or a part of one file by a slot of its own. Each
+    change is told in its turn; what is sent again is told once, unless many others came between."""
+    about = {"time": "2026-11-28T09:00:00+00:00", "from": "::1", "user": "ann", "status": "200", "length": "10"}
+    root, inside = os.path.join(asked.folder, "long"), "/f/.room-pieces-0123456789abcdef"
+    long, many = "x" * 3000, 10_000
+    os.makedirs(os.path.join(root, "var", "log", "fileroom"))
+    again = [("again", "/again")]
+    with gzip.open(os.path.join(root, "var", "log", "fileroom", "changes.log.1.gz"), "wt", 1) as file:
+        for at, path in itertools.chain(again, ((at, f"/{at}-{long}") for at in range(many)), again * 2, (
+                (f"f{at}", f"{inside}/{at}-{long}") for at in range(many))):
+            its = {**about, "slot": f"plans/v1/sessions/{SID}/slots/{at}/1",
+                   "asked": json.dumps({"cmd": "MKDIR", "path": path})}
+            file.write(json.dumps(its) + "\n")
+    status, faults, memory = edited.measured(sys.executable, "-B", ADMIN, "--root", root, "log", "plans")
+    tally.differs(f"a long log: {memory} KiB{faults}", (status, faults, memory < MOST), (0, "", True))
+    lines = [line for _, line in asked.tells(root=root)[1]]
+    tally.differs("each in its turn", [it.replace(long, "") for it in lines], [
+        "done  MKDIR /again", *(f"done  MKDIR /{at}-" for at in range(many)), "done  MKDIR /again  (2 times)",
+        f"done  MKDIR of the large file /f ({many} requests)"])
+    status, lines, _ = asked.tells("--path", f"{inside}/9-{long}", root=root)
+    tally.differs("a file by one of its parts", (status, len(lines)), (0, 1))
 
 
 def filters(asked, tally):
@@ -248,6 +277,6 @@ def filters(asked, tally):
 def tried(folder, tally):
     asked = Asked(folder)
     for task in each_command, odd_forms, hides_nothing, once_each, large_files, out_of_a_file, hides_no_owner, \
-            filters:
+            of_any_length, filters:
         task(asked, tally)
     asked.room.kill()

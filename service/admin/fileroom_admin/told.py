@@ -1,6 +1,8 @@
 """Who changed what in a room, and when: the front's log of changes, with a line for each change."""
+import collections
 import datetime
 import gzip
+import hashlib
 import json
 import os
 import re
@@ -10,6 +12,8 @@ from .places import CHANGES, Fault
 
 DONE_MOST = 24  # bytes of a reply: {"code":0,"size":65536} is the longest of what was done, and refusals are longer
 ODD_MOST = 200  # letters of one in an odd form
+WAITING = 5000  # changes that may still be sent again, or go on
+OF_A_FILE = {"MKDIR", "CREATE", "WRITE", "APPEND", "RENAME", "REMOVE", "CHOWN"}
 APART = datetime.timedelta(minutes=10)  # pieces of a large file that come later than this are another upload
 # of a large file (docs/FILES.md)
 PART = re.compile(r"(.+?)/\.room-(?:file|(?:writing|pieces|gone|new)-[0-9a-f]{16})(?:/.*)?")
@@ -46,59 +50,31 @@ def since_when(text):
         raise Fault(f"{text!r} is no time: a day (2026-11-28), with a time (2026-11-28T09:00), or 3d, 12h") from None
 
 
-class Change:
-    """A request that asked for a change, as the first line of it has it; `count` is how often it was sent."""
+class Command:
+    """What a request asked for, by the text that the log has of it."""
 
-    def __init__(self, line):
-        its = json.loads(line.decode("utf-8", "replace"))  # (a text can be cut within a letter)
-        self.room, _, rest = its["slot"].partition("/")
-        self.slot, self.number = rest.rsplit("/", 1)
-        self.time, self.user, self.source = datetime.datetime.fromisoformat(its["time"]), its["user"], its["from"]
-        self.text, self.count, self.parts, self.last = its["asked"], 1, 0, self.time
-        self.status, self.outcome = its["status"], outcome_of(its["status"], its["length"])
-        self.asked = members_of(self.text)
-        self.cmd, self.path, self.cmds, self.paths = self.word("cmd"), self.word("path"), set(), self.all_paths()
-        self.file = self.file_of_all()
+    def __init__(self, text):
+        self.text, self.asked = text, members_of(text)
+        self.cmd, self.path = self.word("cmd"), self.word("path")
+        self.paths = {*filter(None, map(self.word, ("path", "to")))}
+        self.file, self.whose = self.file_of_all(), self.more() or "" if self.cmd == "CHOWN" else ""
 
     def word(self, member):
         """A member that is a text, or an empty one."""
         its = (self.asked or {}).get(member)
         return its if isinstance(its, str) else ""
 
-    def all_paths(self):
-        return {*filter(None, map(self.word, ("path", "to")))}
-
     def file_of_all(self):
         """The large file that each of its paths is a part of. (What leaves a file is something by itself, and so is a
         list, which no line may hide.)"""
-        files = {part and part[1] for part in map(PART.fullmatch, self.all_paths())}
-        return files.pop() if len(files) == 1 and self.cmd != "SETLIST" else None
-
-    def whose(self):
-        """To whom it gives what it names, if it does."""
-        return self.more() or "" if self.cmd == "CHOWN" else ""
+        files = {part and part[1] for part in map(PART.fullmatch, self.paths)}
+        return files.pop() if len(files) == 1 and self.cmd in OF_A_FILE else None
 
     def is_below(self, top):
         """Whether it is, or may be: a path that is not known can be any."""
         return not self.path or any(it == top or it.startswith(f"{top.rstrip('/')}/") for it in self.paths)
 
-    def again(self, other):
-        """It was sent again. What the room did stands, whatever else was answered before or after."""
-        self.count += 1
-        if self.outcome == "no answer" or other.status == "200" != self.status:
-            self.status, self.outcome = other.status, other.outcome
-
-    def also(self, other):
-        """Another request of the same large file."""
-        self.parts += 1
-        self.cmds.add(other.cmd)
-        self.paths |= other.paths
-        self.outcome = self.outcome if self.outcome == other.outcome else "done in part"
-        self.last = other.time
-
     def words(self):
-        if self.file:
-            return f"{'+'.join(sorted(self.cmds))} of the large file {self.file}{self.whose()} ({self.parts} requests)"
         more = self.more()
         return self.odd() if None in (self.cmd or None, self.path or None, more) else f"{self.cmd} {self.path}{more}"
 
@@ -116,9 +92,45 @@ class Change:
         cut = f" (cut, or no command: {len(self.text)} letters are kept)" if self.asked is None else ""
         return f"in an odd form{cut}: {' '.join(self.text.split())[:ODD_MOST] or 'blanks alone'}"
 
+
+class Change:
+    """A request that asked for a change, as the first line of it has it; `count` is how often it was sent. Many of them
+    wait to be told, so of the text it has what is told, and a sum."""
+
+    def __init__(self, line, is_wanted):
+        its = json.loads(line.decode("utf-8", "replace"))  # (a text can be cut within a letter)
+        command = Command(its["asked"])
+        self.room, _, rest = its["slot"].partition("/")
+        self.slot, self.number = rest.rsplit("/", 1)
+        self.time, self.user, self.source = datetime.datetime.fromisoformat(its["time"]), its["user"], its["from"]
+        self.sum = hashlib.sha256(command.text.encode(errors="surrogatepass")).digest()
+        self.file, self.whose, self.cmd, self.words = command.file, command.whose, command.cmd, command.words()
+        self.count, self.parts, self.cmds, self.last = 1, 0, set(), self.time
+        self.status, self.outcome = its["status"], outcome_of(its["status"], its["length"])
+        self.is_wanted = is_wanted(self.user, command)
+
+    def is_again(self, other):
+        return (self.number, self.sum, self.user) == (other.number, other.sum, other.user)
+
+    def again(self, other):
+        """It was sent again. What the room did stands, whatever else was answered before or after."""
+        self.count += 1
+        if self.outcome == "no answer" or other.status == "200" != self.status:
+            self.status, self.outcome = other.status, other.outcome
+
+    def also(self, other):
+        """Another request of the same large file."""
+        self.parts += 1
+        self.cmds.add(other.cmd)
+        self.is_wanted |= other.is_wanted
+        self.outcome = self.outcome if self.outcome == other.outcome else "done in part"
+        self.last = other.time
+
     def told(self):
+        words = f"{'+'.join(sorted(self.cmds))} of the large file {self.file}{self.whose} ({self.parts} requests)" \
+            if self.file else self.words
         again = f"  ({self.count} times)" if self.count > 1 else ""
-        return "  ".join([self.time.isoformat(), self.user, self.source, self.outcome, self.words()]) + again
+        return "  ".join([self.time.isoformat(), self.user, self.source, self.outcome, words]) + again
 
 
 def outcome_of(status, length):
@@ -154,42 +166,65 @@ def is_entry(it):
 
 
 class Told:
-    """What came of the lines so far: each change once, with the requests of a large file as one."""
+    """What came of a room's lines: each change once, with the requests of a large file as one, in the order in which
+    they began. Of a log of any length WAITING changes wait at most, and so many slots are known: what is sent again
+    after more of them, or belongs to a large file that began before them, is told by itself."""
 
-    def __init__(self):
-        self.changes, self.last, self.files = [], {}, {}
+    def __init__(self, tell):
+        self.tell, self.waiting, self.last, self.files = tell, collections.deque(), collections.OrderedDict(), {}
 
     def take(self, change):
-        before = self.last.get((change.room, change.slot))
-        if before and (before.number, before.text, before.user) == (change.number, change.text, change.user):
+        file = change.user, change.file, change.whose
+        before, whole = self.last.get(change.slot), self.files.get(file) if change.file else None
+        if before and before.is_again(change):
             before.again(change)
             return
-        self.last[change.room, change.slot] = change
-        file = change.room, change.user, change.file, change.whose()
-        whole = change.file and self.files.get(file)
+        self.last[change.slot] = change
+        self.last.move_to_end(change.slot)
+        if len(self.last) > WAITING:
+            self.last.popitem(last=False)
         if whole and change.time - whole.last < APART:
             whole.also(change)
             return
         if change.file:
             change.also(change)
             self.files[file] = change
-        self.changes.append(change)
+        self.waiting.append(change)
+        if len(self.waiting) > WAITING:
+            self.tell_first()
+
+    def tell_first(self):
+        change = self.waiting.popleft()
+        file = change.user, change.file, change.whose
+        if self.files.get(file) is change:
+            del self.files[file]
+        if self.last.get(change.slot) is change:
+            del self.last[change.slot]
+        if change.is_wanted:
+            self.tell(change.told())
+
+    def end(self):
+        while self.waiting:
+            self.tell_first()
 
 
 def log(places, room, given, say):
     """Those of a room, of one user, at or below a path, since a time, as wanted."""
     since = since_when(given.since) if given.since else None
-    told, odd, shown = Told(), 0, of_backups().shown
+    odd, shown = 0, of_backups().shown
+    told = Told(lambda text: say(shown(text)))
+
+    def is_wanted(user, command):
+        return given.user in (None, user) and (given.path is None or command.is_below(given.path))
+
     for line in lines_of(places, since):
         try:
-            change = Change(line)
+            change = Change(line, is_wanted)
         except (ValueError, KeyError, TypeError, AttributeError):
             odd += 1
             continue
         if change.room == room and (since is None or change.time >= since):
             told.take(change)
-    for it in told.changes:
-        if given.user in (None, it.user) and (given.path is None or it.is_below(given.path)):
-            say(shown(it.told()))
+    told.end()
     if odd:
         raise Fault(f"{odd} lines of the log cannot be read")
