@@ -12,6 +12,7 @@ import resource
 import shutil
 import sqlite3
 import subprocess
+from unittest import mock
 
 import manifests
 from machines import SERVICE
@@ -139,17 +140,54 @@ def taken_out(folder, tally):
     tally.differs("and again as before", resource.getrlimit(resource.RLIMIT_AS)[0], before)
 
 
-@contextlib.contextmanager
-def little(copy):
-    """Bounds of memory before, and while a file is open."""
+def script():
+    """`fileroom-one` as a module."""
     loader = importlib.machinery.SourceFileLoader("one", os.path.join(SERVICE, "fileroom-one"))
     one = importlib.util.module_from_spec(importlib.util.spec_from_loader("one", loader))
     loader.exec_module(one)
+    return one
+
+
+@contextlib.contextmanager
+def little(copy):
+    """Bounds of memory before, and while a file is open."""
+    one = script()
     before = resource.getrlimit(resource.RLIMIT_AS)[0]
     with one.opened(copy) as table:
         tally_of = [table.execute(f"PRAGMA {it}").fetchone()[0] for it in ("trusted_schema", "cell_size_check")]
         assert tally_of == [0, 1], tally_of
         yield before, resource.getrlimit(resource.RLIMIT_AS)[0]
+
+
+def grows(folder, tally):
+    """A file that somebody writes to while it is copied: no more comes out than the disk was asked for, and it is
+    refused, also where its size is as it was."""
+    one = script()
+    for what, begin, mode in ("that grows", b"more" * 1000, "ab"), ("in which somebody writes", b"more", "r+b"):
+        its, to = (os.path.join(folder, f"{it} {what}") for it in ("from", "to"))
+        os.mkdir(its)
+        os.mkdir(to)
+        with open(os.path.join(its, "room.db"), "wb") as file:
+            file.write(b"x" * 5000)
+        os.utime(file.name, (0, 0))
+
+        def writes(at, free=shutil.disk_usage):
+            with open(os.path.join(its, "room.db"), mode) as file:
+                file.write(begin)
+            return free(at)
+
+        with mock.patch.object(one.shutil, "disk_usage", writes):
+            told = raised(one, its, to)
+        tally.differs(f"a file {what}: {told}", ("was changed while it was copied" in told, os.path.getsize(
+            os.path.join(to, "room.db"))), (True, 5000))
+
+
+def raised(one, folder, to):
+    try:
+        one.copy_room(folder, to)
+    except one.Fault as fault:
+        return str(fault)
+    return ""
 
 
 def as_told(tally):
@@ -160,4 +198,5 @@ def as_told(tally):
 
 def tried(folder, tally):
     as_told(tally)
+    grows(folder, tally)
     taken_out(folder, tally)
