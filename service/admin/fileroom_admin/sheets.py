@@ -2,31 +2,57 @@
 (separated by blanks) and `name`, as people write it."""
 import csv
 import io
+import os
 import re
+import stat
 
 from . import rosters
-from .places import Fault, read
+from .places import Fault
 
 COLUMNS = ["user", "groups", "name"]
-LARGEST = 1 << 20  # letters of a table
+LARGEST = 1 << 20  # bytes of a table
+# What a spreadsheet computes by its first letter, also where it takes wide letters for narrow ones, stands behind an
+# apostrophe: then it is text. So does what begins like that itself, or with a blank, which would be lost.
+FORMULA = r"[=+\-@\s\uff1d\uff0b\uff0d\uff20]"
 
 
 def text_of(path):
     """(As Excel writes it: of UTF-8 with a mark, or of Windows' letters.)"""
+    data = bytes_of(path)
     try:
-        return read(path, encoding="utf-8-sig")
-    except Fault as fault:
-        if not isinstance(fault.__context__, UnicodeDecodeError):
-            raise
-    return read(path, encoding="cp1252")
+        return data.decode("utf-8-sig")
+    except UnicodeDecodeError:
+        pass
+    try:
+        return data.decode("cp1252")
+    except UnicodeDecodeError as fault:
+        raise Fault(f"{path} cannot be read: {fault}") from None
+
+
+def bytes_of(path):
+    """Of a plain file: at a pipe this would wait, with all others who change something behind it."""
+    with open(os.open(path, os.O_RDONLY | os.O_NONBLOCK | os.O_CLOEXEC), "rb") as file:
+        if not stat.S_ISREG(os.fstat(file.fileno()).st_mode):
+            raise Fault(f"{path} is no file")
+        data = file.read(LARGEST + 1)
+    if len(data) > LARGEST:
+        raise Fault(f"{path} is longer than a table of {rosters.USERS} users")
+    return data
+
+
+def as_cell(text):
+    return f"'{text}" if re.match(f"'*{FORMULA}", text) else text
+
+
+def of_cell(cell):
+    text = cell.strip()
+    return text[1:] if re.match(f"'+{FORMULA}", text) else text
 
 
 def rows_of(path):
     """Each row with its line: what stands in its columns."""
     text = text_of(path)
     first = text.partition("\n")[0]
-    if len(text) > LARGEST:
-        raise Fault(f"{path} is longer than a table of {rosters.USERS} users")
     lines = csv.reader(io.StringIO(text, newline=""), strict=True, delimiter=";" if ";" in first else ",")
     try:
         head = [it.strip().lower() for it in next(lines, [])]
@@ -56,7 +82,7 @@ def read_users(path, there, is_update):
 def row_of(head, row):
     if len(row) != len(head):
         raise Fault(f"{len(row)} columns, and the first line names {len(head)}")
-    its = dict(zip(head, map(str.strip, row)))
+    its = dict(zip(head, map(of_cell, row)))
     rosters.need_name(its["user"], "the user")
     groups = re.findall(r"[^\s,;]+", its["groups"]) if "groups" in its else None
     for it in groups or ():
@@ -73,5 +99,5 @@ def written(users, names):
     made = io.StringIO()
     lines = csv.writer(made, lineterminator="\n")
     lines.writerow(COLUMNS)
-    lines.writerows([user, " ".join(groups), names.get(user, "")] for user, groups in users.items())
+    lines.writerows(map(as_cell, (user, " ".join(groups), names.get(user, ""))) for user, groups in users.items())
     return made.getvalue()
