@@ -9,7 +9,7 @@ import re
 
 from . import rosters
 from .changes import Change
-from .dav import SERVICE, Dav, need_place
+from .dav import SERVICE, SOCKET, Dav, need_place
 from .moving import Rooms, units_of
 from .people import FOR_WORKERS
 from .places import (ASIDE, CHANGES, FRONT_FILES, HERE, LISTEN, LOGINS, REDIRECT, WORKERS, Fault, asked, read, said,
@@ -126,6 +126,7 @@ class Commands(Rooms, Dav):
             change.then("systemctl", "try-restart", *map(self.places.unit, rooms))
         self.serve_dav(change, before, with_dav)
         if with_dav:
+            change.then("systemctl", "enable", "--now", SOCKET)  # (a purge of the package took its link)
             change.then("systemctl", "try-restart", SERVICE)
         change.happen()
         self.say(f"the front has the files of this program, and the rooms {', '.join(self.places.rooms()) or 'none'}")
