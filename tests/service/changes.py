@@ -15,7 +15,7 @@ ADMIN = os.path.join(HERE, "..", "service", "admin", "fileroom-admin")
 CLIENT = os.path.join(HERE, "..", "client", "room")
 SID = "0123456789abcdef0123456789abcdef"
 USERS = {"ann": "ann-word", "bob": "bob-word"}
-MOST = 90 << 10  # KiB of memory, however long the log is
+MOST = 70 << 10  # KiB of memory, however long the log is
 LONGEST = 7500  # bytes of a line of the log, whatever is asked
 
 
@@ -232,7 +232,7 @@ def of_any_length(asked, tally):
     change is told in its turn; what is sent again is told once, unless many others came between."""
     about = {"time": "2026-11-28T09:00:00+00:00", "from": "::1", "user": "ann", "status": "200", "length": "10"}
     root, inside = os.path.join(asked.folder, "long"), "/f/.room-pieces-0123456789abcdef"
-    long, many = "x" * 3000, 10_000
+    long, many = "x" * 1000, 30_000
     os.makedirs(os.path.join(root, "var", "log", "fileroom"))
     again = [("again", "/again")]
     with gzip.open(os.path.join(root, "var", "log", "fileroom", "changes.log.1.gz"), "wt", 1) as file:
