@@ -5,7 +5,6 @@ alone.
 """
 import contextlib
 import errno
-import json
 import math
 import os
 import re
@@ -13,10 +12,10 @@ import secrets
 import threading
 import time
 from collections import Counter
-from collections.abc import Iterator
 from dataclasses import asdict, dataclass, replace
 
 from .faults import Answered, Busy
+from .kept import line_of, read_lines, record
 from .names import above, is_below
 from .spool import disk
 
@@ -61,21 +60,19 @@ class Locks:
         self.rooms: dict[str, dict[str, dict[str, Lock]]] = {}  # by path and token
         self.counts: Counter[str] = Counter()  # of users
         self.first_end, self.file = 0.0, -1
-        for it in lines_of(path):
-            self._take_line(it)
+        read_lines(path, self._take_line)
         self._write_anew()
 
     # What is kept
 
     def _take_line(self, line: object) -> None:
-        """(What a halt of the machine cut is no lock.)"""
-        with contextlib.suppress(TypeError, KeyError):
-            if isinstance(line, dict):
-                for token in line["gone"]:
-                    self._forget(token)
-            else:
-                for it in line:
-                    self._remember(Lock(**it))
+        """A list of locks that are held, or the tokens of those that are gone."""
+        if isinstance(line, list):
+            for it in line:
+                self._remember(record(Lock, it))
+        else:
+            for token in line["gone"]:
+                self._forget(token)
 
     def _write_anew(self) -> None:
         new = os.open(self.path + ".new", os.O_WRONLY | os.O_CREAT | os.O_TRUNC | os.O_APPEND, 0o600)
@@ -197,18 +194,6 @@ class Locks:
         """What is gone, or has another name, is locked no longer."""
         with self.mutex:
             self.drop([it.token for it in [*self.on(room, path), *self.below(room, path)]])
-
-
-def line_of(what: list | dict) -> bytes:
-    return json.dumps(what).encode() + b"\n"
-
-
-def lines_of(path: str) -> Iterator[object]:
-    """Each line of the file: a list of locks that are held, or the tokens of those that are gone."""
-    with contextlib.suppress(OSError), open(path, encoding="utf-8", errors="replace") as file:
-        for line in file:
-            with contextlib.suppress(ValueError):
-                yield json.loads(line)
 
 
 @dataclass(frozen=True)

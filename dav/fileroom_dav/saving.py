@@ -16,8 +16,9 @@ from room_client.words import ALL, FOLDER, GROUP, INHERITED, LIST_FLAGS, TO_FILE
 
 from .asked import Asked
 from .faults import Answered, NotThere, is_refused, is_sure, making
+from .kept import say
 from .names import above, below, beside, is_backup, is_temporary, last
-from .steps import Aside, Step, of_what, say
+from .steps import Aside, Step, of_what
 from .tree import Thing, bytes_of, is_folder, is_there, thing_at
 from .visit import Visit
 

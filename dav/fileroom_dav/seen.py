@@ -6,6 +6,8 @@ import sqlite3
 import threading
 import time
 
+from .kept import set_aside
+
 MOST = 200_000  # versions
 FORM = """
 CREATE TABLE IF NOT EXISTS seen (room TEXT, path TEXT, sum TEXT, time INTEGER, PRIMARY KEY (room, path)) WITHOUT ROWID
@@ -13,6 +15,7 @@ CREATE TABLE IF NOT EXISTS seen (room TEXT, path TEXT, sum TEXT, time INTEGER, P
 
 
 def opened(path: str) -> sqlite3.Connection:
+    os.close(os.open(path, os.O_RDWR | os.O_CREAT, 0o600))
     table = sqlite3.connect(path, check_same_thread=False, isolation_level=None)
     table.execute("PRAGMA synchronous = OFF")
     table.execute("PRAGMA journal_mode = MEMORY")
@@ -23,11 +26,10 @@ def opened(path: str) -> sqlite3.Connection:
 class Seen:
     def __init__(self, path: str, now=time.time):
         self.now, self.mutex = now, threading.Lock()
-        os.close(os.open(path, os.O_RDWR | os.O_CREAT, 0o600))
         try:
             self.table = opened(path)
-        except sqlite3.Error:  # (cut by a halt of the machine)
-            os.truncate(path, 0)
+        except (sqlite3.Error, OSError) as fault:
+            set_aside(path, str(fault))
             self.table = opened(path)
 
     def times(self, room: str, sums: dict[str, str]) -> dict[str, int]:

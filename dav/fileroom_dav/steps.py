@@ -5,10 +5,8 @@ No login is kept: so what a stop left half done is put right at the next request
 else to that folder who may.
 """
 import contextlib
-import json
 import os
 import secrets
-import sys
 import threading
 import time
 from collections.abc import Callable, Iterator
@@ -17,6 +15,7 @@ from dataclasses import asdict, dataclass, replace
 from room_client.faults import Fault, NoAnswer, SessionLost
 from room_client.words import shown
 
+from .kept import line_of, read_lines, record, say
 from .names import above
 from .spool import disk
 
@@ -55,20 +54,18 @@ class Step:
     key: str = ""
 
 
-def say(text: str) -> None:
-    print(f"fileroom-dav: {text}", file=sys.stderr, flush=True)
-
-
 def read_all(path: str, kind: type) -> list:
-    """(Where there is none, or a halt of the machine cut it, there is nothing.)"""
-    with contextlib.suppress(OSError, ValueError, TypeError), open(path, encoding="utf-8") as file:
-        return [kind(**it) for it in json.load(file)]
-    return []
+    found = []
+
+    def take(line: list) -> None:
+        found.extend(record(kind, it) for it in line)
+    read_lines(path, take)
+    return found
 
 
 def write_all(path: str, its: list) -> None:
-    with open(os.open(path + ".new", os.O_WRONLY | os.O_CREAT | os.O_TRUNC, 0o600), "w", encoding="utf-8") as file:
-        json.dump([asdict(it) for it in its], file)
+    with open(os.open(path + ".new", os.O_WRONLY | os.O_CREAT | os.O_TRUNC, 0o600), "wb") as file:
+        file.writelines(line_of([asdict(it)]) for it in its)
     os.replace(path + ".new", path)
 
 

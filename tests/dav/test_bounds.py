@@ -1,6 +1,7 @@
 """What one login holds of the gateway: memory, threads, answers that it does not read, locks; and that others are
 served meanwhile."""
 import contextlib
+import io
 import os
 import signal
 import socket
@@ -14,7 +15,7 @@ from unittest import mock
 
 import counter
 from counter import PASSWORDS, Counter
-from fileroom_dav import app, bodies, faults, locks, props, seats, spool, tree, turns
+from fileroom_dav import app, bodies, faults, locks, props, seats, spool, steps, tree, turns
 from nginx import login
 from room_client import files
 from room_client.faults import SessionLost
@@ -322,6 +323,58 @@ class Alone(unittest.TestCase):
         self.assertEqual([it.user for it in its.at("plans", "/a") + its.at("plans", "/b")], ["bob"])
         its = self.locks(now)
         self.assertEqual([it.user for it in its.at("plans", "/a") + its.at("plans", "/b")], ["bob"])
+
+    def test_a_damaged_file_of_locks(self):
+        """It is set aside, and what could be read of it holds."""
+        now = [1000.0]
+        lock, path = self.taken(self.locks(now), "/a"), os.path.join(self.folder, "locks")
+        with open(path, "rb") as file:
+            good = file.read()
+        other = vars(lock) | {"token": "t"}
+        for bad in (b"\xff\0\n", b"[" * 100_000, b'{"gone": 5}', b'["x"]', b"7",
+                    locks.line_of([other | {"room": []}]), locks.line_of([other | {"end": "x"}]),
+                    locks.line_of([other | {"path": 5}]), b'[{"token": "cut'):
+            with open(path, "wb") as file:
+                file.write(bad.rstrip() + b"\n" + good)
+            with contextlib.redirect_stderr(io.StringIO()) as said:
+                self.assertEqual(self.locks(now).at("plans", "/a"), [lock], bad[:30])
+            self.need_set_aside("locks", said, bad.rstrip() + b"\n" + good)
+        os.remove(path)
+        os.mkdir(path)
+        with contextlib.redirect_stderr(io.StringIO()) as said:
+            self.taken(self.locks(now), "/a")
+        self.need_set_aside("locks", said)
+        with contextlib.redirect_stderr(io.StringIO()) as said:
+            self.assertTrue(self.locks(now).at("plans", "/a"))
+        self.assertEqual(said.getvalue(), "")
+
+    def need_set_aside(self, name, said, data=None):
+        """Under another name, which one line says."""
+        aside, = [it for it in os.listdir(self.folder) if it.startswith(f"{name}.damaged-")]
+        self.assertEqual(said.getvalue().count("\n"), 1, said.getvalue())
+        self.assertIn(aside, said.getvalue())
+        path = os.path.join(self.folder, aside)
+        if data is None:
+            return os.rmdir(path)
+        with open(path, "rb") as file:
+            self.assertEqual(file.read(), data)
+        os.remove(path)
+
+    def test_a_gateway_starts_with_damaged_files(self):
+        """Of each kind: what could be read of them stays, and the rest is there to be looked at."""
+        names = "locks", "asides", "steps", "seen"
+        one = steps.Step("back", "plans", "ann", "/a", "/b", key="k")
+        for bad in b"\0" * 5000 + b"\n", b"[" * 100_000 + b"\n", b'[{"room": 5, "user": [], "path": {}}]\n':
+            for name in names:
+                with open(os.path.join(self.folder, name), "wb") as file:
+                    file.write(bad + locks.line_of([vars(one)]) * (name == "steps"))
+            with contextlib.redirect_stderr(io.StringIO()) as said:
+                gate = app.Gate("/none", self.folder)
+            self.assertEqual(list(gate.steps.kept.values()), [one])
+            self.assertEqual(gate.seen.times("plans", {"/a": "sum"}), {"/a": mock.ANY})
+            self.assertEqual(said.getvalue().count("damaged-"), len(names), said.getvalue())
+            for name in os.listdir(self.folder):
+                os.remove(os.path.join(self.folder, name))
 
     def test_two_thousand_locks(self):
         """Taken, found again after a kill, and freed, in seconds; another's do not count."""
