@@ -18,10 +18,12 @@ from .faults import Answered, Busy
 from .kept import line_of, read_lines, record
 from .names import above, is_below
 from .spool import disk
+from .visit import boot_id
 
 LONGEST = 1800  # seconds
 MOST, MOST_OF_ONE = 10_000, 2000  # (davfs2 has one for each file that it has not put yet)
 MOST_OVER = 1000  # lines of the file that are over, beside as many as hold
+OFTEN = 60.0  # seconds after which a request has the file tell the time again
 MOST_CONDITIONS = 50
 WORDS = re.compile(r"\s*(?:(<[^<>]*>)|(\[[^\[\]]*\])|(\()|(\))|([Nn][Oo][Tt]\b))")
 
@@ -36,10 +38,24 @@ class Lock:
     is_deep: bool
     owner: str
     seconds: int
-    end: float
+    end: float  # by the clock that nobody sets
 
     def covers(self, path: str) -> bool:
         return self.path == path or self.is_deep and is_below(path, self.path)
+
+
+@dataclass(frozen=True)
+class Stamp:
+    """When it was, by the machine's start, its clock since then, and the one that can be set."""
+
+    boot: str
+    clock: float
+    wall: float
+
+
+def running() -> float:
+    """Seconds since the machine's start, which nobody sets."""
+    return time.clock_gettime(time.CLOCK_BOOTTIME)
 
 
 class Held(Exception):
@@ -53,31 +69,49 @@ class Held(Exception):
 class Locks:
     """By rooms and paths. Each change is a line at the end of the file, which is written anew once most is over."""
 
-    def __init__(self, path: str, now=time.time):
-        self.path, self.now = path, now
+    def __init__(self, path: str, now=running, wall=time.time, boot=boot_id):
+        self.path, self.now, self.wall, self.boot = path, now, wall, boot
         self.mutex = threading.RLock()
         self.held: dict[str, Lock] = {}
         self.rooms: dict[str, dict[str, dict[str, Lock]]] = {}  # by path and token
         self.counts: Counter[str] = Counter()  # of users
         self.first_end, self.file = 0.0, -1
+        self.stamp = Stamp("", 0.0, 0.0)  # (a file without one has ends by the clock that can be set)
         read_lines(path, self._take_line)
+        self._go_on()
         self._write_anew()
 
     # What is kept
 
     def _take_line(self, line: object) -> None:
-        """A list of locks that are held, or the tokens of those that are gone."""
+        """A list of locks that are held, the tokens of those that are gone, or the time."""
         if isinstance(line, list):
             for it in line:
                 self._remember(record(Lock, it))
-        else:
+        elif "gone" in line:
             for token in line["gone"]:
                 self._forget(token)
+        else:
+            self.stamp = record(Stamp, line)
+
+    def _go_on(self) -> None:
+        """By the clock of this start of the machine. After another one the clock that can be set says how long ago the
+        file told the time; where that went back, no time went by."""
+        before, self.stamp = self.stamp, Stamp(self.boot(), self.now(), self.wall())
+        gone_by = max(self.stamp.wall - before.wall, 0.0)
+        more = self.stamp.clock - before.clock - gone_by if before.boot != self.stamp.boot else 0.0
+        for it in list(self.held.values()):
+            self._remember(replace(it, end=min(it.end + more, self.stamp.clock + it.seconds)))
+
+    def _tell_time(self) -> None:
+        self.stamp = Stamp(self.stamp.boot, self.now(), self.wall())
+        with contextlib.suppress(OSError):  # (a full disk)
+            self._note(asdict(self.stamp))
 
     def _write_anew(self) -> None:
         new = os.open(self.path + ".new", os.O_WRONLY | os.O_CREAT | os.O_TRUNC | os.O_APPEND, 0o600)
-        for it in self.held.values():
-            os.write(new, line_of([asdict(it)]))
+        for it in [asdict(self.stamp), *([asdict(it)] for it in self.held.values())]:
+            os.write(new, line_of(it))
         os.replace(self.path + ".new", self.path)
         if self.file >= 0:
             os.close(self.file)
@@ -113,6 +147,8 @@ class Locks:
     def _paths(self, room: str) -> dict[str, dict[str, Lock]]:
         """Of a room, the locks that have not ended."""
         now = self.now()
+        if now >= self.stamp.clock + OFTEN:
+            self._tell_time()
         if now >= self.first_end:
             for token in [it.token for it in self.held.values() if it.end <= now]:
                 self._forget(token)

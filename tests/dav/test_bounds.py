@@ -296,8 +296,9 @@ class Alone(unittest.TestCase):
 
     # Locks
 
-    def locks(self, now):
-        return locks.Locks(os.path.join(self.folder, "locks"), now=lambda: now[0])
+    def locks(self, now, wall=None, boot="one"):
+        """By the clock of a start of the machine, and by one that can be set."""
+        return locks.Locks(os.path.join(self.folder, "locks"), lambda: now[0], lambda: (wall or now)[0], lambda: boot)
 
     def taken(self, its, path, user="ann", **how):
         return its.take("plans", path, user, False, how.get("is_deep", False), "me", how.get("seconds", 60))
@@ -323,6 +324,37 @@ class Alone(unittest.TestCase):
         self.assertEqual([it.user for it in its.at("plans", "/a") + its.at("plans", "/b")], ["bob"])
         its = self.locks(now)
         self.assertEqual([it.user for it in its.at("plans", "/a") + its.at("plans", "/b")], ["bob"])
+
+    def test_locks_end_though_the_clock_is_set_back(self):
+        """By the seconds that went by: also over a start of the gateway, or of the machine."""
+        now, wall = [1000.0], [9000.0]
+        its = self.locks(now, wall)
+        self.taken(its, "/a", seconds=60)
+        wall[0] -= 3600.0
+        for seconds, is_held in (59.0, True), (60.0, False):
+            now[0] = 1000.0 + seconds
+            self.assertEqual([bool(it.at("plans", "/a")) for it in (its, self.locks(now, wall))], [is_held] * 2)
+        for gone_by, set_to, left in ((40.0, -3600.0, 20.0), (40.0, 0.0, 20.0), (40.0, 15.0, 5.0), (0.0, -1.0, 60.0),
+                                      (40.0, 3600.0, 0.0)):
+            now[0], before = 1000.0, wall[0]
+            self.taken(self.locks(now, wall), "/b", seconds=60)
+            now[0], wall[0] = now[0] + gone_by, before + gone_by
+            self.assertTrue(self.locks(now, wall).at("plans", "/b"))
+            now[0], wall[0] = 5.0, wall[0] + set_to
+            its = self.locks(now, wall, "two")
+            self.assertEqual([it.end for it in its.at("plans", "/b")], [5.0 + left] * bool(left), set_to)
+            os.remove(its.path)
+        self.assertLess(abs(app.Gate("/none", self.folder).locks.now() - time.clock_gettime(time.CLOCK_BOOTTIME)), 60)
+
+    def test_the_clock_is_noted_while_locks_are_asked_for(self):
+        """So that what went by before a start of the machine counts, whatever its clock says then."""
+        now, wall = [1000.0], [9000.0]
+        its = self.locks(now, wall)
+        self.taken(its, "/a", seconds=1800)
+        now[0] = 2700.0
+        its.foreign("plans", "/a", "bob", set())
+        now[0], wall[0] = 5.0, 1.0
+        self.assertEqual([it.end for it in self.locks(now, wall, "two").at("plans", "/a")], [105.0])
 
     def test_a_damaged_file_of_locks(self):
         """It is set aside, and what could be read of it holds."""
