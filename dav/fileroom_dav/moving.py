@@ -10,7 +10,7 @@ from .faults import Answered, is_refused, is_sure
 from .names import above, below, beside, is_backup, is_below, is_passing, is_short_lived, is_temporary, last
 from .rules import Rules
 from .saving import awaited, exchange, is_closed, put_backup, put_bytes, put_in_place, renamed
-from .steps import Step
+from .steps import Aside, Step
 from .tree import Thing, bytes_of, standing, thing_at
 from .visit import Visit
 from .writing import make_folder, need_folder_above, place
@@ -60,6 +60,7 @@ def moved(gate, visit: Visit, asked: Asked, source: str, target: str) -> bool:
     except Refused as fault:
         if not is_refused(fault, "EXIST"):
             raise moving(visit, fault, source) from None
+    awaited(gate, visit, asked.room, target)  # (somebody else's may have come meanwhile)
     need_overwrite(asked)
     its, there = thing_at(visit, source), thing_at(visit, target, is_shown=True)
     is_fresh = gate.asides.is_fresh(asked.room, asked.user, source)
@@ -78,7 +79,7 @@ def put_over(gate, visit: Visit, room: str, source: str, target: str) -> None:
         its = thing_at(visit, aside)
         put_bytes(visit, target, bytes_of(visit, its))
         files.remove_file(visit, aside) if its.large else visit.remove(aside)
-    gate.asides.drop(room, source)
+    gate.asides.gone(room, visit.settings.user, source)
 
 
 def moving(visit: Visit, fault: Refused, source: str) -> Exception:
@@ -115,6 +116,7 @@ def copied(gate, visit: Visit, asked: Asked, its: Thing, target: str) -> bool:
         there = None
     if there:
         need_overwrite(asked)
+        awaited(gate, visit, asked.room, target)
     is_away = there and (its.is_folder or there.is_folder or is_closed_backup(visit, its.path, target))
     with out_of_the_way(gate, visit, asked.room, target) if is_away else contextlib.nullcontext():
         copy_whole(gate, visit, asked, its, target)
@@ -175,10 +177,12 @@ def copy_folder(gate, visit: Visit, room: str, source: str, target: str, made: l
 
 @contextlib.contextmanager
 def out_of_the_way(gate, visit: Visit, room: str, path: str):
-    """What is at a path has another name while something takes its place, and goes once that is there."""
-    bin_ = None if is_short_lived(path) else trash.trash_of(visit)
+    """What is at a path has another name while something takes its place, and goes once that is there. (What was moved
+    aside goes to the trash, as where it is removed.)"""
+    one = gate.asides.is_aside(room, visit.settings.user, path)
+    bin_ = None if is_short_lived(path) and not one else trash.trash_of(visit)
     if bin_ and path != trash.TOP and not is_below(path, trash.TOP):
-        with Noted(gate, visit, room) as noted:
+        with Noted(gate, visit, room, one) as noted:
             trash.put_in_trash(noted, path, bin_)
             yield
         return
@@ -199,8 +203,9 @@ def set_aside(gate, visit: Visit, room: str, path: str):
 class Noted:
     """Renames so that it is known what to put back, where what comes behind it is refused or stopped."""
 
-    def __init__(self, gate, visit: Visit, room: str):
+    def __init__(self, gate, visit: Visit, room: str, one: Aside | None = None):
         self.steps, self.visit, self.room, self.step = gate.steps, visit, room, None
+        self.asides, self.one = gate.asides, one
 
     def __enter__(self) -> "Noted":
         return self
@@ -210,6 +215,8 @@ class Noted:
             self.steps.end(self.step)
         self.step = self.steps.begin(Step("back", self.room, self.visit.settings.user, path, to))
         self.is_done = False
+        if self.one:
+            self.asides.keep(self.one, to)
         reply = self.visit.rename(path, to)
         self.is_done = True
         return reply

@@ -15,16 +15,17 @@ from room_client.room import MOST_BYTES
 from room_client.words import ALL, FOLDER, GROUP, INHERITED, LIST_FLAGS, TO_FILES, TO_FOLDERS
 
 from .asked import Asked
-from .faults import Answered, NotThere, is_refused, is_sure, making
+from .faults import Answered, is_refused, is_sure, making
 from .kept import say
 from .names import above, below, beside, is_backup, is_temporary, last
-from .steps import Aside, Step, of_what
-from .tree import Thing, bytes_of, is_folder, is_there, thing_at
+from .steps import MINUTES, Aside, Step, of_what
+from .tree import Thing, bytes_of, is_folder, is_there, sum_of, thing_at
 from .visit import Visit
 
 FOLLOWS, PROTECTED = LIST_FLAGS["auto-inherit"], LIST_FLAGS["protected"]
 VEIL = PROTECTED | LIST_FLAGS["defaulted"]  # (nobody sets that by hand: what has it may have its folder's list again)
 MOST_ENTRIES = 32
+OR_ELSE = f"Save under another name, or wait {MINUTES} minutes"
 
 
 # What is put
@@ -140,7 +141,10 @@ def renamed(gate, visit: Visit, room: str, source: str, target: str) -> None:
     is_fresh = asides.is_fresh(room, user, source)
     is_aside = above(source) == above(target) and not is_temporary(source) and (
         is_backup(target, source) or not is_fresh)
-    with asides.moving(room, user, source, target, owner_of(visit, source) if is_aside else None):
+    known = known_by(visit, source) if is_aside else None
+    if known and asides.of(room, user, source) and owner_in(known) != user:
+        known = None  # (it is what somebody else laid where the one aside was)
+    with asides.moving(room, user, source, target, known):
         if is_temporary(source) and not is_temporary(target):
             step = Step("opens", room, user, target)
             with gate.steps.under_way(step, lambda _, why: is_sure(why)) as step:
@@ -162,6 +166,24 @@ def owner_of(visit: Visit, path: str) -> str:
     return reply.get("owner", "")
 
 
+def known_by(visit: Visit, path: str) -> str:
+    """Its owner, and a sum of its group and of its own list, as far as the room tells: what has the same is shown to
+    the same."""
+    its, told = visit.ask_all({"cmd": it, "keep": False, "path": path} for it in ("STAT", "GETLIST"))
+    listed = [told["aclflag"], own_entries(told)] if "entries" in told else None
+    return f"{its.get('owner', '')} {sum_of(repr([its.get('group'), listed]).encode())}"
+
+
+def own_entries(told: dict) -> list[dict]:
+    """Those that its folder did not hand down."""
+    follows = told["aclflag"] & 3 == FOLLOWS
+    return [it for it in told["entries"] if not (follows and it["flag"] & INHERITED)]
+
+
+def owner_in(known: str) -> str:
+    return known.partition(" ")[0]
+
+
 def unveil(visit: Visit, step: Step) -> None:
     if is_veil(visit.get_list(step.path)):
         visit.set_list(step.path, FOLLOWS, [])
@@ -169,16 +191,37 @@ def unveil(visit: Visit, step: Step) -> None:
 
 def awaited(gate, visit: Visit, room: str, path: str, source: str | None = None) -> tuple[Aside, Thing] | None:
     """What was moved aside from a path where nothing is now, and what it is, where that waits for other bytes: not for
-    itself, nor for a folder, nor for what has an owner or a list of its own."""
+    itself, nor for a folder, nor for what has an owner or a list of its own. What could be read by others than it is
+    refused."""
     found = gate.asides.of(room, visit.settings.user, path)
-    if not found or source in [it.aside for it in found] or is_there(visit, path):
+    if not found:
         return None
-    for one in found:
-        with contextlib.suppress(NotThere):
-            old = thing_at(visit, one.aside)
-            is_it = not old.is_folder and owner_of(visit, one.aside) == one.owner
-            return (one, old) if is_it and (source is None or is_version(visit, source)) else None
-    return None
+    one = next((it for it in found if known_by(visit, it.aside) == it.known), None)
+    if is_there(visit, path):
+        need_no_wider(visit, path, found[0], one)
+        return None
+    if source in [it.aside for it in found] or source is not None and not is_version(visit, source):
+        return None
+    if one is None or len({it.known for it in found}) > 1:
+        raise Answered(412, f"{found[0].aside} is not where you moved it, or not as it was: what you save as {path} "
+                            f"could be read by whom that was closed to. {OR_ELSE}")
+    old = thing_at(visit, one.aside)
+    return None if old.is_folder else (one, old)
+
+
+def need_no_wider(visit: Visit, path: str, its: Aside, one: Aside | None) -> None:
+    """That what has the name of what lies aside is the caller's, and as closed; or is that itself, by page or command.
+    """
+    known, user = known_by(visit, path), visit.settings.user
+    if known == its.known and (one is None or owner_in(known) == user):
+        return
+    whose = "has another list" if owner_in(known) == user else f"is {owner_in(known) or 'somebody else'}'s"
+    raise taken(path, whose, its)
+
+
+def taken(path: str, whose: str, its: Aside) -> Answered:
+    return Answered(412, f"{path} {whose} now, and what had that name lies as {its.aside}: what you save could be read "
+                         f"by whom that is closed to. {OR_ELSE}")
 
 
 def is_version(visit: Visit, source: str) -> bool:
@@ -205,13 +248,22 @@ def exchange(gate, visit: Visit, one: Aside, old: Thing, *, data: bytes = b"", s
     done: list[dict] = []
     with gate.changing(one.room, one.aside), gate.steps.under_way(step, undone(visit, done)) as step:
         make_copy(visit, step, old)
-        done.append(visit.rename(one.aside, one.path))
+        done.append(give_name(visit, one))
         if old.large:
             put_large(visit, step, version, data)
         else:
             put_bytes(visit, one.path, data)
         finish(visit, step)
-    gate.asides.drop(one.room, one.path)
+    gate.asides.moved(one.room, one.user, one.aside, one.path)
+
+
+def give_name(visit: Visit, one: Aside) -> dict:
+    try:
+        return visit.rename(one.aside, one.path)
+    except Refused as fault:
+        if is_refused(fault, "EXIST"):
+            raise taken(one.path, "is another's", one) from None
+        raise
 
 
 def undone(visit: Visit, done: list[dict]):
@@ -236,11 +288,9 @@ def close_like(visit: Visit, path: str, copy: str, is_folder: bool) -> None:
         if not is_refused(fault, "ACCESS"):
             raise
         return visit.set_list(copy, PROTECTED, [of_one(visit.settings.user, is_folder)])
-    follows = told["aclflag"] & 3 == FOLLOWS
     if (its["owner"], its["group"]) == (ours["owner"], ours["group"]):
         if files.has_own_list(told):
-            own = [it for it in told["entries"] if not (follows and it["flag"] & INHERITED)]
-            visit.set_list(copy, told["aclflag"], own)
+            visit.set_list(copy, told["aclflag"], own_entries(told))
         return None
     entries = [named(it, its) for it in told["entries"]]
     if len(entries) > MOST_ENTRIES:

@@ -16,7 +16,7 @@ from room_client.faults import Fault, NoAnswer, SessionLost
 from room_client.words import shown
 
 from .kept import line_of, read_lines, record, say
-from .names import above
+from .names import above, composed, is_below
 from .spool import disk
 
 MINUTES = 10  # within which what takes the place of a document that was moved aside is its new version
@@ -31,7 +31,7 @@ class Aside:
     user: str
     path: str  # what it had
     aside: str  # what it has
-    owner: str  # so that nobody else lays a document of theirs there
+    known: str  # what it is known by, so that nobody lays another document there
     end: float
 
 
@@ -97,16 +97,16 @@ class Asides:
             return self.fresh.get((room, user, path), 0.0) > self.now()
 
     @contextlib.contextmanager
-    def moving(self, room: str, user: str, source: str, target: str, owner: str | None) -> Iterator[None]:
-        """Something gets another name, aside where it has an owner: it is on record before, for who is stopped behind
-        it. What was known of either name is known no longer, unless it was aside already."""
-        end, path, is_aside = self.now() + MINUTES * 60, source, owner is not None
+    def moving(self, room: str, user: str, source: str, target: str, known: str | None) -> Iterator[None]:
+        """Something gets another name, aside where it is `known`: it is on record before, for who is stopped behind
+        it."""
+        end, path, is_aside = self.now() + MINUTES * 60, source, known is not None
         with self.mutex:
             its = self.is_aside(room, user, source)
             if its:
-                is_aside = its.path != target and owner is not None
-                path, end, owner = its.path, its.end, its.owner
-            one = Aside(room, user, path, target, owner or "", end)
+                is_aside = its.path != target and known is not None
+                path, end, known = its.path, its.end, its.known
+            one = Aside(room, user, path, target, known or "", end)
             if is_aside:
                 mine = [it for it in self.kept if it.user == user]
                 self._save([it for it in self.kept if it not in mine[:1 - MOST_OF_ONE]] + [one])
@@ -115,20 +115,36 @@ class Asides:
         except (NoAnswer, SessionLost):  # (it may lie there)
             raise
         except BaseException:
-            with self.mutex:
-                self._save([it for it in self.kept if it != one])
+            self._each(lambda it: None if it == one else it)
             raise
+        self.moved(room, user, source, target, one)
+
+    def _each(self, becomes: Callable[[Aside], Aside | None]) -> None:
         with self.mutex:
-            left = [it for it in self.kept
-                    if it == one or it.room != room or not {it.path, it.aside} & {source, target}]
-            if len(left) < len(self.kept):
-                self._save(left)
+            kept = [it for it in map(becomes, self.kept) if it]
+            if kept != self.kept:
+                self._save(kept)
+
+    def moved(self, room: str, user: str, source: str, target: str, one: Aside | None = None) -> None:
+        """Something has another name. Who moves on what they moved aside, but to lie aside as `one`, or brings
+        something else to its name, has two documents. Where somebody else moves it on in its folder it is followed, and
+        else it is not found."""
+        def becomes(it: Aside) -> Aside | None:
+            if it == one or it.room != room:
+                return it
+            if it.user == user:
+                is_over = it.aside == target and it.path != source
+                return None if is_at(it.aside, source) or it.path == target or is_over else it
+            if it.aside != source or above(target) != above(it.path):
+                return it
+            return replace(it, aside=target) if it.path != target else None
+        self._each(becomes)
 
     def of(self, room: str, user: str, path: str) -> list[Aside]:
-        """Where it may be, the latest first."""
+        """Where it may be, the latest first: however its name is spelled."""
         with self.mutex:
-            return [it for it in reversed(self.kept) if (it.room, it.user, it.path) == (room, user, path)
-                    and it.end > self.now()]
+            return [it for it in reversed(self.kept) if (it.room, it.user) == (room, user)
+                    and composed(it.path) == composed(path) and it.end > self.now()]
 
     def is_aside(self, room: str, user: str, path: str) -> Aside | None:
         with self.mutex:
@@ -140,12 +156,17 @@ class Asides:
         with self.mutex:
             self._save([*self.kept, replace(one, aside=aside)])
 
-    def drop(self, room: str, path: str) -> None:
-        """What is gone, or is a document by itself."""
-        with self.mutex:
-            left = [it for it in self.kept if it.room != room or path not in (it.path, it.aside)]
-            if len(left) < len(self.kept):
-                self._save(left)
+    def gone(self, room: str, user: str, top: str) -> None:
+        """Who moved it aside has removed it, or what it was in."""
+        self._each(lambda it: None if (it.room, it.user) == (room, user) and is_at(it.aside, top) else it)
+
+    def ends(self, room: str, user: str, path: str) -> None:
+        """Who moved aside what had the name has made something else of that name."""
+        self._each(lambda it: None if (it.room, it.user, it.path) == (room, user, path) else it)
+
+
+def is_at(path: str, top: str) -> bool:
+    return path == top or is_below(path, top)
 
 
 class Steps:

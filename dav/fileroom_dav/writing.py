@@ -39,8 +39,8 @@ def place(gate, visit: Visit, asked: Asked, path: str) -> str:
     for_making(path)
     found = spelled(visit, path)
     as_asked = below(above(found), last(path))
-    if gate.asides.of(asked.room, asked.user, as_asked):
-        return as_asked
+    for it in gate.asides.of(asked.room, asked.user, as_asked):
+        return it.path
     if has_blanks(found) and not is_there(visit, found):
         raise Answered(403, f"{path}: a new name does not begin or end with a blank: give it another")
     return found
@@ -69,6 +69,7 @@ def mkcol(gate, visit: Visit, asked: Asked) -> Reply:
     need_folder_above(gate, visit, asked, path)
     with gate.changing(asked.room, path):
         make_folder(visit, path)
+    gate.asides.ends(asked.room, asked.user, path)
     return Reply(201)
 
 
@@ -84,16 +85,15 @@ def delete(gate, visit: Visit, asked: Asked) -> Reply:
 
 def discard(gate, visit: Visit, room: str, path: str) -> None:
     """To the caller's trash, where there is one, by one request; else for good, with all that is in it. What was moved
-    aside goes to the trash too, whatever its name: it may still be the document of a new version, or else
-    somebody else's has its name, and it is no version of before. (A document of no bytes goes on from the trash, where
-    nobody else puts something into it meanwhile.)"""
+    aside goes to the trash too, whatever its name, and waits there: it is no version of before. (A document of no bytes
+    goes on from the trash, where nobody else puts something into it meanwhile.)"""
     one = gate.asides.is_aside(room, visit.settings.user, path)
     bin_ = None if is_short_lived(path) and not one else trash.trash_of(visit)
-    if bin_ and one and not is_there(visit, one.path):
+    if bin_ and one:
         trash.put_in_trash(Kept(gate, visit, one), path, bin_)
     else:
         remove_empty(visit, bin_, trash.discard(visit, path, bin_, True))
-    gate.asides.drop(room, path)
+    gate.asides.gone(room, visit.settings.user, path)
 
 
 def remove_empty(visit: Visit, bin_: str | None, name: str | None) -> None:

@@ -345,7 +345,8 @@ class Others(SavesCounter):
         self.assertEqual([NO_PUPILS in it for it in lists], [True, False])
 
     def test_another_document(self):
-        """One with a list or an owner of its own, or that somebody else laid where the first is aside, stays itself."""
+        """One with a list or an owner of its own stays itself, and what somebody else laid where the first is aside is
+        not taken for it."""
         for data, owner in (b"small", "ann"), (b"l" * 70_000, "bob"):
             doc = self.made(b"old")
             self.does(owner, "PUT", f"{self.top}/b.odt", 201, data)
@@ -360,8 +361,7 @@ class Others(SavesCounter):
         self.does("ann", "MOVE", f"{self.top}/{doc}", 201, Destination=f"{self.top}/x~")
         self.told_by(self.ann, "RENAME", f"{self.top}/x~", to=f"{self.top}/y")
         self.told_by(Wire(self.served, "bob"), "CREATE", f"{self.top}/x~", data="")
-        self.does("ann", "PUT", f"{self.top}/{doc}", 201, b"new")
-        self.assertEqual(self.told(doc)[0]["owner"], "ann")
+        self.does("ann", "PUT", f"{self.top}/{doc}", 412, b"new")
 
     def test_who_may_not(self):
         """Bob may rename it, and not write it: all is as it was, and he is told why."""
@@ -484,7 +484,7 @@ class Others(SavesCounter):
         self.does("ann", "PUT", f"{self.top}/~WRD1.tmp", 201, b"new")
         self.does("ann", "MOVE", f"{self.top}/{doc}", 201, Destination=f"{self.top}/~WRL1.tmp")
         self.does("bob", "PUT", f"{self.top}/{doc}", 201, b"bob's")
-        self.does("ann", "MOVE", f"{self.top}/~WRD1.tmp", 204, Destination=f"{self.top}/{doc}")
+        self.does("ann", "MOVE", f"{self.top}/~WRD1.tmp", 412, Destination=f"{self.top}/{doc}")
         self.does("ann", "DELETE", f"{self.top}/~WRL1.tmp", 204)
         kept = [it for it, _ in self.told_by(self.ann, "LIST", TRASH)["names"] if "WRL1.tmp" in it]
         self.assertEqual(len(kept), 1)
