@@ -40,7 +40,8 @@ class Late:
             self.listener.listen(128)
         else:
             self.listener = socket.create_server(("127.0.0.1", 0), backlog=128)
-        self.body, self.port = body, None if at else self.listener.getsockname()[1]
+        self.said = b"HTTP/1.1 200 OK\r\ncontent-length: %d\r\n\r\n" % len(body) + body
+        self.port = None if at else self.listener.getsockname()[1]
         self.came, self.heads, self.may = [], [], threading.Event()
         threading.Thread(target=self.serve, daemon=True).start()
 
@@ -54,7 +55,7 @@ class Late:
         with contextlib.suppress(OSError), line:
             self.heads.append(line.recv(1 << 17))
             self.may.wait()
-            line.sendall(b"HTTP/1.1 200 OK\r\ncontent-length: %d\r\n\r\n" % len(self.body) + self.body)
+            line.sendall(self.said)
 
 
 def started(other, name, room, **how):
