@@ -68,7 +68,7 @@ def moved(gate, visit: Visit, asked: Asked, source: str, target: str) -> bool:
     if not its.is_folder and not there.is_folder and not is_aside:
         put_over(gate, visit, asked.room, source, target)
     else:
-        with out_of_the_way(gate, visit, asked.room, target):
+        with out_of_the_way(gate, visit, asked.room, target, source):
             renamed(gate, visit, asked.room, source, target)
     return False
 
@@ -118,7 +118,7 @@ def copied(gate, visit: Visit, asked: Asked, its: Thing, target: str) -> bool:
         need_overwrite(asked)
         awaited(gate, visit, asked.room, target)
     is_away = there and (its.is_folder or there.is_folder or is_closed_backup(visit, its.path, target))
-    with out_of_the_way(gate, visit, asked.room, target) if is_away else contextlib.nullcontext():
+    with out_of_the_way(gate, visit, asked.room, target, its.path) if is_away else contextlib.nullcontext():
         copy_whole(gate, visit, asked, its, target)
     return there is None
 
@@ -176,9 +176,9 @@ def copy_folder(gate, visit: Visit, room: str, source: str, target: str, made: l
 # What is in the way
 
 @contextlib.contextmanager
-def out_of_the_way(gate, visit: Visit, room: str, path: str):
-    """What is at a path has another name while something takes its place, and goes once that is there. (What was moved
-    aside goes to the trash, as where it is removed.)"""
+def out_of_the_way(gate, visit: Visit, room: str, path: str, source: str):
+    """What is at a path has another name while something takes its place, and goes once that is there. What was moved
+    aside goes to the trash, as where it is removed; without one it stays, where what has its name now comes."""
     one = gate.asides.is_aside(room, visit.settings.user, path)
     bin_ = None if is_short_lived(path) and not one else trash.trash_of(visit)
     if bin_ and path != trash.TOP and not is_below(path, trash.TOP):
@@ -186,6 +186,8 @@ def out_of_the_way(gate, visit: Visit, room: str, path: str):
             trash.put_in_trash(noted, path, bin_)
             yield
         return
+    if one and one.path == source:
+        raise Answered(412, f"{path} had the name {source} before that was another's, and would be gone for good")
     with set_aside(gate, visit, room, path) as aside:
         yield
         trash.remove(visit, aside, True)

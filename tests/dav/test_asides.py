@@ -134,6 +134,16 @@ class Asides(SavesCounter):
         self.need_saved(doc)
         self.assertEqual(self.does("bob", "GET", f"{self.top}/{doc}~", 200).body, b"bob's")
 
+    def test_without_a_trash(self):
+        """Nothing takes the place of what is aside and waits, for it would be gone."""
+        doc = self.aside(user="bob")
+        self.does("ann", "PUT", f"{self.top}/{doc}", 201, b"ann's")
+        over = ("MOVE", f"{self.top}/{doc}", b"", {"Destination": f"{self.top}/x~"})
+        self.need_refused([over], b"for good", "bob")
+        self.does("bob", "DELETE", f"{self.top}/{doc}", 204)
+        self.does("bob", "PUT", f"{self.top}/{doc}", 201, SECRET)
+        self.need_saved(doc)
+
     def test_what_is_aside_is_removed(self):
         """It is in the trash, and waits still."""
         doc = self.aside()
