@@ -17,17 +17,19 @@ def line_of(what: list | dict) -> bytes:
     return json.dumps(what).encode() + b"\n"
 
 
-def read_lines(path: str, take: Callable[[object], None]) -> None:
-    """Hands on what each line says. (`take` raises what a wrong line makes it raise.)"""
+def read_lines(path: str, take: Callable[[object], None]) -> bool:
+    """Hands on what each line says. Whether the file was set aside. (`take` raises what a wrong line makes it raise.)
+    """
     try:
         bad = read_each(path, take)
         why = f"{bad} of its lines cannot be read" if bad else ""
     except FileNotFoundError:
-        return
+        return False
     except OSError as fault:
         why = os.strerror(fault.errno)
     if why:
         set_aside(path, why)
+    return bool(why)
 
 
 def read_each(path: str, take: Callable[[object], None]) -> int:

@@ -59,7 +59,9 @@ def read_all(path: str, kind: type) -> list:
 
     def take(line: list) -> None:
         found.extend(record(kind, it) for it in line)
-    read_lines(path, take)
+    if read_lines(path, take):
+        with contextlib.suppress(OSError):  # (a full disk)
+            write_all(path, found)
     return found
 
 

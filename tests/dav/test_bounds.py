@@ -405,6 +405,9 @@ class Alone(unittest.TestCase):
             self.assertEqual(list(gate.steps.kept.values()), [one])
             self.assertEqual(gate.seen.times("plans", {"/a": "sum"}), {"/a": mock.ANY})
             self.assertEqual(said.getvalue().count("damaged-"), len(names), said.getvalue())
+            with contextlib.redirect_stderr(io.StringIO()) as said:
+                self.assertEqual(list(app.Gate("/none", self.folder).steps.kept.values()), [one])
+            self.assertNotIn("damaged-", said.getvalue())
             for name in os.listdir(self.folder):
                 os.remove(os.path.join(self.folder, name))
 
