@@ -1,7 +1,6 @@
 """What somebody tries who has a login, or none: others' listings and folders, names, bodies that are cut, what would
 fill the gateway's memory, and what a refusal leaves behind."""
 import io
-import json
 import os
 import socket
 import tempfile
@@ -11,7 +10,7 @@ import unittest
 from urllib.parse import quote
 
 from counter import BOB_READS, BOB_WRITES, HERS, PASSWORDS, Counter, make_folders
-from fileroom_dav import app, bodies, faults, locks, memory, passing, props, seats, seen, tree, visit
+from fileroom_dav import app, bodies, faults, memory, passing, props, seats, seen, tree, visit
 from nginx import hashed, login
 from test_refusals import EXCLUSIVE, tag_of
 
@@ -320,9 +319,3 @@ class Alone(unittest.TestCase):
         self.assertIn("user0", {it.user for it in found})
         self.assertLess(len(found), 20)
         self.assertLess(len(said), 20)
-
-    def test_locks_that_a_halt_cut(self):
-        for text in "", "[{", json.dumps([{"token": "x"}]), "7":
-            with open(os.path.join(self.folder, "locks"), "w") as file:
-                file.write(text)
-            self.assertEqual(locks.Locks(os.path.join(self.folder, "locks")).held, {})

@@ -363,7 +363,7 @@ class Alone(unittest.TestCase):
         with open(path, "rb") as file:
             good = file.read()
         other = vars(lock) | {"token": "t"}
-        for bad in (b"\xff\0\n", b"[" * 100_000, b'{"gone": 5}', b'["x"]', b"7",
+        for bad in (b"\xff\0\n", b"[" * 100_000, b'{"gone": 5}', b'[{"token": "x"}]', b'["x"]', b"7",
                     locks.line_of([other | {"room": []}]), locks.line_of([other | {"end": "x"}]),
                     locks.line_of([other | {"path": 5}]), b'[{"token": "cut'):
             with open(path, "wb") as file:
