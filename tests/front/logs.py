@@ -28,6 +28,8 @@ SOON = 30
 GROWN = 257 << 20  # bytes: more than the log of changes may have
 MOST_OF_A_FILE = 1 << 24
 CONNECTIONS = 40  # of a front that is soon full
+HEAVY = 10_000  # bytes of a body that holds a room
+HEAVY_AT_ONCE, HEAVY_WAITING, HEAVY_A_SECOND = 8, 192, 20  # (of a front 40 a second: a slow machine shows this too)
 
 
 class Late:
@@ -162,6 +164,26 @@ def long_ones(other, tally):
             tally.differs(f"{form}: held back", time.monotonic() - begin > 1, want == 2)
 
 
+def heavy_ones(other, tally):
+    """Bodies that hold a room go there spread over the second, of each login by itself, from however many addresses.
+    The next ones wait, more than clients have under way; and what is small does not wait behind them."""
+    room = Late()
+    room.may.set()
+    front = started(other, "heavy", room, heavy=f"{HEAVY_A_SECOND}r/s", connections=4096)
+    begin, many = time.monotonic(), 2 * (HEAVY_AT_ONCE + HEAVY_WAITING)
+    lines = [begun(front, "u01", at, f"127.2.4.{1 + at // EACH}", bytes(HEAVY)) for at in range(many)]
+    begun_in = time.monotonic() - begin
+    for user, size in ("u01", HEAVY - 1), ("u02", HEAVY):
+        tally.differs(f"{size} bytes of {user}", status(front.once(user, "POST", SLOT + "98", bytes(size))), 200)
+    beside = time.monotonic() - begin
+    found = [status(it.answer()) for it in lines]
+    took, passed, least = time.monotonic() - begin, found.count(200), HEAVY_AT_ONCE + HEAVY_WAITING
+    tally.differs("heavy ones of one login", set(found), {200, 429})
+    tally.differs(f"{passed} of {many} pass", least <= passed <= least + 2 + HEAVY_A_SECOND * begun_in, True)
+    tally.differs(f"they took {took:.1f} s", took >= (passed - HEAVY_AT_ONCE - 1) / HEAVY_A_SECOND, True)
+    tally.differs(f"what does not wait behind them: {beside:.1f} s", beside < took / 2, True)
+
+
 def turned_over(front, log, tally):
     """By logrotate with the front's file: nginx writes on in a new log, and one that has grown does not wait a day."""
     if not shutil.which("logrotate", path="/usr/sbin:/usr/bin") or os.geteuid() != 0:
@@ -232,7 +254,7 @@ def too_many_connections(other, tally):
         it.close()
 
 
-PARTS = {it.__name__: it for it in (of_a_login, of_webdav, long_ones, refusals, too_many_connections)}
+PARTS = {it.__name__: it for it in (of_a_login, of_webdav, long_ones, heavy_ones, refusals, too_many_connections)}
 
 
 def tried(front, tally, names=tuple(PARTS)):
