@@ -17,7 +17,7 @@ from urllib.parse import quote
 from between import Between
 from nginx import Front, login
 from room_client import Room, Settings
-from served import HERE, WAIT, Room as Served, end_with_parent, started_here
+from served import HERE, WAIT, Room as Served, end_with_parent, sqlite, started_here
 
 GATEWAY = os.path.join(HERE, "..", "dav", "fileroom-dav")
 PYTHON = "/usr/bin/python3"  # (Debian's, which has Debian's packages)
@@ -127,6 +127,39 @@ class Counter(unittest.TestCase):
         """The names in a folder, as a file manager is shown them."""
         got = self.does(user, "PROPFIND", path, 207, Depth=depth)
         return got.hrefs
+
+    def asked_as_sessions_end(self, words, user, *request, acts=True, meanwhile=None, **how):
+        """The status of a request during which the room loses its sessions: at the first request to the room with these
+        words, which acts before, and its answer is lost, or comes behind."""
+        plain, came, gone, said = self.loser.fate, threading.Event(), threading.Event(), []
+
+        def fate(message):
+            if not all(it in message for it in words):
+                return plain(message)
+            self.loser.fate = plain
+            if acts:
+                self.loser._answer(message)
+            came.set()
+            gone.wait(WAIT)
+            return "request" if acts else "none"
+        self.loser.fate = fate
+        asks = threading.Thread(target=lambda: said.append(self.ask(user, *request, **how).status))
+        asks.start()
+        self.assertTrue(came.wait(WAIT), "it did not come to that request")
+        if meanwhile:
+            meanwhile()
+        self.end_sessions()
+        gone.set()
+        asks.join()
+        return said[0]
+
+    def end_sessions(self):
+        """The room is killed, and knows no session when it is started again (but those of a Wire)."""
+        self.served.kill()
+        gates = "sid NOT LIKE '00000000%'"
+        told = sqlite(self.served.db, f"UPDATE session SET open = 0 WHERE {gates}; DELETE FROM kept WHERE {gates};")
+        self.assertEqual(told, "")
+        self.served.start()
 
     @contextlib.contextmanager
     def room(self, user):

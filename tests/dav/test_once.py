@@ -5,7 +5,7 @@ import time
 
 from room_client import Room, Settings, files
 from counter import Counter, stop
-from served import WAIT, run, sqlite
+from served import run
 from test_refusals import EXCLUSIVE, tag_of
 
 SHARE = 0.3  # of requests to the room that something happens to
@@ -104,35 +104,18 @@ class Kills(Counter):
         self.does("ann", "PUT", "/anew", 201, b"y")
         self.assertEqual(self.does("ann", "GET", "/anew", 200).body, b"y")
 
-
     def test_what_may_have_acted_is_not_sent_in_a_new_session(self):
         """A new version is written, and no answer comes; somebody else writes theirs; then the room knows no session
         any more. Theirs stands."""
         self.does("ann", "PUT", "/theirs", 201, b"first")
-        plain, said, acted, gone = self.loser.fate, [], threading.Event(), threading.Event()
 
-        def lose(message):
-            if b'"WRITE"' not in message:
-                return plain(message)
-            self.loser.fate = plain
-            self.loser._answer(message)
-            acted.set()
-            gone.wait(WAIT)
-            return "request"
-        self.loser.fate = lose
-        writer = threading.Thread(target=lambda: said.append(self.ask("ann", "PUT", "/theirs", b"hers").status))
-        writer.start()
-        self.assertTrue(acted.wait(WAIT))
-        settings = Settings(url=f"http://127.0.0.1:{self.served.port}", room_user="ann", state=self.path("another"))
-        with Room(settings, print) as room:
-            self.assertEqual(room.read("/theirs"), b"hers")
-            room.write("/theirs", b"theirs")
-        self.served.kill()
-        self.assertEqual(sqlite(self.served.db, "UPDATE session SET open = 0; DELETE FROM kept;"), "")
-        self.served.start()
-        gone.set()
-        writer.join()
-        self.assertEqual((said, self.does("ann", "GET", "/theirs", 200).body), ([503], b"theirs"))
+        def write():
+            settings = Settings(url=f"http://127.0.0.1:{self.served.port}", room_user="ann", state=self.path("another"))
+            with Room(settings, print) as room:
+                self.assertEqual(room.read("/theirs"), b"hers")
+                room.write("/theirs", b"theirs")
+        said = self.asked_as_sessions_end([b'"WRITE"'], "ann", "PUT", "/theirs", b"hers", meanwhile=write)
+        self.assertEqual((said, self.does("ann", "GET", "/theirs", 200).body), (503, b"theirs"))
 
 
 class TakeOver(Counter):

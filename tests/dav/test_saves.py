@@ -10,14 +10,12 @@ import shutil
 import sqlite3
 import sys
 import tempfile
-import threading
 import unicodedata
 import unittest
 from unittest import mock
 
 from room_client.words import FOLDER
 from counter import GATEWAY, HERS, Counter, stop
-from served import WAIT, sqlite
 from test_refusals import EXCLUSIVE
 from test_sight import Wire
 
@@ -555,29 +553,8 @@ class Lost(SavesCounter):
     """A request to the room acts, and its answer is lost with the session: 503 is answered, and it is put right."""
 
     def lost(self, cmd, path, *request, **how):
-        signs, plain = (f'"cmd":"{cmd}"'.encode(), path.encode()), self.loser.fate
-        acted, gone, said = threading.Event(), threading.Event(), []
-
-        def fate(message):
-            if not all(it in message for it in signs):
-                return plain(message)
-            self.loser.fate = plain
-            self.loser._answer(message)
-            acted.set()
-            gone.wait(WAIT)
-            return "request"
-        self.loser.fate = fate
-        asks = threading.Thread(target=lambda: said.append(self.ask("ann", *request, **how).status))
-        asks.start()
-        self.assertTrue(acted.wait(WAIT), "it did not come to that request")
-        self.served.kill()
-        gates = "sid NOT LIKE '00000000%'"  # (and not those of a Wire)
-        told = sqlite(self.served.db, f"UPDATE session SET open = 0 WHERE {gates}; DELETE FROM kept WHERE {gates};")
-        self.assertEqual(told, "")
-        self.served.start()
-        gone.set()
-        asks.join()
-        self.assertEqual(said, [503])
+        words = f'"cmd":"{cmd}"'.encode(), path.encode()
+        self.assertEqual(self.asked_as_sessions_end(words, "ann", *request, **how), 503)
 
     def test_a_name_that_opens(self):
         for cmd in "RENAME", "GETLIST":
