@@ -52,6 +52,11 @@ class Asked:
         """Whether it was answered that it ran: by its reply, or that this is not kept."""
         return self.code < OWN[0] or self.code == UNCACHED
 
+    @property
+    def is_refused(self):
+        """Whether its command was, and so changed nothing."""
+        return 0 < self.code < OWN[0]
+
 
 class Slot:
     """What is known of a slot: `done`, of how many commands its client was told that they ran; of each number what it
@@ -158,7 +163,7 @@ class Judge:
 
     def _judge_place(self, slot, number, asked):
         """A change goes to one slot, under one number, until it is known whether it acted. (Whoever drives the clients
-        wants none again of which that is not known, and no bytes twice.)"""
+        wants none again of which that is not known, and no bytes done twice: what was refused may be asked again.)"""
         if asked.is_look or not self.is_strict:
             return
         places = self.places[asked.text]
@@ -206,7 +211,7 @@ class Judge:
         if asked.is_done:
             slot.done += 1
             self.counts["commands"] += 1
-            if "data" not in asked.command:
+            if "data" not in asked.command or asked.is_refused:
                 self.places[asked.text].pop((slot.name, number), None)
             for other in others & set(self.places):  # (it is given up: it never acts)
                 self.counts["given up"] += 1

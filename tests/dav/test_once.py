@@ -117,6 +117,15 @@ class Kills(Counter):
         said = self.asked_as_sessions_end([b'"WRITE"'], "ann", "PUT", "/theirs", b"hers", meanwhile=write)
         self.assertEqual((said, self.does("ann", "GET", "/theirs", 200).body), (503, b"theirs"))
 
+    def test_what_was_refused_is_asked_in_a_new_session(self):
+        """A new version is no new document (CREATE), nor that of a large file a document (WRITE). The room refuses
+        these, and loses its sessions before it is asked for more: nothing was done yet, and the new version comes."""
+        for path, before, cmd in ("/small", b"first", "WRITE"), ("/large", os.urandom(70_000), "LIST"):
+            self.does("ann", "PUT", path, 201, before)
+            words = f'"cmd":"{cmd}"'.encode(), f'"path":"{path}"'.encode()
+            said = self.asked_as_sessions_end(words, "ann", "PUT", path, b"second", acts=False)
+            self.assertEqual((said, self.does("ann", "GET", path, 200).body), (204, b"second"))
+
 
 class TakeOver(Counter):
     """A room's file goes to another host, which has a front and a gateway of its own (docs/SCALE.md, A standby)."""

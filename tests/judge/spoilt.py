@@ -1,10 +1,12 @@
-"""Clients that break the rule, each in one way: the judge has to find it. And one that keeps it, in the same play."""
+"""Clients that break the rule, each in one way: the judge has to find it. And two that keep it: one in the same play,
+and one that asks in a new session for what was refused."""
+import contextlib
 import os
 import shutil
 
 from recorded import Recorder
 from room_client import NoAnswer, Room, Settings
-from room_client.faults import Fault
+from room_client.faults import Fault, Refused
 from room_client.slots import Slot, compact
 from room_client.state import Session
 from rule import judged
@@ -72,18 +74,26 @@ def append_by_two(folder, port, slot_kind):
         append(folder, port, slot_kind, it + 1, 1, "other")
 
 
-def record_of(folder, slot_kind):
+def append_all(folder, port, slot_kind):
+    append(folder, port, slot_kind, 0, PIECES)
+
+
+def ask_for_what_was_refused(folder, port, slot_kind):
+    """The same bytes in two sessions: what the room refused has not acted."""
+    for state in "first", "second":
+        with room_of(folder, port, slot_kind, state) as room, contextlib.suppress(Refused):
+            room.create("/log", b"0.")
+
+
+def record_of(folder, slot_kind, play=append_all, share=SHARE):
     """What was recorded of such a client."""
     served = Served(folder).start()
     recorder = Recorder(served, os.path.join(folder, "trace"))
     with room_of(folder, served.port, Slot, "maker") as room:
         room.create("/log", b"")
-    recorder.share = SHARE
+    recorder.share = share
     try:
-        if slot_kind is SharesItsSlot:
-            append_by_two(folder, recorder.port, slot_kind)
-        else:
-            append(folder, recorder.port, slot_kind, 0, PIECES)
+        play(folder, recorder.port, slot_kind)
     except Fault as fault:
         print(f"judge: {slot_kind.__name__} ended: {fault}")
     recorder.share = 0.0
@@ -99,8 +109,11 @@ def play_spoilt(folder, tally):
     kept.judge_kept(db)
     tally.differs("a client that keeps the rule", kept.faults, [])
     tally.differs("what it lost", kept.counts["unheard"] > 0, True)
+    refused, _ = record_of(os.path.join(folder, "refused"), Slot, ask_for_what_was_refused, 0.0)
+    tally.differs("a client that asks again for what was refused", refused.faults, [])
     for name, slot_kind in SPOILT.items():
-        judge, _ = record_of(os.path.join(folder, slot_kind.__name__), slot_kind)
+        play = append_by_two if slot_kind is SharesItsSlot else append_all
+        judge, _ = record_of(os.path.join(folder, slot_kind.__name__), slot_kind, play)
         found = [it for it in judge.faults if ": RULE: " in it]
         tally.differs(f"a client that {name} is found", bool(found), True)
         print(f"judge: a client that {name}: {len(judge.faults)} faults; {next(iter(found), 'none')}", flush=True)
