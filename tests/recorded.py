@@ -44,23 +44,24 @@ class Recorder(Between):
     def __init__(self, room, trace, seed=1, share=0.0):
         self.room, self.share = room, share
         self.random, self.lock = random.Random(seed), threading.Lock()
-        self.lanes, self.wanted, self.has_lost = defaultdict(threading.Lock), (None, "none"), threading.Event()
+        self.lanes, self.wanted, self.has_lost = defaultdict(threading.Lock), (None, None, "none"), threading.Event()
         self.trace = open(trace, "a", encoding="utf-8")
         self.lost, self.asked, self.under_way = Counter(dict.fromkeys(FATES, 0)), Counter(), 0
+        self.codes = Counter()  # how often the room answered each code to each user
         listener = socket.create_server(("127.0.0.1", 0), backlog=256)
         self.port = listener.getsockname()[1]
         super().__init__(listener, None)
 
-    def lose(self, word=None, fate="none"):
-        """From here on that befalls what has this word; `has_lost` is set once it did."""
+    def lose(self, user=None, word=None, fate="none"):
+        """From here on that befalls what this user asks with this word; `has_lost` is set once it did."""
         self.has_lost.clear()
-        self.wanted = word, fate
+        self.wanted = user, word, fate
 
     def fate(self, message):
         with self.lock:
             self.asked[user_of(message)] += 1
-            word, fate = self.wanted
-            if word and word in message:
+            user, word, fate = self.wanted
+            if word and word in message and user == user_of(message):
                 self.has_lost.set()
                 return fate
             draw = self.random.random() if b"/slots/" in message[:200] else 1.0
@@ -132,6 +133,8 @@ class Recorder(Between):
         its = answer_of(answer) if answer else None
         self.write({"user": user_of(message), "method": method, "target": target, "body": body, "answered": its,
                     "told": is_told and its is not None, "is_late": is_late})
+        if its:
+            self.codes[user_of(message), json.loads(its[1])["code"]] += 1
         return answer
 
     def write(self, it):

@@ -16,7 +16,8 @@ from urllib.parse import quote
 from browser import Browser
 from counter import GATEWAY, PYTHON, stop, wait_for_socket
 from nginx import login
-from served import HERE, WAIT, end_with_parent, started_here
+from rule import FALSE_RETRY
+from served import HERE, WAIT, end_with_parent, started_here, until
 
 ASKER = os.path.join(HERE, "judge", "asker.py")
 PAGE = os.path.join(HERE, "..", "page")
@@ -195,6 +196,8 @@ class Page:
         self.launch()
         self.give_up_twice()
         self.open_all()
+        if not until(lambda: self.recorder.codes[self.user, FALSE_RETRY]):
+            raise LookupError("the page was told of no false retry")
 
     def launch(self):
         self.browser = Browser(self.folder, *AWAKE)
@@ -217,9 +220,9 @@ class Page:
 
     def give_up_twice(self):
         """A step acts, and its answer is lost; the next tab gives it up, and ends without an answer. (The one after it
-        gives it up once more, and is told of a false retry.)"""
+        gives it up once more, and is told of a false retry: `start` waits for that.)"""
         for word, fate in (b'"APPEND"', "answer"), (b'"path":"/"', "request"):
-            self.recorder.lose(word, fate)
+            self.recorder.lose(self.user, word, fate)
             self.open(STEP)
             if not self.recorder.has_lost.wait(WAIT):
                 raise LookupError(f"the page sent no {word}")
