@@ -193,11 +193,14 @@ class Page:
         self.tabs, self.kills, self.faults = [], {"closed": 0, "crashed": 0, "killed": 0}, 0
 
     def start(self):
-        self.launch()
-        self.give_up_twice()
-        self.open_all()
-        if not until(lambda: self.recorder.codes[self.user, FALSE_RETRY]):
-            raise LookupError("the page was told of no false retry")
+        with contextlib.ExitStack() as launched:
+            self.launch()
+            launched.callback(self.end)
+            self.give_up_twice()
+            self.open_all()
+            if not until(lambda: self.recorder.codes[self.user, FALSE_RETRY]):
+                raise LookupError("the page was told of no false retry")
+            launched.pop_all()
 
     def launch(self):
         self.browser = Browser(self.folder, *AWAKE)
