@@ -22,7 +22,7 @@ from room_client.room import CHANGES, counted
 from room_client.slots import Pace, Slot
 from room_client.state import Session, State
 
-RATE = 240.0  # requests a second of one user, below what the front's socket takes of one (front/dav-http.conf)
+RATE = 240.0  # requests a second of one user, below what the front's socket takes of one (front/fileroom.conf)
 PAGE = 4096
 WIDTH = 4  # slots of a session: with four sessions of a user that is what a front takes of one at once
 AT_ONCE = 2  # requests to rooms of one user, over all sessions: computing takes turns, and others wait for few of them
@@ -106,7 +106,7 @@ class KeptState(State):
         return self.path + ".boot"
 
     def is_of_this_start(self) -> bool:
-        with contextlib.suppress(OSError), open(self.boot_path, encoding="ascii") as file:
+        with contextlib.suppress(OSError, ValueError), open(self.boot_path, encoding="ascii") as file:
             return file.read() == boot_id()
         return False
 

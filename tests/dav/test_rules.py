@@ -149,6 +149,13 @@ class Rules(Counter):
 
     # Starts of the machine
 
+    def test_a_start_that_cannot_be_read(self):
+        self.does("ann", "PUT", "/odd", 201, b"1")
+        for path in glob.glob(self.path("state/sessions/plans/ann@?.boot")):
+            with open(path, "wb") as file:
+                file.write(b"\xff\xfe")
+        self.does("ann", "PUT", "/odd", 204, b"2")
+
     def test_another_start_of_the_machine(self):
         """What a halt cut is seen by it: another session begins, also where nothing of the file was lost."""
         def sessions():
