@@ -1,6 +1,7 @@
 """What the client does on this machine, without a room: files that are put in place, what is found below a folder, what
 is kept before it is sent, and settings."""
 import contextlib
+import io
 import os
 import stat
 import tempfile
@@ -9,10 +10,11 @@ import unittest
 from dataclasses import replace
 from unittest import mock
 
-from room_client import BadWords, LocalFault, local, trash
+from room_client import BadWords, Fault, LocalFault, documents, editing, local, trash, trees
 from room_client.faults import Refused
 from room_client.line import Line, Lost
 from room_client.settings import Settings, find_settings, read_password, read_url
+from room_client.showing import show
 from room_client.slots import BURST, RATE, Pace
 from room_client.state import Kept, Session, State
 
@@ -187,7 +189,7 @@ class Told(Here):
 
     def test_an_answer_without_end_is_not_read(self):
         line = Line(Settings(url=URL, room_user="ann"))
-        answer = mock.Mock(length=(1 << 20) + 1, status=200)
+        answer = mock.Mock(length=(1 << 20) + 1, status=200, **{"read.return_value": b"{}"})
         line.connection = mock.Mock(getresponse=lambda: answer)
         with self.assertRaisesRegex(Lost, "too long"):
             line.ask("POST", "/", b"{}")
@@ -204,6 +206,61 @@ class Told(Here):
             for _ in range(1000):
                 pace.wait()
         self.assertAlmostEqual(clock.now, (1000 - BURST) / RATE, places=3)
+
+
+class Editing(Here):
+    """What an editor is given lies in a folder of its own, which goes once it was put."""
+
+    def edit(self, editor, now=(b"a", b"a")):
+        """What is put, told and left, as the room has these bytes before and behind the editor."""
+        put, said, out = [], [], io.StringIO()
+        asked = types.SimpleNamespace(path="/a.txt")
+        with (mock.patch("tempfile.tempdir", self.folder), mock.patch.multiple(
+                editing, Room=mock.MagicMock(), bytes_at=mock.Mock(side_effect=now), say=said.append,
+                files=mock.Mock(write=lambda _, path, data, **how: put.append((path, data)), overtaken=str)),
+              mock.patch.dict(os.environ, {"VISUAL": f"sh -c '{editor}' x"}), contextlib.redirect_stdout(out)):
+            try:
+                editing.edit(asked, None)
+            except Fault as fault:
+                said.append(str(fault))
+        left = [self.read(os.path.join(it, "a.txt")) if os.listdir(self.path(it)) else it
+                for it in os.listdir(self.folder)]
+        return put, out.getvalue(), said, left
+
+    def test_what_was_put_leaves_nothing(self):
+        self.assertEqual(self.edit('printf b >>"$1"'), ([("/a.txt", b"ab")], "/a.txt: 2 bytes\n", [], []))
+        self.assertEqual(self.edit(":"), ([], "nothing was changed\n", [], []))
+
+    def test_what_could_not_be_put_stays(self):
+        put, _, said, left = self.edit('printf b >>"$1"', (b"a", b"newer"))
+        self.assertEqual((put, len(said), left), ([], 2, [b"ab"]))
+        self.assertIn(f"what you wrote is in {self.folder}", said[0])
+
+    def test_an_editor_that_fails_puts_nothing(self):
+        put, _, said, left = self.edit('printf b >>"$1"; exit 3')
+        self.assertEqual((put, left), ([], [b"ab"]))
+        self.assertIn("ended with status 3: nothing was put; it is in ", said[0])
+
+
+class Showing(unittest.TestCase):
+    """No letter of a name is a command to the terminal."""
+
+    def shows(self, does, *words, is_terminal=True):
+        out = io.StringIO()
+        out.isatty = lambda: is_terminal
+        with contextlib.redirect_stdout(out):
+            does(*words)
+        return out.getvalue()
+
+    def test_names_that_are_found(self):
+        with mock.patch.object(trees, "find", return_value=iter(["/a\x1b[2J"])):
+            found = self.shows(documents.find, None, types.SimpleNamespace(path="/", pattern="a"))
+        self.assertEqual(found, "/a\\x1b[2J\n")
+
+    def test_names_in_json(self):
+        asked, reply = types.SimpleNamespace(json=True), {"to": "/\u202e\x9b"}
+        self.assertEqual(self.shows(show, asked, reply, ""), '{"to": "/\\u202e\\u009b"}\n')
+        self.assertEqual(self.shows(show, asked, reply, "", is_terminal=False), '{"to": "/\u202e\x9b"}\n')
 
 
 class Room:
