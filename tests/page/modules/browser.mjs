@@ -46,6 +46,7 @@ export class Element {
   inert = false;
   className = "";
   value = "";
+  role = "";
   id = "";
 
   constructor(tag) {
@@ -61,6 +62,9 @@ export class Element {
   setSelectionRange() {}
   showModal() {}
   scrollIntoView() {}
+  showPopover() {}
+  hidePopover() {}
+  getBoundingClientRect() { return { left: 0, top: 0, bottom: 0, width: 0, height: 0 }; }
   close() {}
   focus() { document.activeElement = this; }
   click() { return this.onclick?.({ target: this, preventDefault() {} }); }
@@ -77,6 +81,7 @@ export class Element {
   prepend(...all) { this.childNodes.unshift(...this.#taken(all)); }
   replaceChildren(...all) { this.childNodes = this.#taken(all); }
   insertBefore(it) { this.append(it); }
+  after(it) { this.parentNode.append(it); }
 
   remove() {
     if (this.parentNode) this.parentNode.childNodes = this.parentNode.childNodes.filter((it) => it !== this);
@@ -130,7 +135,7 @@ export const happens = (kind, event) => listeners.get(kind)?.forEach((it) => it(
 export const shown = (selector) => body.querySelectorAll(selector);
 export const buttonOf = (words) => shown("button").find((it) => it.textContent === words);
 
-Object.assign(globalThis, { document, localStorage: store, Element, scrollY: 0, scrollTo() {},
+Object.assign(globalThis, { document, localStorage: store, Element, innerHeight: 0, scrollY: 0, scrollTo() {},
   addEventListener: (kind, does) => listeners.set(kind, [...listeners.get(kind) ?? [], does]),
   ResizeObserver: class { observe() {} }, getSelection: () => ({ isCollapsed: true }),
   location: { origin: process.env.ROOM ?? "http://127.0.0.1:1", hash: "", reload() { throw new Error("reloaded"); } } });
