@@ -14,7 +14,7 @@ const store = new Proxy(items, {
 });
 export const kept = { clear: () => held.clear(), does: items };
 
-const locks = new Map(); // from a name to those who wait for it, while somebody has it
+const locks = new Map(); // from a name to those who wait for it, while somebody has it: till all tabs end
 
 export const tabs = {
   /** All tabs end, and with them their locks: whoever waits for one has it. */
@@ -138,7 +138,9 @@ export const buttonOf = (words) => shown("button").find((it) => it.textContent =
 Object.assign(globalThis, { document, localStorage: store, Element, innerHeight: 0, scrollY: 0, scrollTo() {},
   addEventListener: (kind, does) => listeners.set(kind, [...listeners.get(kind) ?? [], does]),
   ResizeObserver: class { observe() {} }, getSelection: () => ({ isCollapsed: true }),
-  location: { origin: process.env.ROOM ?? "http://127.0.0.1:1", hash: "", reload() { throw new Error("reloaded"); } } });
+  location: { origin: process.env.ROOM ?? "http://127.0.0.1:1", hash: "", reload() {
+    throw new Error("reloaded");
+  } } });
 globalThis.crypto ??= webcrypto;
 Object.defineProperty(globalThis, "navigator",
   { value: { languages: ["en"], locks: { request } }, configurable: true, writable: true });

@@ -48,5 +48,7 @@ test("what is no name, and no path", () => {
 test("an address leads to a place, or nowhere", () => {
   const place = { view: "who", room: "club", path: "/a b/ü%2f#" };
   assert.deepEqual(placeOf(addressOf(place)), place);
-  for (const it of ["#open/club/..", "#open/club/a%0ab", "#open", "#open/club/%ff"]) assert.equal(placeOf(it), null, it);
+  for (const it of ["#open/club/..", "#open/club/a%0ab", "#open", "#open/club/%ff"]) {
+    assert.equal(placeOf(it), null, it);
+  }
 });

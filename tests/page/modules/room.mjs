@@ -1,9 +1,9 @@
 /** A served room, as the page's session asks it, whose answers may be lost; each user of it by a tab of their own. */
 import { page, tabs } from "./browser.mjs";
 
-/** `faults` says what becomes of the next requests to the room: pass, lose (the answer), drop (the request), hang (till
- * it is given up), a status in place of the room's, or a reply in place of it. `asked` is what went out, `how` the rules
- * of the newest; `user` who is logged in at the front. */
+/** `faults` says what becomes of the next requests to the room: pass, lose (the answer), drop (the request), hang
+ * (until it is given up), a status in place of the room's, or a reply in place of it. `asked` is what went out, `how`
+ * the rules of the newest; `user` who is logged in at the front. */
 export const front = { faults: [], asked: [], how: null, user: "ann" };
 const plain = globalThis.fetch;
 const ROSTER = { ann: ["eng"], bob: ["eng"], eve: [] };

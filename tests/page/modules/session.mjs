@@ -83,7 +83,8 @@ test("what is under way is kept before it goes out, and no longer than that", as
   let held = null;
   globalThis.fetch = (url, how) => {
     const key = holding()[0];
-    held = { body: JSON.parse(localStorage.getItem(key)), ...JSON.parse(localStorage.getItem(key.slice(0, -5))).pending };
+    const { pending } = JSON.parse(localStorage.getItem(key.slice(0, -"/body".length)));
+    held = { body: JSON.parse(localStorage.getItem(key)), ...pending };
     return before(url, how);
   };
   await its.session.ask(append("x"));
