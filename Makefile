@@ -130,9 +130,10 @@ firstday: $(BUILT)
 	tests/firstday/dist
 	RT='$(RT)' tests/firstday/run quick
 
-# Tries the page in a browser. Needs nginx-light, chromium and chromium-driver, and says so where they are not
-# installed.
+# Tries the page's modules in node, and the page in a browser. Needs nodejs, nginx-light, chromium and chromium-driver,
+# and says so where they are not installed.
 page: $(BUILT)
+	tests/page/modules/run
 	tests/page/run
 
 # Times and counts the program's works; the program beside a server in C over libsqlite3; the instructions of both, and

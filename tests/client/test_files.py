@@ -138,6 +138,19 @@ class Writers(Behind):
                     files.write(room, "/a", mine)
             self.assertEqual(files.read(room, "/a"), theirs)
 
+    def test_pieces_that_another_took_away_are_put_again(self):
+        """A writer who began before, and was slow, may take them for left over."""
+        mine = some(PIECE + 1, 1)
+
+        def take():
+            with self.room(state=self.path("other")) as other:
+                folder, = (it for it in other.children("/a") if it.startswith(manifest.PIECES))
+                files.remove_all(other, f"/a/{folder}")
+        with self.behind() as room:
+            with self.between("look_after", take):
+                files.write(room, "/a", mine)
+            self.assertEqual(files.read(room, "/a"), mine)
+
     def test_a_document_that_changed(self):
         mine = some(PIECE + 1, 1)
         with self.behind() as room:
