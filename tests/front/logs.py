@@ -29,7 +29,8 @@ GROWN = 257 << 20  # bytes: more than the log of changes may have
 MOST_OF_A_FILE = 1 << 24
 CONNECTIONS = 40  # of a front that is soon full
 HEAVY = 10_000  # bytes of a body that holds a room
-HEAVY_AT_ONCE, HEAVY_WAITING, HEAVY_A_SECOND = 8, 192, 20  # (of a front 40 a second: a slow machine shows this too)
+HEAVY_AT_ONCE, HEAVY_WAITING, DAV_AT_ONCE = 8, 192, 40
+A_SECOND = 20  # of these, where a front has 40 and 100: a slow machine shows this too
 
 
 class Late:
@@ -144,6 +145,23 @@ def dav(front, user, source, length=0):
     return line
 
 
+def many_by_webdav(other, tally):
+    """From some at once on they come spread over the second, also to be told that they are too many: who is told so
+    sends a whole file again."""
+    at, room, many = os.path.join(other.folder, "gate-2.sock"), Late(), 3 * DAV_AT_ONCE
+    gate = Late(b"from the gateway", at)
+    gate.may.set()
+    front = started(other, "dav-many", room, dav=at, rate=f"{A_SECOND}r/s", connections=4096)
+    begin = time.monotonic()
+    lines = [dav(front, "u01", f"127.2.5.{1 + it // EACH}") for it in range(many)]
+    tally.differs("another login's", status(dav(front, "u02", "127.2.5.1").answer()), 200)
+    beside = time.monotonic() - begin
+    tally.differs("many by WebDAV", {status(it.answer()) for it in lines} <= {200, 429}, True)
+    took = time.monotonic() - begin
+    tally.differs(f"they took {took:.1f} s", took >= (many - DAV_AT_ONCE - 1) / A_SECOND, True)
+    tally.differs(f"who does not wait behind them: {beside:.1f} s", beside < took / 2, True)
+
+
 def long_ones(other, tally):
     """Two SETLISTs or moves to another folder of a login are under way, however they are written, and the answer to one
     that took long is held back; a new name in the same folder is none of them."""
@@ -169,7 +187,7 @@ def heavy_ones(other, tally):
     The next ones wait, more than clients have under way; and what is small does not wait behind them."""
     room = Late()
     room.may.set()
-    front = started(other, "heavy", room, heavy=f"{HEAVY_A_SECOND}r/s", connections=4096)
+    front = started(other, "heavy", room, heavy=f"{A_SECOND}r/s", connections=4096)
     begin, many = time.monotonic(), 2 * (HEAVY_AT_ONCE + HEAVY_WAITING)
     lines = [begun(front, "u01", at, f"127.2.4.{1 + at // EACH}", bytes(HEAVY)) for at in range(many)]
     begun_in = time.monotonic() - begin
@@ -179,8 +197,8 @@ def heavy_ones(other, tally):
     found = [status(it.answer()) for it in lines]
     took, passed, least = time.monotonic() - begin, found.count(200), HEAVY_AT_ONCE + HEAVY_WAITING
     tally.differs("heavy ones of one login", set(found), {200, 429})
-    tally.differs(f"{passed} of {many} pass", least <= passed <= least + 2 + HEAVY_A_SECOND * begun_in, True)
-    tally.differs(f"they took {took:.1f} s", took >= (passed - HEAVY_AT_ONCE - 1) / HEAVY_A_SECOND, True)
+    tally.differs(f"{passed} of {many} pass", least <= passed <= least + 2 + A_SECOND * begun_in, True)
+    tally.differs(f"they took {took:.1f} s", took >= (passed - HEAVY_AT_ONCE - 1) / A_SECOND, True)
     tally.differs(f"what does not wait behind them: {beside:.1f} s", beside < took / 2, True)
 
 
@@ -254,7 +272,8 @@ def too_many_connections(other, tally):
         it.close()
 
 
-PARTS = {it.__name__: it for it in (of_a_login, of_webdav, long_ones, heavy_ones, refusals, too_many_connections)}
+PARTS = {it.__name__: it for it in (of_a_login, of_webdav, many_by_webdav, long_ones, heavy_ones, refusals,
+                                       too_many_connections)}
 
 
 def tried(front, tally, names=tuple(PARTS)):
