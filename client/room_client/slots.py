@@ -69,7 +69,10 @@ class Pace:
             self.left, self.at = min(self.left + (now - self.at) * self.rate, BURST) - 1, now
             pause = -self.left / self.rate
         if pause > 0:
-            time.sleep(pause)
+            self.rest(pause)
+
+    def rest(self, seconds: float) -> None:
+        time.sleep(seconds)
 
 
 class Slot:
@@ -175,7 +178,7 @@ class Slot:
             self.line.close()
             if time.monotonic() - begin > WORD_AFTER and self.pace.is_first_word():
                 self.say(f"no answer yet ({answer}): {WAITS.get(answer, BUSY)}; it is sent again")
-            time.sleep(pause * random.uniform(0.5, 1.0))
+            self.pace.rest(pause * random.uniform(0.5, 1.0))
             pause = min(2 * pause, LONGEST_PAUSE)
 
     def _attempt(self, method: str, target: str, body: bytes, seconds: float) -> Answer | str:

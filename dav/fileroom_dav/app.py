@@ -45,7 +45,7 @@ class Gate:
         self.seats, self.locks = Seats(front, folder, patience), Locks(os.path.join(folder, "locks"))
         self.seen, self.memory, self.passing = Seen(os.path.join(folder, "seen")), Memory(), Passing()
         self.asides, self.steps = Asides(os.path.join(folder, "asides")), Steps(os.path.join(folder, "steps"))
-        self.at_work = Share(MOST_AT_WORK)
+        self.at_work, self.floor = Share(MOST_AT_WORK), self.seats.floor
         self.unread = Share(MOST_UNREAD, "too many large answers to you are not read yet")
 
     @contextlib.contextmanager
@@ -82,7 +82,7 @@ class Gate:
             return refusal(Answered(500, "the gateway failed: its log says how"))
 
     def in_turn(self, asked: Asked) -> Reply:
-        with self.at_work.of(asked.user):
+        with self.at_work.of(asked.user), self.floor.of(asked.user):
             self.unread.need(asked.user)
             reply = self.done(asked)
             if isinstance(reply.body, Sent):

@@ -91,11 +91,11 @@ def propfind(gate, visit: Visit, asked: Asked) -> Reply:
     locks, wanted = told_locks(gate, visit, asked, things), Wanted(wanted)
 
     def told(it: Thing) -> str:
+        visit.pace.floor.pause()
         held = "".join(active(lock, lock.user == asked.user) for lock in locks if lock.covers(it.path))
         inside = wanted.told_of(properties(it, held, times.get(it.path)))
         return bodies.response(href(asked.room, it.path, it.is_folder), inside)
-    with visit.pace.places:  # (it computes as the requests to rooms do)
-        return Reply(207, bodies.multistatus(map(told, things)), [XML])
+    return Reply(207, bodies.multistatus(map(told, things)), [XML])
 
 
 def told_locks(gate, visit: Visit, asked: Asked, things: list[Thing]) -> list[Lock]:

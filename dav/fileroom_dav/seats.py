@@ -6,7 +6,7 @@ from room_client import Settings
 from room_client.faults import Fault, SessionLost
 
 from .faults import Busy, as_answered
-from .turns import MOST_AT_WORK, TOO_MANY
+from .turns import Floor, MOST_AT_WORK, TOO_MANY
 from .visit import UserPace, Visit, file_of_front
 
 SEATS = MOST_AT_WORK  # of a user in a room
@@ -18,7 +18,7 @@ class Seats:
         self.front, self.folder, self.patience = front, folder, patience
         self.taken: set[tuple[str, str, int]] = set()
         self.paces: dict[str, UserPace] = {}
-        self.mutex = threading.Lock()
+        self.mutex, self.floor = threading.Lock(), Floor()
 
     def take(self, room: str, user: str) -> int:
         with self.mutex:
@@ -36,7 +36,7 @@ class Seats:
         with self.mutex:
             if user not in self.paces and len(self.paces) >= MOST_PACES:
                 self.paces.clear()
-            return self.paces.setdefault(user, UserPace())
+            return self.paces.setdefault(user, UserPace(user, self.floor))
 
     def visits(self, room: str, user: str, password: str, does):
         """What `does` makes of a visit. Where the room does not know the session, because it was made anew, another one

@@ -3,6 +3,7 @@ thread; who comes beyond them is told so at once. So there are threads for other
 """
 import contextlib
 import threading
+import time
 from collections import Counter, deque
 
 from waitress.task import ThreadedTaskDispatcher
@@ -13,6 +14,8 @@ from .faults import LATER, REASONS, Answered, Busy
 THREADS = 40
 MOST_AT_WORK = 4  # of a login
 MOST_WAITING = 12  # of a login: with those at work as many as a front lets through from an address
+LONGEST = 0.001  # seconds that one computes while others wait, where it can pause
+PATIENCE = 0.1  # seconds that one computes until others go on beside it
 MOST_UNREAD = 8  # large answers to a login that it does not read, each of up to 16 MiB in a file
 TOO_MANY = "too many of your requests are under way"
 
@@ -51,6 +54,101 @@ class Share:
             yield
         finally:
             self.leave(login)
+
+
+class Floor:
+    """Who computes: one thread at a time, and next is one of the login that computed least of late. (Python too lets
+    one at a time compute. But it has a thread wait for all others after each short step, and who begins as many
+    requests as they may is most of these.) It is no lock: nobody waits for one thread longer than PATIENCE."""
+
+    def __init__(self, now=time.monotonic):
+        self.now, self.mutex, self.mine = now, threading.Lock(), threading.local()
+        self.login, self.since = None, 0.0  # who computes, and since when
+        self.waiting: dict[str, deque[threading.Lock]] = {}
+        self.spent, self.least = {}, 0.0  # seconds of each login, and those of who computes as that began
+
+    @property
+    def holder(self) -> str | None:
+        """The login for which this thread computes."""
+        return getattr(self.mine, "login", None)
+
+    @contextlib.contextmanager
+    def of(self, login: str):
+        if self.holder is not None:
+            yield
+            return
+        self._enter(login)
+        try:
+            yield
+        finally:
+            self._leave()
+
+    @contextlib.contextmanager
+    def away(self):
+        """During a wait."""
+        login = self.holder
+        self._leave()
+        try:
+            yield
+        finally:
+            if login is not None:
+                self._enter(login)
+
+    def pause(self) -> None:
+        """Between two parts of what takes long."""
+        if self.waiting and self.now() - self.since > LONGEST:
+            with self.away():
+                pass
+
+    def _enter(self, login: str) -> None:
+        turn = threading.Lock()
+        with self.mutex:
+            if self.login is None:
+                self._begin(login)
+            else:
+                turn.acquire()
+                self._wait(login, turn)
+        while not turn.acquire(timeout=PATIENCE):
+            if self._goes_on_without(login, turn):
+                return
+        self.mine.login = login
+
+    def _wait(self, login: str, turn: threading.Lock) -> None:
+        if login not in self.waiting:  # (who computed nothing meanwhile is owed nothing)
+            self.waiting[login], self.spent[login] = deque(), max(self.spent.get(login, 0.0), self.least)
+        self.waiting[login].append(turn)
+
+    def _goes_on_without(self, login: str, turn: threading.Lock) -> bool:
+        """Where one thread is held up, and it is not this one's turn by now."""
+        with self.mutex:
+            does = self.now() - self.since > PATIENCE and turn in self.waiting.get(login, ())
+            if does:
+                self._take(login, turn)
+            return does
+
+    def _take(self, login: str, turn: threading.Lock) -> None:
+        self.waiting[login].remove(turn)
+        if not self.waiting[login]:
+            del self.waiting[login]
+
+    def _begin(self, login: str) -> None:
+        self.login, self.since, self.least = login, self.now(), self.spent.get(login, 0.0)
+
+    def _leave(self) -> None:
+        if self.holder is None:
+            return
+        self.mine.login = None
+        with self.mutex:
+            self.spent[self.login] = self.spent.get(self.login, 0.0) + self.now() - self.since
+            if not self.waiting:
+                self.login = None
+                self.spent.clear()
+                return
+            login = min(self.waiting, key=self.spent.__getitem__)
+            turn = self.waiting[login][0]
+            self._take(login, turn)
+            self._begin(login)
+            turn.release()
 
 
 def name_of(channel) -> str:

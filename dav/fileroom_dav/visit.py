@@ -18,14 +18,16 @@ from dataclasses import replace
 from room_client import Room, Settings
 from room_client.faults import Fault, LocalFault, SessionLost
 from room_client.line import Answer, Line, reply_of
-from room_client.room import CHANGES, counted
+from room_client.room import CHANGES, counted, unheard
 from room_client.slots import Pace, Slot
 from room_client.state import Session, State
+
+from .turns import Floor
 
 RATE = 240.0  # requests a second of one user, below what the front's socket takes of one (front/fileroom.conf)
 PAGE = 4096
 WIDTH = 4  # slots of a session: with four sessions of a user that is what a front takes of one at once
-AT_ONCE = 2  # requests to rooms of one user, over all sessions: computing takes turns, and others wait for few of them
+AT_ONCE = 2  # requests to rooms of one user, over all sessions: a room answers one at a time, and others wait for few
 BOOT = "/proc/sys/kernel/random/boot_id"
 
 
@@ -37,7 +39,16 @@ def boot_id() -> str:
         return file.read().strip()
 
 
-class SocketConnection(http.client.HTTPConnection):
+class Connection(http.client.HTTPConnection):
+    away = contextlib.nullcontext  # (the floor's, once a seat has it)
+
+    def getresponse(self):
+        with self.away():
+            self.sock.recv(1, socket.MSG_PEEK)
+        return super().getresponse()
+
+
+class SocketConnection(Connection):
     def __init__(self, path: str):
         super().__init__("localhost")
         self.path = path
@@ -58,7 +69,7 @@ def line_to(front: str) -> type[Line]:
                 self.connection = SocketConnection(front)
             else:
                 host, _, port = front.rpartition(":")
-                self.connection = http.client.HTTPConnection(host, int(port))
+                self.connection = Connection(host, int(port))
 
         def ask(self, method: str, target: str, body: bytes) -> Answer:
             status, self.text = self._answered(method, target, body)
@@ -71,6 +82,8 @@ def line_to(front: str) -> type[Line]:
 
 class KeptState(State):
     """As a desk has it, and no flush: it lasts over a kill of this program, and a start of the machine is seen."""
+
+    away = contextlib.nullcontext  # (the floor's, once a seat has it)
 
     def __init__(self, *how):
         super().__init__(*how)
@@ -90,16 +103,11 @@ class KeptState(State):
     def _write(self, path: str, what: dict) -> None:
         """One page in its place, which a kill does not cut: a file that is replaced waits for the disk."""
         text = json.dumps(what).encode().ljust(PAGE)
-        is_page = len(text) == PAGE and os.path.exists(path) and os.path.getsize(path) == PAGE
-        at = path if is_page else path + ".new"
-        file = os.open(at, os.O_WRONLY if is_page else os.O_WRONLY | os.O_CREAT | os.O_TRUNC, 0o600)
-        try:
-            if os.pwrite(file, text, 0) < len(text):
-                raise OSError(errno.ENOSPC, os.strerror(errno.ENOSPC))
-        finally:
-            os.close(file)
-        if not is_page:
-            os.replace(at, path)
+        if len(text) == PAGE and os.path.exists(path) and os.path.getsize(path) == PAGE:
+            return put(path, text, os.O_WRONLY)
+        with self.away():
+            put(path + ".new", text, os.O_WRONLY | os.O_CREAT | os.O_TRUNC)
+            os.replace(path + ".new", path)
 
     @property
     def boot_path(self) -> str:
@@ -115,12 +123,39 @@ class KeptState(State):
             file.write(boot_id())
 
 
-class UserPace(Pace):
-    """What all requests to rooms of one user share: how many go out a second, and how many are under way."""
+def put(path: str, text: bytes, how: int) -> None:
+    file = os.open(path, how, 0o600)
+    try:
+        if os.pwrite(file, text, 0) < len(text):
+            raise OSError(errno.ENOSPC, os.strerror(errno.ENOSPC))
+    finally:
+        os.close(file)
 
-    def __init__(self):
+
+class UserPace(Pace):
+    """What all requests to rooms of one user share: how many go out a second, how many are under way, and the floor,
+    which others have during each wait."""
+
+    def __init__(self, user: str, floor: Floor):
         super().__init__(is_free=False, rate=RATE)
-        self.places = threading.BoundedSemaphore(AT_ONCE)
+        self.user, self.floor, self.places = user, floor, threading.BoundedSemaphore(AT_ONCE)
+
+    def computing(self):
+        return self.floor.of(self.user)
+
+    def rest(self, seconds: float) -> None:
+        with self.floor.away():
+            super().rest(seconds)
+
+    @contextlib.contextmanager
+    def place(self):
+        if not self.places.acquire(blocking=False):
+            with self.floor.away():
+                self.places.acquire()
+        try:
+            yield
+        finally:
+            self.places.release()
 
 
 class Seat(Slot):
@@ -128,8 +163,18 @@ class Seat(Slot):
 
     front_status = 0
 
+    def __init__(self, *how):
+        super().__init__(*how)
+        self.line.connection.away = self.pace.floor.away
+        if self.state:
+            self.state.away = self.pace.floor.away
+
+    def ask(self, command: dict) -> dict:
+        with self.pace.computing():  # (also by a thread of its own)
+            return super().ask(command)
+
     def _attempt(self, *how):
-        with self.pace.places:
+        with self.pace.place():
             return super()._attempt(*how)
 
     def need_done(self, answer, command=None):
@@ -188,10 +233,14 @@ class Visit(Room):
         self.has_changed |= is_change
         return reply
 
-    def ask_all(self, commands, *how, **more) -> list:
+    def ask_all(self, commands, heard=unheard, keeps=lambda _, reply: reply) -> list:
+        def kept(at: int, reply: dict):
+            with self.pace.computing():
+                return keeps(at, reply)
         commands = counted(commands)
         try:
-            return super().ask_all(commands, *how, **more)
+            with self.pace.floor.away():
+                return super().ask_all(commands, heard, kept)
         finally:
             self.has_changed |= any(it["cmd"] in CHANGES for it in commands)
 

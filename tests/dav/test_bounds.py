@@ -15,13 +15,14 @@ from unittest import mock
 
 import counter
 from counter import PASSWORDS, Counter
-from fileroom_dav import app, bodies, faults, locks, props, seats, spool, steps, tree, turns
+from fileroom_dav import app, bodies, faults, locks, props, seats, spool, steps, tree, turns, visit
 from nginx import login
-from room_client import files
+from room_client import files, slots
 from room_client.faults import SessionLost
 from test_refusals import tag_of
 
 LARGE = 8 << 20
+put = visit.put
 PIECE = 65536
 
 
@@ -38,6 +39,12 @@ def open_files(pid):
     for it in os.listdir(f"/proc/{pid}/fd"):
         with contextlib.suppress(OSError):
             yield os.readlink(f"/proc/{pid}/fd/{it}")
+
+
+def wait_until(is_so):
+    end = time.monotonic() + 20
+    while not is_so() and time.monotonic() < end:
+        time.sleep(0.01)
 
 
 class Memory(Counter):
@@ -218,6 +225,142 @@ class Alone(unittest.TestCase):
         for user in ["ann"] * turns.MOST_AT_WORK + ["bob"]:
             its.ended(user)
         self.assertEqual((its.counts, its.waiting), ({}, {}))
+
+    def test_turns_to_compute(self):
+        """One thread at a time, and next is who computed least of late, however many of another wait."""
+        now, order, crew = [0.0], [], []
+        floor = turns.Floor(now=lambda: now[0])
+
+        def computes(user, seconds, among):
+            with floor.of(user), floor.of(user):
+                order.append(user)
+                now[0] += seconds
+                self.assertEqual(floor.login, user)
+                among()
+
+        def comes(user, seconds=1.0, among=lambda: None):
+            crew.append(threading.Thread(target=computes, args=(user, seconds, among), daemon=True))
+            count = sum(map(len, floor.waiting.values()))
+            crew[-1].start()
+            wait_until(lambda: sum(map(len, floor.waiting.values())) > count)
+
+        def others_come():
+            """(While eve computes.)"""
+            for user in "eve", "eve", "fay", "fay":
+                comes(user)
+            comes("ann", 0.1, lambda: comes("ann", 0.1))
+        with mock.patch.object(turns, "PATIENCE", 60):
+            computes("eve", 1.0, others_come)
+            for it in crew:
+                it.join(60)
+        self.assertEqual(order, ["eve", "fay", "ann", "ann", "eve", "fay", "eve"])
+        self.assertEqual((floor.login, floor.waiting, floor.spent), (None, {}, {}))
+
+    def test_who_computed_nothing_is_owed_nothing(self):
+        now, order = [0.0], []
+        floor = turns.Floor(now=lambda: now[0])
+        floor.spent = {"eve": 90.0, "gus": 90.0}
+
+        def computes(user):
+            with floor.of(user):
+                order.append(user)
+                now[0] += 1.0
+        with mock.patch.object(turns, "PATIENCE", 60), ThreadPoolExecutor(4) as crew, floor.of("gus"):
+            for at, user in enumerate(["fay", "fay", "fay", "eve"]):
+                crew.submit(computes, user)
+                wait_until(lambda at=at: sum(map(len, floor.waiting.values())) > at)
+        self.assertEqual(order, ["fay", "eve", "fay", "fay"])
+
+    def test_the_floor_is_free_while_the_front_answers(self):
+        """And it is the caller's before, and behind."""
+        seen = []
+
+        def answers():
+            peer, _ = front.accept()
+            with peer:
+                peer.recv(4096)
+                wait_until(lambda: gate.floor.login is None)
+                seen.append(gate.floor.login)
+                peer.sendall(b"HTTP/1.1 200 OK\r\nContent-Length: 2\r\n\r\n{}")
+
+        def done(asked):
+            seen.append(gate.floor.login)
+            gate.need_login(asked, "/whoami")
+            seen.append(gate.floor.login)
+            return app.Reply(204)
+        with socket.socket(socket.AF_UNIX) as front:
+            front.bind(os.path.join(self.folder, "front"))
+            front.listen()
+            gate = app.Gate(os.path.join(self.folder, "front"), self.folder)
+            one = threading.Thread(target=answers, daemon=True)
+            one.start()
+            with mock.patch.object(gate, "done", done):
+                gate.in_turn(types.SimpleNamespace(user="ann", password="word"))
+            one.join(20)
+        self.assertEqual((seen, gate.floor.login), (["ann", None, "ann"], None))
+
+    def test_a_wait_is_nobodys_turn(self):
+        """Before the next attempt, and for a place."""
+        floor, seen = turns.Floor(), []
+        pace = visit.UserPace("eve", floor)
+        with floor.of("eve"):
+            with mock.patch.object(slots.time, "sleep", side_effect=lambda _: seen.append(floor.login)):
+                pace.rest(1.0)
+            self.assertEqual((seen, floor.login), ([None], "eve"))
+
+        def waits():
+            with floor.of("eve"), pace.place():
+                seen.append(floor.login)
+        with ThreadPoolExecutor(1) as crew:
+            with pace.place(), pace.place():
+                crew.submit(waits)
+                wait_until(lambda: pace.places._cond._waiters)
+                seen.append(floor.login)
+        self.assertEqual((seen, floor.login), ([None, None, "eve"], None))
+
+    def test_hashes_and_the_disk_are_nobodys_turn(self):
+        """A file that is replaced waits for the disk, a page in its place does not."""
+        floor, seen = turns.Floor(), []
+        its = mock.Mock(size=9, pieces=["000"], is_of=lambda _: seen.append(floor.login) or True)
+        one = types.SimpleNamespace(pace=visit.UserPace("eve", floor))
+        state = visit.KeptState(os.path.join(self.folder, "state"), "http://x", "eve", 1.0)
+        self.addCleanup(state.close)
+        with floor.of("eve"), mock.patch.object(tree, "filled", return_value=b"x"), mock.patch.object(
+                visit, "put", side_effect=lambda *how: (seen.append(floor.login), put(*how))):
+            self.assertEqual(tree.pieces_of(one, "/a", its, range(1)), b"x")
+            visit.Seat(0, mock.Mock(), None, state, one.pace, None)
+            state.save(state.session)
+            state.record("short", 0)
+            state.record("x" * 90_000, 0)
+        self.assertEqual((seen, floor.login), ([None, None, "eve", None], None))
+
+    def test_nobody_waits_long_for_one(self):
+        floor = turns.Floor()
+
+        def beside():
+            with floor.of("fay"):
+                return floor.login, floor.holder, floor.waiting
+        with ThreadPoolExecutor(1) as crew, floor.of("eve"):
+            self.assertEqual(crew.submit(beside).result(20), ("eve", None, {}))
+        self.assertEqual((floor.login, floor.waiting), (None, {}))
+
+    def test_long_answers_are_made_in_parts(self):
+        """Where others wait, after a moment."""
+        now = [0.0]
+        floor, order = turns.Floor(now=lambda: now[0]), []
+
+        def computes():
+            with floor.of("fay"):
+                order.append("fay")
+        with mock.patch.object(turns, "PATIENCE", 60), ThreadPoolExecutor(1) as crew, floor.of("eve"):
+            crew.submit(computes)
+            wait_until(lambda: floor.waiting)
+            for _ in range(2):
+                floor.pause()
+                order.append("eve")
+                now[0] += 2 * turns.LONGEST
+            floor.pause()
+        self.assertEqual(order, ["eve", "fay", "eve"])
 
     def test_one_login_is_told_at_once(self):
         gate, goes, said = app.Gate("/none", self.folder), threading.Event(), []
