@@ -173,16 +173,15 @@ class Siege(Counter):
         for user in MEMBERS:
             self.does(user, "PUT", f"/{user}-large", 201, data)
         self.does("ann", "PUT", "/middle", 201, os.urandom(1_500_000))
-        quiet, _ = self.waits(SECONDS / 2)
-        print(f"dav: quiet: {told(quiet)}; the gateway had {self.held()}", flush=True)
         crowds = {"one login": [("eve", "127.0.0.11")],
                   "one login, nine addresses": [("eve", f"127.0.0.{it}") for it in range(11, 20)],
                   "three logins": [(user, f"127.0.0.{it + 21}") for it, user in enumerate(MEMBERS)]}
         for name, kinds in ATTACKS.items():
             for crowd, who in [it for it in crowds.items() if ONLY in f"{name}: {it[0]}"]:
-                self.besieged(f"{name}: {crowd}", who, kinds, quiet)
+                self.besieged(f"{name}: {crowd}", who, kinds)
 
-    def besieged(self, name, who, kinds, quiet):
+    def besieged(self, name, who, kinds):
+        quiet, _ = self.waits(SECONDS / 2)  # (each time anew: a busy machine changes)
         said, ends = multiprocessing.Array("i", 1000), multiprocessing.Event()
         args = self.front.port, who, kinds, "nobody reads" not in name, said, ends
         crew = multiprocessing.Process(target=attack, args=args, daemon=True)
@@ -197,8 +196,9 @@ class Siege(Counter):
         crew.kill()
         theirs = ", ".join(f"{count} times {status}" for status, count in enumerate(said.get_obj()) if count)
         times = ", ".join(f"{waited[it] / quiet[it]:.1f}" for it in quiet)
-        print(f"dav: {name}: {told(waited)}, times {times}; another's odd answers: {odd}; theirs: {theirs}; "
-              f"processors: {computed}; the gateway had {self.held()}", flush=True)
+        print(f"dav: {name}: {told(quiet)}, then {told(waited)}, times {times}; another's odd answers: {odd}; "
+              f"theirs: {theirs}; processors: {computed}; the gateway had {self.held()}; load {os.getloadavg()[0]:.0f}",
+              flush=True)
         self.assertIsNone(self.gateway.poll(), "it was killed")
         self.settle()
 
