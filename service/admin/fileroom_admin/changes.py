@@ -13,9 +13,11 @@ import os
 import pwd
 import socket
 import stat
+import subprocess
 import time
 
-from .places import SEARCHED, Fault, asked, said
+from .owned import of_backups
+from .places import HERE, SEARCHED, Fault, asked, said
 
 JOURNAL, LOCK = "etc/fileroom/admin.journal", "etc/fileroom/admin.lock"
 NEW, OLD = ".fileroom-new", ".fileroom-old"
@@ -23,6 +25,8 @@ FOLDER = os.O_RDONLY | os.O_DIRECTORY | os.O_NOFOLLOW | os.O_CLOEXEC
 # What another process of theirs can take: it gets no terminal of root's, and of root's environment the path.
 AS_ROOMS = ("setsid", "-w", "env", "-i", f"PATH={SEARCHED}", "setpriv", "--reuid=fileroom", "--regid=fileroom",
             "--clear-groups", "--")
+RENEW = os.path.join(HERE, "../../fileroom-renew")
+MOST_SAID = 4096  # bytes of what a process of the rooms' user says
 OWN_FILE = os.O_RDWR | os.O_CREAT | os.O_NOFOLLOW | os.O_CLOEXEC
 
 
@@ -96,6 +100,7 @@ class Change:
         self.undoes.insert(0, undo or words)
 
     def happen(self):
+        """What each service said."""
         files = [[path, os.path.exists(path), sum_of(data)] for path, (data, *_) in self.files.items()]
         for path, was, its_sum in files:
             os.makedirs(os.path.dirname(path), exist_ok=True)
@@ -104,8 +109,8 @@ class Change:
                 os.link(path, beside(path, OLD))
             if its_sum:
                 self.prepare(path, was)
-        Journal(self.places, {"files": files, "room": self.room, "looks": self.looks, "does": self.does,
-                              "undoes": self.undoes}).play()
+        return Journal(self.places, {"files": files, "room": self.room, "looks": self.looks, "does": self.does,
+                                     "undoes": self.undoes}).play()
 
     def prepare(self, path, was):
         data, mode, group = self.files[path]
@@ -141,18 +146,21 @@ class Journal:
             for words in self.says["looks"]:
                 asked(*words)
             self.write("decided")
-            self.finish()
+            return self.finish()
         except BaseException:
             self.undo()
             raise
 
     def finish(self):
-        for words in self.says["does"]:
-            if words[0] == "answers":
-                wait_until_answers(self.places, words[1])
-            else:
-                asked(*words)
+        """What each service said."""
+        told = [self.do(*words) for words in self.says["does"]]
         self.clear()
+        return told
+
+    def do(self, *words):
+        if words[0] == "answers":
+            return wait_until_answers(self.places, words[1])
+        return renew(self.places, words[1]) if words[0] == "renew" else asked(*words)
 
     def undo(self):
         """The files of before, but where somebody else wrote one since, and services that have read them."""
@@ -194,6 +202,18 @@ def make_room(places, name, owner, group):
     for folder in os.path.dirname(state), state, places.backups().rstrip("/"):
         own_folder(places, folder)
     asked(*AS_ROOMS, places.program, "init", places.file(name), "--", owner, group)
+
+
+def renew(places, room):
+    """New numbers for the objects of a room that rests, or why it is as it was. (However long that takes; and what a
+    process of the rooms' user says is bounded.)"""
+    words = [*(AS_ROOMS if places.is_machine else ()), RENEW, places.file(room), places.roster(room)]
+    how = {"stdin": subprocess.DEVNULL, "stdout": subprocess.PIPE, "stderr": subprocess.STDOUT, "cwd": "/"}
+    with subprocess.Popen(words, env={**os.environ, "PATH": SEARCHED}, **how) as it:
+        told = of_backups().shown(it.stdout.read(MOST_SAID).decode(errors="replace").strip())
+    if it.returncode:
+        raise Fault(told)
+    return told
 
 
 def own_folder(places, path):

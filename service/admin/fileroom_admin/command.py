@@ -44,7 +44,8 @@ def parser():
 
 
 def add_rooms(words):
-    room = words.add_parser("room", help="add, list, export, import, remove").add_subparsers(dest="what", required=True)
+    room = words.add_parser("room", help="add, list, export, import, renew, remove")
+    room = room.add_subparsers(dest="what", required=True)
     add_command(room, "add", "a new room, served and backed up; its root folder belongs to OWNER and GROUP", "NAME",
                 "OWNER", "GROUP")
     room.add_parser("list", help="rooms, sizes, users, backups, and where they answer")
@@ -52,6 +53,7 @@ def add_rooms(words):
     one = add_command(room, "import", "serves a room from such a file", "FILE")
     one.add_argument("--as", dest="name", metavar="NAME", help="under another name")
     one.add_argument("--certificate", action="store_true", help="and has the front listen by the file's certificate")
+    add_command(room, "renew", "new numbers for a room's objects: those of what was removed can be used again", "NAME")
     add_command(room, "remove", "removes a room, and keeps it as such a file", "NAME")
 
 
@@ -107,7 +109,7 @@ def passwd(commands, given):
     commands.user_passwd(given.USER, sys.stdin.readline().rstrip("\r\n") if given.stdin else None)
 
 
-TELLS = "dav list", "user list", "user owns", "group list", "room list", "room export"
+TELLS = "dav list", "user list", "user owns", "group list", "room list", "room export", "room renew"
 DOES = {
     "user list": user_list,
     "user owns": lambda it, given: it.user_owns(given.USER),
@@ -116,6 +118,7 @@ DOES = {
     "room add": lambda it, given: it.room_add(given.NAME, given.OWNER, given.GROUP),
     "room export": lambda it, given: it.room_export(given.NAME, given.FILE),
     "room import": lambda it, given: it.room_import(given.FILE, given.name, given.certificate),
+    "room renew": lambda it, given: it.room_renew(given.NAME),
     "room remove": lambda it, given: it.room_remove(given.NAME),
     "user add": lambda it, given: it.user_add(given.ROOM, given.USER, given.GROUP),
     "user import": lambda it, given: it.user_import(given.ROOM, given.CSV, given.update),

@@ -10,11 +10,10 @@ import time
 
 from . import archives, owned, rosters
 from .archives import ABOUT, CERT, DB, KEY, LOG, LOGINS, NAMES, NEW_HERE, ROSTER, add, add_file, new_file
-from .changes import AS_ROOMS, FOLDER, Change, begun, own_folder, put_aside
+from .changes import AS_ROOMS, FOLDER, MOST_SAID, Change, begun, own_folder, put_aside
 from .people import People
 from .places import HERE, LISTEN, SEARCHED, Fault, asked, read, said
 
-MOST_SAID = 4096  # bytes of what a process of the rooms' user says
 FRESH = 3600  # seconds: a backup that is older was not made for this
 REMOVED = "var/backups/fileroom-removed"
 LOOKED_AT = ".roster.toml"  # in the room's folder, for the program
@@ -77,8 +76,7 @@ class Rooms(People):
     def room_remove(self, room):
         """It ends, and is kept in an archive, from which `room import` brings it back."""
         self.need_room(room)
-        if self.places.has_standby(room):
-            raise Fault(f"{room} has a standby: bring it back to one machine first (man fileroom-standby)")
+        self.need_no_standby(room)
         archive = self.places.at(REMOVED)
         os.makedirs(archive, mode=0o700, exist_ok=True)
         path = os.path.join(archive, f"{room}-{time.strftime('%Y-%m-%dT%H-%M-%SZ', time.gmtime())}.tar")
@@ -101,6 +99,26 @@ class Rooms(People):
         put_aside(self.places.state(room))
         self.say(f"its backups stay in {self.places.backups(room)}, and its files, renamed, in "
                  f"{self.places.state(room)}: remove them once nobody needs them")
+
+    def room_renew(self, room):
+        """New numbers for its objects, while it rests: those of what was removed can be used again. (A stop leaves the
+        old room or the new one, and the next call goes on.)"""
+        self.need_room(room)
+        self.need_no_standby(room)
+        unit = self.places.unit(room)
+        self.back_up(room)
+        was_served, change = not said("systemctl", "is-active", "-q", unit)[0], Change(self.places)
+        start = ("systemctl", "start", unit) if was_served else ("true",)
+        change.then("systemctl", "stop", unit, undo=start)
+        change.then("renew", room, undo=("true",))
+        change.then(*start, undo=("true",))
+        told = change.happen()[1]
+        self.until_answers(room)
+        self.say(f"{room}: {told}")
+
+    def need_no_standby(self, room):
+        if self.places.has_standby(room):
+            raise Fault(f"{room} has a standby: bring it back to one machine first (man fileroom-standby)")
 
     def take_out(self, room):
         """The change after which nothing of this machine knows the room."""
