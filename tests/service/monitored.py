@@ -2,6 +2,7 @@
 import json
 import os
 import re
+import shutil
 import subprocess
 import sys
 import time
@@ -125,6 +126,34 @@ def another_in_its_place(machine, tally, path):
     os.remove(secret)
 
 
+def paces(machine, tally):
+    """How long numbers last, by the backups of eight days, also where the room was renewed between."""
+    folder, now = machine.at("var/backups/fileroom/club"), time.time()
+    for what, counts, want, is_told in (
+            ("one backup", {1: 400_000}, None, False),
+            ("of half a day", {12: 1000, 1: 400_000}, None, False),
+            ("none used", {49: 400_000, 1: 400_000}, None, False),
+            ("at a pace", {97: 100_000, 49: 300_000, 1: 500_000}, 5.0, True),
+            ("30 days and more", {49: 690_000, 1: 709_300}, 30.1, False),
+            ("below 30 days", {49: 690_000, 1: 709_500}, 29.8, True),
+            ("of days before", {10 * 24: 1, 49: 400_000, 1: 400_100}, 11_998, False),
+            ("renewed between", {97: 600_000, 73: 700_000, 49: 100_000, 1: 200_000}, 16.0, True),
+            ("renewed just now", {97: 600_000, 49: 900_000, 1: 100_000}, None, False),
+            ("by one that tells none", {97: 100_000, 49: 300_000, 1: None}, 7.0, True)):
+        for hours, count in counts.items():
+            machine.write(f"{folder}/{stamp(hours * HOUR, now)}/numbers", "" if count is None else f"{count}\n")
+        found = numbers(machine)[2]
+        used, left = (found.get(f'fileroom_numbers_{it}{{room="club"}}') for it in ("used", "left_days"))
+        told = [it for it in machine.does("check")[1].splitlines() if it.startswith("club: of the 1,000,000 numbers")]
+        latest = [it for it in counts.values() if it][-1]
+        tally.differs(f"{what}: {used}, {left}", (int(used), left and round(float(left), 1 if want < 99 else 0)),
+                      (latest, want))
+        days = f", and at the pace of the last days the others last {want:.0f} days" if want else ""
+        tally.differs(f"{what}: check", told, [
+            f"club: of the 1,000,000 numbers that it has for objects, {latest:,} are used{days}"] * is_told)
+        shutil.rmtree(folder)
+
+
 def panels(tally):
     """Each number of the dashboard is one that there is."""
     names = set(re.findall(r'"([a-z_]+)": "', text_of(os.path.join(SERVICE, "admin/fileroom_admin/numbers.py"))))
@@ -195,6 +224,7 @@ def tried(folder, tally):
         machine.does("room", "add", room, "ann", "eng")
     machine.does("user", "add", "plans", "bob")
     latest = of_a_machine(machine, tally)
+    paces(machine, tally)
     panels(tally)
     tried_backups(machine, tally, latest)
     health(os.path.join(folder, "front-of"), tally)

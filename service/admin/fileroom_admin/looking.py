@@ -25,6 +25,8 @@ TRIED_DAYS = 9  # since a backup was tried
 FULL = 3 / 4  # of a unit's memory: a room's file that is larger is told
 OF_LISTS = 2.5  # so much memory its start takes where long lists fill it
 NUMBERS, USED = 1_000_000, 750_000  # of objects: a room's, and from how many on it is told
+NUMBERS_DAYS = 30  # or from how many days on before they end, at the pace of the last ones
+PACE_DAYS = 8  # over which a pace is taken
 OTHERS = stat.S_IRWXG | stat.S_IRWXO
 CLEAR = 8080  # the front's port without TLS
 LISTENS = "0A"  # a state, in /proc/net/tcp
@@ -215,11 +217,11 @@ class Findings:
     def numbers(self, room):
         """(The program counts them, and `fileroom-backup` writes down the count.)"""
         folder, names = self.places.backups(room), self.places.copies(room)
-        used = count_in(os.path.join(folder, names[-1], "numbers")) if names else 0
-        if used > USED:
-            self.add(f"{room}: of the {NUMBERS:,} numbers that it has for objects, {used:,} are used",
-                     f"make a new room before they end, and copy what you need; fileroom-admin log {room} shows who "
-                     "makes so many")
+        used, left = pace_of(folder, names)
+        if used > USED or left is not None and left < NUMBERS_DAYS:
+            days = "" if left is None else f", and at the pace of the last days the others last {left:.0f} days"
+            self.add(f"{room}: of the {NUMBERS:,} numbers that it has for objects, {used:,} are used{days}",
+                     f"fileroom-admin room renew {room}; fileroom-admin log {room} shows who makes so many")
 
     def owner(self, path):
         if not self.places.is_machine:
@@ -298,6 +300,21 @@ def count_in(path):
     with contextlib.suppress(OSError, ValueError), open(path, "rb", opener=unlinked) as file:
         return int(file.read(9))
     return 0
+
+
+def pace_of(folder, names):
+    """How many numbers a room has used, by its latest backup that tells it, or 0; and how many days the others last,
+    as they were used in the last days. That is None where it is not known, or none were used. (A room that was renewed
+    begins anew.)"""
+    counts = [(made_at(it), count_in(os.path.join(folder, it, "numbers"))) for it in names]
+    counts = [(when, used) for when, used in counts if used]
+    if not counts:
+        return 0, None
+    now, used = counts[-1]
+    since = [it for it in counts if it[0] >= now - PACE_DAYS * 86400]
+    begin = max((at for at in range(1, len(since)) if since[at][1] < since[at - 1][1]), default=0)
+    days, more = (now - since[begin][0]) / 86400, used - since[begin][1]
+    return used, max(NUMBERS - used, 0) * days / more if more and days > 0.5 else None
 
 
 def unlinked(path, flags):

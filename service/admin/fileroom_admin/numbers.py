@@ -9,19 +9,20 @@ import time
 
 from . import rosters
 from .changes import answers
-from .looking import Findings, end_of, look
+from .looking import PACE_DAYS, Findings, end_of, look, pace_of
 from .owned import latest, made_at
 from .places import LISTEN, Fault, read, said, said_before
 
 WINDOW = 600  # seconds of the front's log that are counted
 TAIL = 8 << 20  # bytes of it that are read at most
-DAYS = 8  # over which growth is taken
 LINE = re.compile(rb'\S+ - \S* \[([^\]]+)\] "[A-Z]+ /rooms/([A-Za-z0-9_-]+)/v1/[^"]*" (\d)\d\d .* ([\d.]+)$')
 ABOUT = {
     "up": "whether the room answers at its socket",
     "room_bytes": "size of the room's file and log",
     "room_growth_bytes_per_day": "by its backups of the last days",
     "memory_limit_bytes": "of the room's unit: its file has to fit it",
+    "numbers_used": "of the 1,000,000 numbers that the room has for objects, by its latest backup",
+    "numbers_left_days": "until they end, as they were used in the last days",
     "users": "users of the roster",
     "backups": "backups that are kept",
     "backup_age_seconds": "since the latest backup",
@@ -71,11 +72,14 @@ class Numbers:
         self.add("backups", len(names), room=room)
         if not names:
             return
+        used, left = pace_of(folder, names)
+        self.add("numbers_used", used or None, room=room)
+        self.add("numbers_left_days", left, room=room)
         self.add("backup_age_seconds", time.time() - made_at(latest(self.places, room)), room=room)
         tried = os.path.join(folder, ".tried")
         if os.path.exists(tried):
             self.add("restore_age_seconds", time.time() - os.lstat(tried).st_mtime, room=room)
-        first = next(it for it in names if made_at(it) > made_at(names[-1]) - DAYS * 86400)
+        first = next(it for it in names if made_at(it) > made_at(names[-1]) - PACE_DAYS * 86400)
         days = (made_at(names[-1]) - made_at(first)) / 86400
         if days > 0.5:
             grown = size_of(os.path.join(folder, names[-1])) - size_of(os.path.join(folder, first))
