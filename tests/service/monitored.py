@@ -146,7 +146,7 @@ def paces(machine, tally):
         used, left = (found.get(f'fileroom_numbers_{it}{{room="club"}}') for it in ("used", "left_days"))
         told = [it for it in machine.does("check")[1].splitlines() if it.startswith("club: of the 1,000,000 numbers")]
         latest = [it for it in counts.values() if it][-1]
-        tally.differs(f"{what}: {used}, {left}", (int(used), left and round(float(left), 1 if want < 99 else 0)),
+        tally.differs(f"{what}: {used}, {left}", (int(used), left and round(float(left), 1 if float(left) < 99 else 0)),
                       (latest, want))
         days = f", and at the pace of the last days the others last {want:.0f} days" if want else ""
         tally.differs(f"{what}: check", told, [

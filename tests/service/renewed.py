@@ -109,9 +109,11 @@ def renewed(machine, tally, db):
     status, _, faults = machine.does("room", "renew", "plans")
     tally.differs(f"a room that is served: {faults}", (status, "(is the room served?)" in faults), (1, True))
     it.end(machine)
-    before, used, count = without_room(db), numbers_of(db)[1] - 1, len(numbers_of(db)[0])
     os.chmod(db, 0o640)
     copy = shutil.copytree(os.path.dirname(db), os.path.join(machine.folder, "lived-in"))
+    look = os.path.join(shutil.copytree(copy, os.path.join(machine.folder, "its-look")), "room.db")
+    tally.differs("its log has most of it", os.path.getsize(f"{look}-wal") > os.path.getsize(look), True)
+    before, used, count = without_room(look), numbers_of(look)[1] - 1, len(numbers_of(look)[0])
     machine.told()
     told = machine.does("room", "renew", "plans")
     tally.differs("room renew", told, (0, f"plans: {count} objects; of 1,000,000 numbers {used} were used, and {count} "
@@ -128,7 +130,7 @@ def renewed(machine, tally, db):
     tally.differs("the next one", it.holds("bob", "MKDIR", "/young/next"), {"code": 0})
     it.end(machine)
     tally.differs("its number", numbers_of(db)[0][-1], count + 1)
-    return copy
+    return copy, before, used
 
 
 def stops(machine, tally, db, copy, before, used):
@@ -305,9 +307,7 @@ def tried(folder, tally):
     machine.does("user", "add", "plans", "bob", "eng")
     backed_up(machine)
     db = machine.at("var/lib/fileroom/plans/room.db")
-    copy = renewed(machine, tally, db)
-    look = os.path.join(shutil.copytree(copy, os.path.join(machine.folder, "its-look")), "room.db")
-    before, used = without_room(look), numbers_of(look)[1] - 1
+    copy, before, used = renewed(machine, tally, db)
     os.environ["FILEROOM"] = machine.env["FILEROOM"]
     steps = stops(machine, tally, db, copy, before, used)
     goes_on(machine, tally, db, copy, before, used)
