@@ -39,7 +39,7 @@ def read_each(path: str, take: Callable[[object], None]) -> int:
         for line in file:
             try:
                 take(json.loads(line))
-            except (ValueError, TypeError, KeyError, RecursionError):
+            except (ValueError, TypeError, KeyError, OverflowError, RecursionError):
                 bad += 1
     return bad
 
@@ -55,7 +55,9 @@ def record(kind: type, told: dict):
     its = kind(**told)
     for it in fields(kind):
         value = getattr(its, it.name)
-        is_fit = math.isfinite(value) if it.type is float else isinstance(value, it.type)
+        is_fit = isinstance(value, (int, float) if it.type is float else it.type)
+        if is_fit and isinstance(value, (int, float)):
+            is_fit = math.isfinite(value)  # (of many digits it is none that is computed with: OverflowError)
         if not is_fit:
             raise ValueError(f"{it.name} is {value!r}")
     return its

@@ -554,6 +554,19 @@ class Alone(unittest.TestCase):
             for name in os.listdir(self.folder):
                 os.remove(os.path.join(self.folder, name))
 
+    def test_a_number_of_many_digits(self):
+        """One that no clock has: nothing is computed with it."""
+        lock = locks.Lock("t", "plans", "/a", "ann", False, False, "", 5, 9e9)
+        aside, stamp = steps.Aside("plans", "ann", "/a", "/b", "k", 9e9), locks.Stamp("b", 1.0, 1.0)
+        for name, what, of in ("locks", lock, "seconds"), ("locks", lock, "end"), ("locks", stamp, "clock"), (
+                "locks", stamp, "wall"), ("asides", aside, "end"):
+            its = vars(what) | {of: 10 ** 400}
+            with open(os.path.join(self.folder, name), "wb") as file:
+                file.write(locks.line_of(its if what is stamp else [its]))
+            with contextlib.redirect_stderr(io.StringIO()) as said:
+                gate = app.Gate("/none", self.folder)
+            self.assertEqual((gate.locks.held, gate.asides.kept, said.getvalue().count("damaged-")), ({}, [], 1), of)
+
     def test_two_thousand_locks(self):
         """Taken, found again after a kill, and freed, in seconds; another's do not count."""
         now = [1000.0]
