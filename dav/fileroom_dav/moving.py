@@ -9,7 +9,7 @@ from .asked import Asked, Reply
 from .faults import Answered, is_refused, is_sure
 from .names import above, below, beside, is_backup, is_below, is_passing, is_short_lived, is_temporary, last
 from .rules import Rules
-from .saving import awaited, exchange, is_closed, put_backup, put_bytes, put_in_place, renamed
+from .saving import awaited, exchange, is_closed, need_private, put_backup, put_bytes, put_in_place, renamed
 from .steps import Aside, Step
 from .tree import Thing, bytes_of, standing, thing_at
 from .visit import Visit
@@ -75,6 +75,8 @@ def moved(gate, visit: Visit, asked: Asked, source: str, target: str) -> bool:
 
 def put_over(gate, visit: Visit, room: str, source: str, target: str) -> None:
     """(What goes is what was read: under another name nobody writes to it meanwhile.)"""
+    if is_temporary(target):
+        need_private(gate, visit, room, target)
     with set_aside(gate, visit, room, source) as aside:
         its = thing_at(visit, aside)
         put_bytes(visit, target, bytes_of(visit, its))
@@ -117,15 +119,17 @@ def copied(gate, visit: Visit, asked: Asked, its: Thing, target: str) -> bool:
     if there:
         need_overwrite(asked)
         awaited(gate, visit, asked.room, target)
-    is_away = there and (its.is_folder or there.is_folder or is_closed_backup(visit, its.path, target))
+    is_away = there and (its.is_folder or there.is_folder or is_other_backup(visit, its.path, target))
     with out_of_the_way(gate, visit, asked.room, target, its.path) if is_away else contextlib.nullcontext():
         copy_whole(gate, visit, asked, its, target)
     return there is None
 
 
-def is_closed_backup(visit: Visit, path: str, to: str) -> bool:
-    """Whether a document with a list of its own is copied to a backup. (By one that is there it could be read.)"""
-    return is_backup(to, path, True) and is_closed(visit, path)
+def is_other_backup(visit: Visit, path: str, to: str) -> bool:
+    """Whether a document is copied to a backup by which others could read it: one of the two has a list of its own, or
+    what is there is not the caller's."""
+    return is_backup(to, path, True) and (
+        is_closed(visit, path) or is_closed(visit, to) or files.other_owner(visit, to) is not None)
 
 
 def copy_whole(gate, visit: Visit, asked: Asked, its: Thing, target: str) -> None:

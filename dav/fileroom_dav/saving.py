@@ -12,6 +12,7 @@ from room_client import files
 from room_client.faults import Fault, NoAnswer, OtherVersion, Refused, SessionLost
 from room_client.manifest import NAME, Manifest, read_manifest
 from room_client.room import MOST_BYTES
+from room_client.trash import is_private
 from room_client.words import ALL, FOLDER, GROUP, INHERITED, LIST_FLAGS, TO_FILES, TO_FOLDERS
 
 from .asked import Asked
@@ -37,18 +38,35 @@ def put_in_place(gate, visit: Visit, room: str, path: str, data: bytes, is_new: 
         exchange(gate, visit, *found, data=data)
         return True
     if is_temporary(path):
-        need_own(visit, path)
+        need_private(gate, visit, room, path)
     is_made = put_bytes(visit, path, data, is_new)
     if is_made:
         gate.asides.made(room, visit.settings.user, path)
     return is_made
 
 
-def need_own(visit: Visit, path: str) -> None:
-    """Where something has a program's name already, that it is the caller's. (Anyone who may add could make a file
-    there, to read what is to become a version of something that they are denied.)"""
-    if owner_of(visit, path) not in ("", visit.settings.user):
+def need_private(gate, visit: Visit, room: str, path: str) -> None:
+    """Where something has a program's name already, that it is the caller's and nobody else can read it, or is what
+    they moved there. (Anyone who may add could make a file there, and give it to them, to read what is to become a
+    version of something that they are denied.)"""
+    user = visit.settings.user
+    try:
+        its = visit.stat(path)
+    except Refused as fault:
+        if is_refused(fault, "NOENT", "NOTDIR"):
+            return
+        its = {}
+    one = gate.asides.is_aside(room, user, path)
+    if one and known_by(visit, path) == one.known:
+        return
+    if its.get("owner") != user:
         raise Answered(403, f"{path} is somebody else's, who could read there what your program saves")
+    told = visit.get_list(path)
+    if not files.has_own_list(told):
+        if its["kind"] != FOLDER or not is_folder(visit, path):
+            veil(visit, path, its["kind"] == FOLDER)
+    elif not is_private(told, user):
+        raise Answered(403, f"the list of {path} lets others read there what your program saves")
 
 
 def put_bytes(visit: Visit, path: str, data: bytes, is_new: bool = False) -> bool:
@@ -62,7 +80,11 @@ def put_bytes(visit: Visit, path: str, data: bytes, is_new: bool = False) -> boo
 
 
 def put_veiled(visit: Visit, path: str, data: bytes) -> bool:
-    return put_closed(visit, path, data, lambda is_large: visit.set_list(path, VEIL, [of_one("OWNER@", is_large)]))
+    return put_closed(visit, path, data, lambda is_large: veil(visit, path, is_large))
+
+
+def veil(visit: Visit, path: str, is_large: bool) -> None:
+    visit.set_list(path, VEIL, [of_one("OWNER@", is_large)])
 
 
 def put_backup(visit: Visit, source: str, path: str, data: bytes) -> bool:
@@ -158,12 +180,6 @@ def renamed(gate, visit: Visit, room: str, source: str, target: str) -> None:
             visit.rename(source, target)
     if is_fresh:
         asides.made(room, user, target)
-
-
-def owner_of(visit: Visit, path: str) -> str:
-    """As far as the room tells."""
-    reply, = visit.ask_all([{"cmd": "STAT", "keep": False, "path": path}])
-    return reply.get("owner", "")
 
 
 def known_by(visit: Visit, path: str) -> str:

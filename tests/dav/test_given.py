@@ -1,0 +1,80 @@
+"""What somebody else lays where a program saves, and gives away or opens: no version goes into it that they, or others,
+could read there."""
+from test_saves import HERS, SavesCounter, Wire
+
+SECRET = b"new secret"
+ALL = {"flag": 0, "mask": 0x1F07FF, "type": 0}
+VIEW = ALL | {"mask": 0x1200A9}
+WRITE_UNTOLD = ALL | {"mask": 0x10007, "who": "ann"}  # to read, write and remove, and not to ask whose it is
+OPEN = [ALL | {"who": "ann"}, ALL | {"who": "bob"}, VIEW | {"who": "cat"}]
+MAY_ADD = ALL | {"mask": 0x1200A2, "who": "bob"}  # in a folder, and to read nothing there
+
+
+class Given(SavesCounter):
+    @classmethod
+    def setUpClass(cls):
+        super().setUpClass()
+        cls.bob = Wire(cls.served, "bob")
+
+    def lays(self, path, entries, owner="bob"):
+        """Bob makes it, with this list, and gives it to the owner."""
+        self.told_by(self.bob, "CREATE", path, data="")
+        if entries:
+            self.told_by(self.bob, "SETLIST", path, aclflag=2, entries=entries)
+        if owner != "bob":
+            self.told_by(self.bob, "CHOWN", path, owner=owner, group="eng")
+
+    def need_kept(self, path, method, source=None):
+        """It is refused, and nothing went there."""
+        how = {"Destination": path} if source else {}
+        got = self.ask("ann", method, source or path, b"" if source else SECRET, **how)
+        self.assertEqual((got.status, self.shown([SECRET])), (403, []), (method, path, got.body))
+
+    def test_a_programs_name(self):
+        """Whose it is may not be told; and one's own may be open."""
+        for entries, owner in (([WRITE_UNTOLD, VIEW | {"who": "cat"}], "bob"), (OPEN, "ann")):
+            for name in "n.tmp", "5D4A1F00":
+                self.made(b"old secret")
+                self.lays(f"{self.top}/{name}", entries, owner)
+                self.need_kept(f"{self.top}/{name}", "PUT")
+
+    def test_a_programs_name_that_has_its_folders_list(self):
+        """It is closed before anything is there, but for a folder."""
+        doc = self.made(b"old secret")
+        self.lays(f"{self.top}/n.tmp", None, "ann")
+        self.does("ann", "PUT", f"{self.top}/n.tmp", 204, SECRET)
+        self.assertEqual(self.shown([SECRET]), [])
+        self.does("ann", "MOVE", f"{self.top}/n.tmp", 204, Destination=f"{self.top}/{doc}")
+        self.assertEqual(self.shown([SECRET]), [])
+        self.does("ann", "MKCOL", f"{self.top}/m.tmp", 201)
+        self.does("ann", "PUT", f"{self.top}/m.tmp", 405, SECRET)
+        self.does("cat", "PROPFIND", f"{self.top}/m.tmp", 207, Depth="1")
+
+    def test_a_programs_name_that_another_one_takes(self):
+        self.made(b"old secret")
+        self.does("ann", "PUT", f"{self.top}/n.tmp", 201, SECRET)
+        self.lays(f"{self.top}/m.tmp", OPEN)
+        self.need_kept(f"{self.top}/m.tmp", "MOVE", f"{self.top}/n.tmp")
+        self.assertEqual(self.does("ann", "GET", f"{self.top}/n.tmp", 200).body, SECRET)
+
+    def test_a_programs_name_of_what_is_aside(self):
+        """It has the list of the document that it is."""
+        doc = self.made(b"old secret")
+        self.does("ann", "MOVE", f"{self.top}/{doc}", 201, Destination=f"{self.top}/x~")
+        self.does("ann", "PUT", f"{self.top}/x~", 204, SECRET)
+        self.does("cat", "GET", f"{self.top}/x~", 403)
+        self.told_by(self.bob, "RENAME", f"{self.top}/x~", to=f"{self.top}/y")
+        self.lays(f"{self.top}/x~", OPEN, "ann")
+        self.need_kept(f"{self.top}/x~", "PUT")
+
+    def test_a_backup(self):
+        """Of a document that has its folder's list, where others may add."""
+        for name in "r.odt.bak", "r.old":
+            for entries, owner in (OPEN, "bob"), (OPEN, "ann"), (None, "bob"):
+                self.made(b"", entries=[HERS, HERS | {"who": "ann"}, MAY_ADD])
+                self.does("ann", "PUT", f"{self.top}/r.odt", 201, SECRET)
+                self.does("bob", "GET", f"{self.top}/r.odt", 403)
+                self.lays(f"{self.top}/{name}", entries, owner)
+                self.does("ann", "COPY", f"{self.top}/r.odt", 204, Destination=f"{self.top}/{name}")
+                self.does("bob", "GET", f"{self.top}/{name}", 403)
+                self.assertEqual(self.does("ann", "GET", f"{self.top}/{name}", 200).body, SECRET)
