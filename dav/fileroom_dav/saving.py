@@ -162,7 +162,7 @@ def renamed(gate, visit: Visit, room: str, source: str, target: str) -> None:
     user, asides = visit.settings.user, gate.asides
     is_fresh = asides.is_fresh(room, user, source)
     is_aside = above(source) == above(target) and not is_temporary(source) and (
-        is_backup(target, source) or not is_fresh)
+        is_backup(target, source) or not is_fresh or is_closed(visit, source))
     known = known_by(visit, source) if is_aside else None
     if known and asides.of(room, user, source) and owner_in(known) != user:
         known = None  # (it is what somebody else laid where the one aside was)
@@ -226,10 +226,10 @@ def awaited(gate, visit: Visit, room: str, path: str, source: str | None = None)
 
 
 def need_no_wider(visit: Visit, path: str, its: Aside, one: Aside | None) -> None:
-    """That what has the name of what lies aside is the caller's, and as closed; or is that itself, by page or command.
+    """That what has the name of what lies aside is the caller's, and as closed; or is that itself, by somebody else.
     """
     known, user = known_by(visit, path), visit.settings.user
-    if known == its.known and (one is None or owner_in(known) == user):
+    if known == its.known and (one is None or one.aside == path or owner_in(known) == user):
         return
     whose = "has another list" if owner_in(known) == user else f"is {owner_in(known) or 'somebody else'}'s"
     raise taken(path, whose, its)

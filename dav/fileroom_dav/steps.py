@@ -129,17 +129,15 @@ class Asides:
 
     def moved(self, room: str, user: str, source: str, target: str, one: Aside | None = None) -> None:
         """Something has another name. Who moves on what they moved aside, but to lie aside as `one`, or brings
-        something else to its name, has two documents. Where somebody else moves it on in its folder it is followed, and
-        else it is not found."""
+        something else to its name, has two documents. Where somebody else moves it on in its folder it is followed (also
+        where they give its name back, which they could take again), and else it is not found."""
         def becomes(it: Aside) -> Aside | None:
             if it == one or it.room != room:
                 return it
             if it.user == user:
                 is_over = it.aside == target and it.path != source
                 return None if is_at(it.aside, source) or it.path == target or is_over else it
-            if it.aside != source or above(target) != above(it.path):
-                return it
-            return replace(it, aside=target) if it.path != target else None
+            return replace(it, aside=target) if it.aside == source and above(target) == above(it.path) else it
         self._each(becomes)
 
     def of(self, room: str, user: str, path: str) -> list[Aside]:
@@ -151,7 +149,7 @@ class Asides:
     def is_aside(self, room: str, user: str, path: str) -> Aside | None:
         with self.mutex:
             return next((it for it in self.kept if (it.room, it.user, it.aside) == (room, user, path)
-                         and it.end > self.now()), None)
+                         and it.path != path and it.end > self.now()), None)
 
     def keep(self, one: Aside, aside: str) -> None:
         """It lies somewhere else now."""

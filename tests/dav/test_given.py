@@ -24,6 +24,12 @@ class Given(SavesCounter):
         if owner != "bob":
             self.told_by(self.bob, "CHOWN", path, owner=owner, group="eng")
 
+    def takes_away(self, path, to, by_webdav):
+        if by_webdav:
+            self.does("bob", "MOVE", path, 201, Destination=to)
+        else:
+            self.told_by(self.bob, "RENAME", path, to=to)
+
     def need_kept(self, path, method, source=None):
         """It is refused, and nothing went there."""
         how = {"Destination": path} if source else {}
@@ -78,3 +84,50 @@ class Given(SavesCounter):
                 self.does("ann", "COPY", f"{self.top}/r.odt", 204, Destination=f"{self.top}/{name}")
                 self.does("bob", "GET", f"{self.top}/{name}", 403)
                 self.assertEqual(self.does("ann", "GET", f"{self.top}/{name}", 200).body, SECRET)
+
+    def test_its_name_is_given_back(self):
+        """And taken again: by WebDAV it is followed, else it is not there."""
+        for by_webdav in True, False:
+            doc = self.made(b"old secret")
+            before, number = self.told(doc), self.number(doc)
+            self.does("ann", "MOVE", f"{self.top}/{doc}", 201, Destination=f"{self.top}/x~")
+            self.does("bob", "MOVE", f"{self.top}/x~", 201, Destination=f"{self.top}/{doc}")
+            self.does("ann", "PUT", f"{self.top}/{doc}", 204, b"another secret")
+            self.takes_away(f"{self.top}/{doc}", f"{self.top}/z", by_webdav)
+            self.does("ann", "PUT", f"{self.top}/{doc}", 201 if by_webdav else 412, SECRET)
+            self.assertEqual(self.shown([SECRET, b"another secret"]), [])
+            if by_webdav:
+                self.assertEqual((self.told(doc), self.number(doc)), (before, number))
+
+    def test_who_was_given_it_back_moves_it_aside_anew(self):
+        doc = self.made(b"old secret")
+        self.does("ann", "MOVE", f"{self.top}/{doc}", 201, Destination=f"{self.top}/x~")
+        self.does("bob", "MOVE", f"{self.top}/x~", 201, Destination=f"{self.top}/{doc}")
+        before = self.told(doc)
+        self.does("ann", "MOVE", f"{self.top}/{doc}", 201, Destination=f"{self.top}/y~")
+        self.does("ann", "PUT", f"{self.top}/{doc}", 201, SECRET)
+        self.assertEqual((self.told(doc), self.shown([SECRET])), (before, []))
+
+    def test_who_saves_somebody_elses_document(self):
+        doc = self.made(b"old secret")
+        self.does("bob", "MOVE", f"{self.top}/{doc}", 201, Destination=f"{self.top}/x~")
+        self.does("ann", "MOVE", f"{self.top}/x~", 201, Destination=f"{self.top}/{doc}")
+        self.does("bob", "PUT", f"{self.top}/{doc}", 204, SECRET)
+        self.assertEqual(self.shown([SECRET]), [])
+
+    def test_who_was_given_it_back_removes_it(self):
+        """It waits no longer: it has its own name."""
+        doc = self.made(b"old secret")
+        self.does("ann", "MOVE", f"{self.top}/{doc}", 201, Destination=f"{self.top}/x~")
+        self.does("bob", "MOVE", f"{self.top}/x~", 201, Destination=f"{self.top}/{doc}")
+        self.does("ann", "DELETE", f"{self.top}/{doc}", 204)
+        self.does("ann", "PUT", f"{self.top}/{doc}", 201, b"new")
+        self.assertTrue(all(it["flag"] & 0x80 for it in self.told(doc)[1]["entries"]))
+
+    def test_what_was_made_a_moment_ago_and_closed(self):
+        """It is a document, under whatever name it lies."""
+        doc = self.made(b"old secret")
+        before, number = self.told(doc), self.number(doc)
+        self.does("ann", "MOVE", f"{self.top}/{doc}", 201, Destination=f"{self.top}/another name")
+        self.does("ann", "PUT", f"{self.top}/{doc}", 201, SECRET)
+        self.assertEqual((self.told(doc), self.number(doc), self.shown([SECRET])), (before, number, []))
