@@ -12,7 +12,7 @@ from .spool import Sent, joined
 
 MOST_BYTES = 16384  # of a body of XML
 DEEPEST, MOST_ELEMENTS = 20, 1000
-MOST_LETTERS = 16384  # of the names of all elements and attributes, each with its namespace
+MOST_LETTERS = 16384  # of the names of all elements and attributes, each with its namespace, as an answer has them
 MOST_ASKED = 200  # properties, each of which is answered for each thing in a folder
 MOST_OWNER = 512  # letters of what is kept of a lock's owner
 HEAD = '<?xml version="1.0" encoding="utf-8"?>\n'
@@ -28,7 +28,7 @@ class Bounded(plain.TreeBuilder):
 
     def start(self, tag, attributes):
         self.depth, self.count = self.depth + 1, self.count + 1
-        self.letters += len(tag) + sum(map(len, attributes))
+        self.letters += sum(len(text(it)) for it in (tag, *attributes))
         if self.depth > DEEPEST or self.count > MOST_ELEMENTS or self.letters > MOST_LETTERS:
             raise Answered(400, "the XML is too deep, or has too many elements")
         return super().start(tag, attributes)

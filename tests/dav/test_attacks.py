@@ -282,7 +282,7 @@ class Alone(unittest.TestCase):
 
     def test_many_long_names_of_properties(self):
         """What is answered is not a thousand times what was asked."""
-        for space, count in ("n" * 10_000, 900), ("n" * 60_000, 3), ("n", 900):
+        for space, count in ("n" * 10_000, 900), ("n" * 60_000, 3), ("n", 900), ("&quot;" * 74, 200):
             names = "".join(f"<x:p{at}/>" for at in range(count))
             for top in "D:propfind", "D:propertyupdate":
                 step = ("<D:set>", "</D:set>") if top == "D:propertyupdate" else ("", "")
