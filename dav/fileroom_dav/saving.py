@@ -184,10 +184,16 @@ def renamed(gate, visit: Visit, room: str, source: str, target: str) -> None:
 
 def known_by(visit: Visit, path: str) -> str:
     """Its owner, and a sum of its group and of its own list, as far as the room tells: what has the same is shown to
-    the same."""
+    the same. (By its bytes, where its list is not told.)"""
     its, told = visit.ask_all({"cmd": it, "keep": False, "path": path} for it in ("STAT", "GETLIST"))
-    listed = [told["aclflag"], own_entries(told)] if "entries" in told else None
+    listed = [told["aclflag"], own_entries(told)] if "entries" in told else bytes_told(visit, path)
     return f"{its.get('owner', '')} {sum_of(repr([its.get('group'), listed]).encode())}"
+
+
+def bytes_told(visit: Visit, path: str) -> list[str | None]:
+    """Of a document, or of a large file's manifest."""
+    replies = visit.ask_all({"cmd": "READ", "keep": False, "path": it} for it in (path, below(path, NAME)))
+    return [it.get("data") for it in replies]
 
 
 def own_entries(told: dict) -> list[dict]:
@@ -252,6 +258,7 @@ def is_version(visit: Visit, source: str) -> bool:
 def exchange(gate, visit: Visit, one: Aside, old: Thing, *, data: bytes = b"", source: str | None = None) -> None:
     """What is aside has its name again, and the bytes of `data` or of the file at `source`, which goes. A large file
     takes the pieces of another by one request, where nobody else could reach them."""
+    need_unlocked(gate, one)
     its = thing_at(visit, source) if source else None
     takes = bool(its and old.large and its.large) and is_veil(visit.get_list(source))
     if its and not takes:
@@ -271,6 +278,13 @@ def exchange(gate, visit: Visit, one: Aside, old: Thing, *, data: bytes = b"", s
             put_bytes(visit, one.path, data)
         finish(visit, step)
     gate.asides.moved(one.room, one.user, one.aside, one.path)
+
+
+def need_unlocked(gate, one: Aside) -> None:
+    """That nobody else has a lock of what lies aside: it is moved and written to as by any other request."""
+    locks = gate.locks.at(one.room, one.aside) + gate.locks.below(one.room, one.aside)
+    if any(it.user != one.user for it in locks):
+        raise Answered(423, f"{one.aside}, of which that is a new version, is locked by somebody else")
 
 
 def give_name(visit: Visit, one: Aside) -> dict:

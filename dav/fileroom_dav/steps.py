@@ -129,8 +129,8 @@ class Asides:
 
     def moved(self, room: str, user: str, source: str, target: str, one: Aside | None = None) -> None:
         """Something has another name. Who moves on what they moved aside, but to lie aside as `one`, or brings
-        something else to its name, has two documents. Where somebody else moves it on in its folder it is followed (also
-        where they give its name back, which they could take again), and else it is not found."""
+        something else to its name, has two documents. Where somebody else moves it on in its folder it is followed, and
+        else it is not found. (It is, too, where they give its name back, which they could take again.)"""
         def becomes(it: Aside) -> Aside | None:
             if it == one or it.room != room:
                 return it

@@ -1,6 +1,9 @@
 """What somebody else lays where a program saves, and gives away or opens: no version goes into it that they, or others,
 could read there."""
-from test_saves import HERS, SavesCounter, Wire
+import os
+
+from test_refusals import EXCLUSIVE
+from test_saves import HERS, SIZES, SavesCounter, Wire
 
 SECRET = b"new secret"
 ALL = {"flag": 0, "mask": 0x1F07FF, "type": 0}
@@ -131,3 +134,29 @@ class Given(SavesCounter):
         self.does("ann", "MOVE", f"{self.top}/{doc}", 201, Destination=f"{self.top}/another name")
         self.does("ann", "PUT", f"{self.top}/{doc}", 201, SECRET)
         self.assertEqual((self.told(doc), self.number(doc), self.shown([SECRET])), (before, number, []))
+
+    def test_a_list_that_is_not_told(self):
+        """Another document whose list is not told either is none of before."""
+        for size in SIZES:
+            doc, flag = self.made(os.urandom(size)), 0x3 if size > 65536 else 0
+            hidden = {"flag": flag, "mask": 0x1101EF, "type": 0, "who": "bob"}  # (all but READ_ACL)
+            self.does("ann", "PUT", f"{self.top}/b.odt", 201, os.urandom(size))
+            self.set_list(f"{self.top}/{doc}", 2, [hidden, HERS | {"flag": flag}])
+            self.set_list(f"{self.top}/b.odt", 2, [hidden, HERS | {"flag": flag}, VIEW | {"flag": flag, "who": "cat"}])
+            self.does("bob", "MOVE", f"{self.top}/{doc}", 201, Destination=f"{self.top}/x.bak")
+            self.told_by(self.ann, "RENAME", f"{self.top}/x.bak", to=f"{self.top}/y")
+            self.told_by(self.ann, "RENAME", f"{self.top}/b.odt", to=f"{self.top}/x.bak")
+            self.does("bob", "PUT", f"{self.top}/{doc}", 412, SECRET)
+            self.told_by(self.ann, "RENAME", f"{self.top}/x.bak", to=f"{self.top}/b.odt")
+            self.told_by(self.ann, "RENAME", f"{self.top}/y", to=f"{self.top}/x.bak")
+            self.does("bob", "PUT", f"{self.top}/{doc}", 201, os.urandom(size))
+
+    def test_what_is_aside_is_locked(self):
+        """By somebody else it holds off the next version, too; by oneself it does not."""
+        for user, status in ("bob", 423), ("ann", 201):
+            doc = self.made(b"old secret")
+            number = self.number(doc)
+            self.does("ann", "MOVE", f"{self.top}/{doc}", 201, Destination=f"{self.top}/x.bak")
+            self.does(user, "LOCK", f"{self.top}/x.bak", 200, EXCLUSIVE, Depth="0")
+            self.does("ann", "PUT", f"{self.top}/{doc}", status, SECRET)
+            self.assertEqual(self.number("x.bak" if status == 423 else doc), number)
