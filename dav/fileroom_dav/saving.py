@@ -46,9 +46,9 @@ def put_in_place(gate, visit: Visit, room: str, path: str, data: bytes, is_new: 
 
 
 def need_private(gate, visit: Visit, room: str, path: str) -> None:
-    """Where something has a program's name already, that it is the caller's and nobody else can read it, or is what
-    they moved there. (Anyone who may add could make a file there, and give it to them, to read what is to become a
-    version of something that they are denied.)"""
+    """Where something has a program's name already, that it is the caller's, and closed to others or moved there by
+    themselves. (Anyone who may add could make a file there, and give it to them, to read what is to become a version
+    of something that they are denied.)"""
     user = visit.settings.user
     try:
         its = visit.stat(path)
@@ -56,11 +56,11 @@ def need_private(gate, visit: Visit, room: str, path: str) -> None:
         if is_refused(fault, "NOENT", "NOTDIR"):
             return
         its = {}
+    if its.get("owner") != user:
+        raise Answered(403, f"{path} is somebody else's, who could read there what your program saves")
     one = gate.asides.is_aside(room, user, path)
     if one and known_by(visit, path) == one.known:
         return
-    if its.get("owner") != user:
-        raise Answered(403, f"{path} is somebody else's, who could read there what your program saves")
     told = visit.get_list(path)
     if not files.has_own_list(told):
         if its["kind"] != FOLDER or not is_folder(visit, path):

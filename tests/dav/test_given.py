@@ -76,6 +76,11 @@ class Given(SavesCounter):
         self.lays(f"{self.top}/x~", OPEN, "ann")
         self.need_kept(f"{self.top}/x~", "PUT")
 
+    def test_a_programs_name_of_somebody_elses_that_is_aside(self):
+        doc = self.made(b"old secret")
+        self.does("bob", "MOVE", f"{self.top}/{doc}", 201, Destination=f"{self.top}/x~")
+        self.does("bob", "PUT", f"{self.top}/x~", 403, SECRET)
+
     def test_a_backup(self):
         """Of a document that has its folder's list, where others may add."""
         for name in "r.odt.bak", "r.old":
