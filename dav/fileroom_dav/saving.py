@@ -225,10 +225,14 @@ def awaited(gate, visit: Visit, room: str, path: str, source: str | None = None)
     if source in [it.aside for it in found] or source is not None and not is_version(visit, source):
         return None
     if one is None or len({it.known for it in found}) > 1:
-        raise Answered(412, f"{found[0].aside} is not where you moved it, or not as it was: what you save as {path} "
-                            f"could be read by whom that was closed to. {OR_ELSE}")
+        raise not_found(found[0])
     old = thing_at(visit, one.aside)
     return None if old.is_folder else (one, old)
+
+
+def not_found(its: Aside) -> Answered:
+    return Answered(412, f"{its.aside} is not where you moved it, or not as it was: what you save as {its.path} "
+                         f"could be read by whom that was closed to. {OR_ELSE}")
 
 
 def need_no_wider(visit: Visit, path: str, its: Aside, one: Aside | None) -> None:
@@ -272,6 +276,8 @@ def exchange(gate, visit: Visit, one: Aside, old: Thing, *, data: bytes = b"", s
     with gate.changing(one.room, one.aside), gate.steps.under_way(step, undone(visit, done)) as step:
         make_copy(visit, step, old)
         done.append(give_name(visit, one))
+        if known_by(visit, one.path) != one.known:  # (somebody laid it there meanwhile)
+            raise not_found(one)
         if old.large:
             put_large(visit, step, version, data)
         else:

@@ -165,3 +165,17 @@ class Given(SavesCounter):
             self.does(user, "LOCK", f"{self.top}/x.bak", 200, EXCLUSIVE, Depth="0")
             self.does("ann", "PUT", f"{self.top}/{doc}", status, SECRET)
             self.assertEqual(self.number("x.bak" if status == 423 else doc), number)
+
+    def test_another_one_lies_there_meanwhile(self):
+        """As what was aside is to have its name again."""
+        doc = self.made(b"old secret")
+        self.does("ann", "MOVE", f"{self.top}/{doc}", 201, Destination=f"{self.top}/x.bak")
+
+        def swaps():
+            self.told_by(self.bob, "RENAME", f"{self.top}/x.bak", to=f"{self.top}/y")
+            self.lays(f"{self.top}/x.bak", OPEN)
+        self.loser.meanwhile = lambda message: b'"RENAME"' in message, swaps
+        self.does("ann", "PUT", f"{self.top}/{doc}", 412, SECRET)
+        self.assertEqual(self.shown([SECRET]), [])
+        names = sorted(dict(self.told_by(self.ann, "LIST", self.top)["names"]))
+        self.assertEqual(names, ["x.bak", "y"])
