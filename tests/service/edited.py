@@ -27,6 +27,13 @@ STRICT = MASTER.format("sql || ' STRICT' WHERE type = 'table'")
 MANY = LOOSE.format("node") + "WITH RECURSIVE it(n) AS (SELECT 1 UNION ALL SELECT n + 1 FROM it WHERE n < {}) " \
     "INSERT INTO node SELECT 100 + at.n, CASE at.n WHEN 1 THEN 1 ELSE 99 + at.n END, 'n' || it.n, 1, 'a', 'a', 0 " \
     "FROM it, (SELECT n FROM it LIMIT 14) AS at"
+# The root in itself, so that what is below it is met again and again, and so many more things that nothing meets.
+RING = """UPDATE node SET parent = 1 WHERE id = 1;
+    WITH RECURSIVE below(id, depth) AS (SELECT 1, 0 UNION ALL SELECT node.id, depth + 1 FROM below
+        JOIN node ON parent = below.id WHERE depth <= 16),
+    more(id) AS (SELECT 1 + max(id) FROM node UNION ALL SELECT id + 1 FROM more WHERE id <
+        (SELECT max(id) FROM node) + (SELECT count(*) FROM below) - (SELECT count(*) FROM node))
+    INSERT INTO node SELECT id, id, 'n', 1, 'a', 'a', 0 FROM more"""
 OTHER = "is not as docs/TABLES.md has it"
 EDITED = {  # its statements, and what is said
     "a name that is no text": (LOOSE.format("node") + "UPDATE node SET name = x'37' WHERE name = 'a.txt'", OTHER),
@@ -48,6 +55,7 @@ EDITED = {  # its statements, and what is said
                                r"malformed database schema (\x1b]0;\n)"),
     "a document of nobody": ("INSERT INTO doc VALUES (999, x'00')", "finds it damaged: ('doc', 999, 'node', 0)"),
     "a ring at the root": ("UPDATE node SET name = 'ring', parent = 1 WHERE id = 1", "in no folder, or in itself"),
+    "a ring, and as many in no folder": (RING, "in no folder, or in itself"),
     "a ring elsewhere": ("UPDATE node SET parent = (SELECT id FROM node WHERE name = 'g') WHERE name = 'f'",
                          "in no folder, or in itself"),
     "a large row": (f"UPDATE doc SET bytes = zeroblob({3 << 20}) WHERE node = 2", "too big"),
@@ -140,6 +148,17 @@ def taken_out(folder, tally):
     tally.differs("and again as before", resource.getrlimit(resource.RLIMIT_AS)[0], before)
 
 
+def long_names(folder, tally):
+    """A name that no file can have is left out, however long it is, and told by its beginning; the rest comes out."""
+    copy, out = copied(os.path.join(folder, "long"), tally), os.path.join(folder, "rest")
+    edit(os.path.join(copy, "room.db"), "UPDATE node SET name = printf('%.*c', 256, 'n') WHERE name = 'a.txt'; "
+         "UPDATE node SET name = printf('%.*c', 900000, '/') WHERE name = 'b'")
+    status, faults, _ = measured(os.path.join(SERVICE, "fileroom-backup"), "--one", copy, "/", out)
+    lines = [it for it in faults.splitlines() if it.endswith("is left out: no file can have that name")]
+    tally.differs(f"long names: {faults[:300]}", (status, len(lines), len(faults) < 3000, os.path.exists(f"{out}/f/g")),
+                  (1, 2, True, True))
+
+
 def script():
     """`fileroom-one` as a module."""
     loader = importlib.machinery.SourceFileLoader("one", os.path.join(SERVICE, "fileroom-one"))
@@ -200,3 +219,4 @@ def tried(folder, tally):
     as_told(tally)
     grows(folder, tally)
     taken_out(folder, tally)
+    long_names(folder, tally)
