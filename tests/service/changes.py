@@ -19,6 +19,11 @@ MOST = 70 << 10  # KiB of memory, however long the log is
 LONGEST = 7500  # bytes of a line of the log, whatever is asked
 
 
+NONE, REFUSED, NOT_KEPT, DONE = ("502", "-"), ("409", "36"), ("409", "37"), ("200", "10")
+ANSWERS = ("no answer", [NONE, NOT_KEPT]), ("no answer", [REFUSED, NONE]), ("refused", [REFUSED, REFUSED]), \
+    ("done", [REFUSED, NONE, DONE]), ("done", [DONE, NONE, NOT_KEPT])
+
+
 class Asked:
     """A room behind a front, and what its log then tells."""
 
@@ -56,6 +61,16 @@ class Asked:
         status, lines, faults = self.tells()
         seen, self.seen = getattr(self, "seen", 0), len(lines)
         return (status, faults, ["  ".join(it) for it in lines[seen:]])
+
+
+def log_of(asked, name, lines):
+    """A root whose log has these, by ann."""
+    root = os.path.join(asked.folder, name)
+    os.makedirs(os.path.join(root, "var", "log", "fileroom"))
+    about = {"time": "2026-11-28T09:00:00+00:00", "from": "::1", "user": "ann"}
+    with open(os.path.join(root, "var", "log", "fileroom", "changes.log"), "w", encoding="utf-8") as file:
+        file.writelines(json.dumps(about | it) + "\n" for it in lines)
+    return root
 
 
 def told(asked, tally, what, *want):
@@ -174,6 +189,15 @@ def once_each(asked, tally):
     told(asked, tally, "and then one", "ann  done  MKDIR /u  (2 times)")
 
 
+def may_have_acted(asked, tally):
+    """What had no answer may have acted, also where it was refused before, as misordered, or since, as not kept."""
+    root = log_of(asked, "acted", [{"status": status, "length": length, "slot": f"plans/v1/sessions/{SID}/slots/{at}/1",
+                                    "asked": json.dumps({"cmd": "REMOVE", "path": f"/{at}"})}
+                                   for at, (_, answers) in enumerate(ANSWERS) for status, length in answers])
+    tally.differs("what may have acted", asked.tells(root=root), (0, [
+        ["ann", f"{told}  REMOVE /{at}  ({len(answers)} times)"] for at, (told, answers) in enumerate(ANSWERS)], ""))
+
+
 def large_files(asked, tally):
     """The requests of an upload are one line, and so are those of its next version."""
     path = os.path.join(asked.folder, "lake.jpg")
@@ -251,6 +275,23 @@ def of_any_length(asked, tally):
     tally.differs("a file by one of its parts", (status, len(lines)), (0, 1))
 
 
+def cut_short(asked, tally):
+    """Of a file that is not whole, as one that was being compressed when the machine ended, all is told that is there,
+    and that it is not whole; one that stands there whole too is read in its place."""
+    lines = [{"status": "200", "length": "10", "slot": f"plans/v1/sessions/{SID}/slots/{it}/1",
+              "asked": json.dumps({"cmd": "MKDIR", "path": f"/{it}"})} for it in range(3)]
+    root = log_of(asked, "cut", lines[2:])
+    for at, line, is_whole in (2, lines[0], False), (1, lines[1], True):
+        path = os.path.join(log_of(asked, f"cut-{at}", [line] * 2000), "var", "log", "fileroom", "changes.log")
+        with open(os.path.join(root, "var", "log", "fileroom", f"changes.log.{at}.gz"), "wb") as file:
+            file.write(gzip.compress(bytes_of(path))[:-20])
+        if is_whole:
+            os.rename(path, os.path.join(root, "var", "log", "fileroom", f"changes.log.{at}"))
+    status, told_lines, faults = asked.tells(root=root)
+    tally.differs("what was cut short", (status, [line.split()[2] for _, line in told_lines], faults), (
+        1, ["/0", "/1", "/2"], "fileroom-admin: 1 lines of the log cannot be read\n"))
+
+
 def filters(asked, tally):
     """By user, path, and time; and a line that cannot be read is told."""
     asked.sends({"cmd": "MKDIR", "path": "/a/f"})
@@ -276,7 +317,7 @@ def filters(asked, tally):
 
 def tried(folder, tally):
     asked = Asked(folder)
-    for task in each_command, odd_forms, hides_nothing, once_each, large_files, out_of_a_file, hides_no_owner, \
-            of_any_length, filters:
+    for task in each_command, odd_forms, hides_nothing, once_each, may_have_acted, large_files, out_of_a_file, \
+            hides_no_owner, of_any_length, cut_short, filters:
         task(asked, tally)
     asked.room.kill()

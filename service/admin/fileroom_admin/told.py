@@ -6,6 +6,7 @@ import hashlib
 import json
 import os
 import re
+import zlib
 
 from .owned import of_backups
 from .places import CHANGES, Fault
@@ -23,7 +24,8 @@ def files_of(places):
     """The log's files, the oldest first."""
     folder, name = os.path.split(places.at(CHANGES))
     found = {}
-    for it in os.listdir(folder) if os.path.isdir(folder) else []:
+    # (one that was not compressed to its end stands there whole too, and comes after)
+    for it in sorted(os.listdir(folder), reverse=True) if os.path.isdir(folder) else []:
         number = re.fullmatch(rf"{re.escape(name)}(?:\.(\d+)(?:\.gz)?)?", it)
         if number:
             found[int(number[1] or 0)] = os.path.join(folder, it)
@@ -35,7 +37,10 @@ def lines_of(places, since):
         if since and os.stat(path).st_mtime < since.timestamp():
             continue
         with (gzip.open if path.endswith(".gz") else open)(path, "rb") as file:
-            yield from file
+            try:
+                yield from file
+            except (EOFError, gzip.BadGzipFile, zlib.error):
+                yield b"what is not there"  # (no line, so that is told)
 
 
 def since_when(text):
@@ -113,10 +118,15 @@ class Change:
         return (self.number, self.sum, self.user) == (other.number, other.sum, other.user)
 
     def again(self, other):
-        """It was sent again. What the room did stands, whatever else was answered before or after."""
+        """It was sent again. What the room did stands, whatever else was answered before or after; and what had no
+        answer may have acted, whatever else was refused."""
         self.count += 1
-        if self.outcome == "no answer" or other.status == "200" != self.status:
+        if other.tells() > self.tells():
             self.status, self.outcome = other.status, other.outcome
+
+    def tells(self):
+        """How much of what the room did: all; perhaps nothing; nothing."""
+        return 1 if self.outcome == "no answer" else 2 * (self.status == "200")
 
     def also(self, other):
         """Another request of the same large file."""
