@@ -91,7 +91,9 @@ def odd_ones(its):
         "a roster of dots": (b"", [], {"roster.toml": b"a." * 8000 + b"a = 1\n"}),
         "a number in the roster": (b"", [], {"roster.toml": b"[users]\nann = " + b"1" * 5000}),
         "a roster that is no text": (b"", [], {"roster.toml": b"\xff"}),
+        "digits in the roster": (b"", [], {"roster.toml": b"[users]\nann = [0x" + b"f" * 5000 + b"]\n"}),
         "a size below nothing": (head("room.db", 0, at=[(124, b"\xff" * 12)]), ["room.db"], {}),
+        "a long size below nothing": (head("x", 0, tarfile.XHDTYPE, [(124, b"\xff" * 11 + b"\xfe")]), [], {}),
         "half an archive": (head("room.db", 1 << 40), ["room.db"], {}),
     }.items()
 
@@ -114,6 +116,9 @@ def refuses(machine, tally, what, path, *words, within=(), has=""):
 def refused(machine, tally, its, path):
     for what, (more, without, others) in odd_ones(its):
         refuses(machine, tally, what, packed(path, its | others, more, without))
+    below_deep = b"[users." + b"a." * 1900 + b"a]\n" + b"".join(b"a%d=1\n" % it for it in range(4000))
+    packed(path, its | {"roster.toml": below_deep})
+    refuses(machine, tally, "lines below a deep table", path, has="has more dots than a roster")
     os.mkfifo(f"{path}-pipe")
     refuses(machine, tally, "a pipe", f"{path}-pipe")
     free = os.statvfs(os.path.dirname(path))

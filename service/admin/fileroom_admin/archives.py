@@ -88,7 +88,7 @@ class Archive:
                 size = None
 
     def long_size(self, at, length):
-        told = LONG.fullmatch(self.read(at, min(length, tarfile.BLOCKSIZE)).decode(errors="replace"))
+        told = LONG.fullmatch(self.read(at, max(0, min(length, tarfile.BLOCKSIZE))).decode(errors="replace"))
         if not told:
             raise self.fault("a member is no plain file")
         return int(told[1])

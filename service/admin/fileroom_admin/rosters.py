@@ -20,7 +20,9 @@ USERS, GROUPS = 1000, 16  # a roster has at most so many, and a user so many gro
 # the one cost that it is written with. (nginx computes any that it is given, for minutes too.)
 HASH = re.compile(r"\{SSHA\}[A-Za-z0-9+/]{48}|\$y\$j75\$[./A-Za-z0-9]{22}\$[./A-Za-z0-9]{43}"
                   r"|\$apr1\$[./A-Za-z0-9]{1,8}\$[./A-Za-z0-9]{22}")
-DOTS = 2000  # so much a line in the square: of a key of many dots TOML's reader keeps each beginning
+# So much in the square: of a key of many dots TOML's reader keeps each beginning, and of a table whose name has many it
+# goes through all of them in each line below.
+DOTS = 2000
 
 LOGGED_OUT = "logged-out"  # by which the page has a browser forget its login: the front lets nobody in by that name
 
@@ -39,7 +41,8 @@ def need_room_name(name):
 
 def users_of(text, path="the roster"):
     """Each user with the groups, as the room reads them."""
-    if sum(line.count(".") ** 2 for line in text.split("\n")) > DOTS ** 2:
+    dots = [line.count(".") for line in text.split("\n")]
+    if max(dots) * sum(max(it, 1) for it in dots) > DOTS ** 2:
         raise Fault(f"{path} has more dots than a roster")
     try:
         read = tomllib.loads(text)
@@ -53,7 +56,9 @@ def users_of(text, path="the roster"):
         if not isinstance(groups, list) or len(groups) > GROUPS or len(users) > USERS:
             raise Fault(f"{path}: {user} has no list of at most {GROUPS} groups, or there are over {USERS} users")
         for group in groups:
-            need_name(str(group), f"{path}: the group")
+            if not isinstance(group, str):
+                raise Fault(f"{path}: a group of {user} is no text")
+            need_name(group, f"{path}: the group")
     return users
 
 
