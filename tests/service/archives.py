@@ -203,6 +203,22 @@ def logins(machine, tally, its, path):
         f"{it}:{its_hash}\n" for it, its_hash in OURS.items()))
 
 
+def of_users_here(machine, tally, its, path):
+    """Who is a user of a room that is here, and has no login or no name as people write it, gets none by an archive:
+    its maker would have the login's rooms, or choose by which name others there see somebody."""
+    users, names = "etc/nginx/fileroom/users", "etc/nginx/fileroom/names.json"
+    machine.does("user", "add", "club", "dee")
+    machine.write(users, "".join(it for it in text_of(machine.at(users)).splitlines(True) if it[:4] != "dee:"))
+    packed(path, its | {"roster.toml": b"[users]\ndee = []\npam = []\n",
+                        "logins": "".join(f"{it}:{OURS['bob']}\n" for it in ("dee", "pam")).encode(),
+                        "names.json": b'{"dee": "Pam Poe", "pam": "Pam Poe"}'})
+    before = text_of(machine.at(users))
+    status, said, faults = machine.does("room", "import", "--as", "fourth", path)
+    tally.differs(f"an import: {faults}", (status, "these have no login: dee\n" in said), (0, True))
+    tally.differs("whose logins came", text_of(machine.at(users)), f"{before}pam:{OURS['bob']}\n")
+    tally.differs("whose names came", json.loads(text_of(machine.at(names))), {"pam": "Pam Poe"})
+
+
 def certificates(machine, tally, its, path):
     """An archive's maker has its key too: so it is put to work where somebody asks for that."""
     pair = [bytes_of(it) for it in certified(os.path.join(machine.folder, "pair"), "DNS:room.example")]
@@ -275,3 +291,4 @@ def tried(folder, tally):
     stopped(there, tally, its, path)
     logins(there, tally, its, path)
     certificates(there, tally, its, path)
+    of_users_here(there, tally, its, path)

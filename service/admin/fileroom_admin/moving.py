@@ -183,14 +183,17 @@ class Rooms(People):
         os.unlink(LOOKED_AT, dir_fd=folder)
 
     def put_in(self, room, roster, logins, names):
-        change, has, users = Change(self.places), {*rosters.logins_of(self.passwords())}, rosters.users_of(roster)
+        """(Nobody who is here by now gets a login or a name by it: both are the machine's, and so of all rooms.)"""
+        change, users = Change(self.places), rosters.users_of(roster)
+        here = {user for it in self.places.rooms() for user in self.users(it)}
+        has, named = here | {*rosters.logins_of(self.passwords())}, here | {*self.names()}
         change.room = (room,)
         self.put_front(change)
         change.put(self.places.roster(room), roster)
         change.put(self.places.front(f"rooms/{room}.users.json"), rosters.page_copy(roster))
         self.put_room(change, room)
         self.put_passwords(change, {user: line for user, line in logins.items() if user not in has})
-        self.put_names(change, {user: names[user] for user in users if user in names and user not in self.names()})
+        self.put_names(change, {user: names[user] for user in users if user in names and user not in named})
         return change
 
     def tell_logins(self, users, had, odd):
