@@ -12,7 +12,8 @@ from .places import Fault
 COLUMNS = ["user", "groups", "name"]
 LARGEST = 1 << 20  # bytes of a table
 # What a spreadsheet computes by its first letter, also where it takes wide letters for narrow ones, stands behind an
-# apostrophe: then it is text. So does what begins like that itself, or with a blank, which would be lost.
+# apostrophe: then it is text. So does what begins like that itself, or with a blank, which would be lost; and the same
+# behind a semicolon, at which a spreadsheet of many languages cuts cells.
 FORMULA = r"[=+\-@\s\uff1d\uff0b\uff0d\uff20]"
 
 
@@ -41,12 +42,11 @@ def bytes_of(path):
 
 
 def as_cell(text):
-    return f"'{text}" if re.match(f"'*{FORMULA}", text) else text
+    return re.sub(f"(^|;)(?='*{FORMULA})", r"\1'", text)
 
 
 def of_cell(cell):
-    text = cell.strip()
-    return text[1:] if re.match(f"'+{FORMULA}", text) else text
+    return re.sub(f"(^|;)'(?='*{FORMULA})", r"\1", cell.strip())
 
 
 def rows_of(path):
