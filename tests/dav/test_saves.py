@@ -396,10 +396,10 @@ class Others(SavesCounter):
         for size in SIZES:
             self.made(b"old")
             data = os.urandom(size)
-            self.does("ann", "PUT", f"{self.top}/~WRD1.tmp", 201, data)
-            self.does("ann", "PUT", f"{self.top}/~WRD1.tmp", 204, data)
-            for user in "bob", "cat":
-                self.does(user, "GET", f"{self.top}/~WRD1.tmp", 403)
+            for status in 201, 204:
+                self.does("ann", "PUT", f"{self.top}/~WRD1.tmp", status, data)
+                for user in "bob", "cat":
+                    self.does(user, "GET", f"{self.top}/~WRD1.tmp", 403)
             self.does("ann", "MOVE", f"{self.top}/~WRD1.tmp", 201, Destination=f"{self.top}/~WRD2.tmp")
             self.does("cat", "GET", f"{self.top}/~WRD2.tmp", 403)
             self.does("ann", "MOVE", f"{self.top}/~WRD2.tmp", 201, Destination=f"{self.top}/new.odt")
