@@ -49,8 +49,8 @@ class Commands(Rooms, Dav):
         drawn = self.draw(change, owner)
         change.happen()
         self.say(f"the room {room} is served, and backed up each night")
-        self.trash_for(room, owner)
         self.tell_password(owner, drawn)
+        self.trash_for(room, owner)
 
     def put_room(self, change, room):
         """Its place in the front, and its units, which are started."""

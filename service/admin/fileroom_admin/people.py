@@ -99,7 +99,7 @@ class People:
                    *(() if os.path.exists(users) else FOR_WORKERS))
 
     def tell_password(self, user, drawn):
-        """(The one thing that -q prints too.)"""
+        """(The one thing that -q prints too; before the room is asked for anything, since it may not answer.)"""
         if user in drawn:
             self.tell(f"the password of {user}: ", drawn[user])
         else:
@@ -119,10 +119,11 @@ class People:
             raise Fault(f"{user} is already in the room {room} (to change groups: fileroom-admin user groups)")
         change = self.change_rosters({room: {user: groups}})
         drawn = self.draw(change, user)
-        self.happen(change, room)
+        change.happen()
         self.say(f"{user} is a user of the room {room}, in {', '.join(groups) or 'no group'}")
-        self.trash_for(room, user)
         self.tell_password(user, drawn)
+        self.until_answers(room)
+        self.trash_for(room, user)
 
     def user_groups(self, room, user, groups):
         self.need_user(room, user)
@@ -213,13 +214,15 @@ class People:
         change = self.change_rosters({room: its_groups}) if its_groups else Change(self.places)
         drawn = self.draw(change, *rows)
         self.put_names(change, {user: names.get(user) if name is None else name for user, (_, name) in rows.items()})
-        self.happen(change, *[room] * bool(its_groups))
+        change.happen()
         new = [it for it in rows if it not in there]
         self.say(f"{room}: {len(new)} new users, {len(its_groups) - len(new)} with other groups, "
                  f"{len(rows)} in the table")
-        self.trash_for(room, *new)
         for user, word in drawn.items():
             self.tell("", f"{user},{word}")
+        if its_groups:
+            self.until_answers(room)
+        self.trash_for(room, *new)
 
     def group_change(self, room, group, users, is_in):
         """Some users at once into a group, or out of it."""

@@ -9,10 +9,14 @@ import secrets
 import socket
 import time
 
+from .owned import of_backups
 from .places import Fault
+from .told import is_entry
 
 TOP = "/trash"
 WAIT = 20  # seconds that a room may take to start
+LONGEST = 1 << 20  # bytes of an answer: the names of a folder take fewer
+TOLD = 200  # letters of what the room says
 NOENT, ACCESS = 1, 5
 FOLDER = "folder"
 ALL, VIEW = 0x1F07FF, 0x1200A9  # rights
@@ -44,6 +48,44 @@ def is_private(its, user):
                                for it in its["entries"])
 
 
+def is_text(it):
+    return isinstance(it, str)
+
+
+def is_data(it):
+    try:
+        return base64.b64decode(it) is not None
+    except (TypeError, ValueError):
+        return False
+
+
+def are_names(it):
+    return isinstance(it, list) and all(
+        isinstance(pair, list) and len(pair) == 2 and all(map(is_text, pair)) for pair in it)
+
+
+def are_entries(it):
+    return isinstance(it, list) and all(map(is_entry, it))
+
+
+READ_HERE = {  # of the answer to what was done, by the command (docs/WIRE.md)
+    "STAT": {"owner": is_text, "group": is_text, "kind": is_text}, "LIST": {"names": are_names},
+    "GETLIST": {"aclflag": lambda it: type(it) is int, "entries": are_entries}, "READ": {"data": is_data}}
+
+
+def is_reply(it, cmd):
+    """Whether it has what is read of it here: somebody else's process may have taken the room over."""
+    if not isinstance(it, dict) or type(it.get("code")) is not int:
+        return False
+    if it["code"]:
+        return is_text(it.get("error", "")) and is_text(it.get("path", ""))
+    return all(fits(it.get(name)) for name, fits in READ_HERE.get(cmd, {}).items())
+
+
+def shown(text):
+    return of_backups().shown(text[:TOLD])
+
+
 def part_of(user):
     """(A folder holds 256 things, and a room has up to 1,000 users.)"""
     return f"{TOP}/@{sum(user.encode()) % 16:x}"
@@ -73,9 +115,9 @@ class Session:
     def send(self, method, target, body=None):
         end = time.monotonic() + WAIT
         while True:
-            status, reply = self.once(method, target, body)
-            if reply is not None and status != 503:
-                return reply
+            status, text = self.once(method, target, body)
+            if status not in (0, 503):
+                return self.reply_of(text, (body or {}).get("cmd"))
             if time.monotonic() > end:
                 raise Fault(f"the room does not answer at {self.path}")
             time.sleep(0.1)
@@ -86,11 +128,20 @@ class Session:
             text = b"" if body is None else json.dumps(body).encode()
             line.request(method, target, text, {"room-user": self.user, "connection": "close"})
             answer = line.getresponse()
-            return answer.status, json.loads(answer.read())
+            return answer.status, answer.read(LONGEST + 1)
         except (OSError, http.client.HTTPException, ValueError):
-            return 0, None
+            return 0, b""
         finally:
             line.close()
+
+    def reply_of(self, text, cmd):
+        try:
+            reply = json.loads(text) if len(text) <= LONGEST else None
+        except (ValueError, RecursionError):
+            reply = None
+        if not is_reply(reply, cmd):
+            raise Fault(f"what answers at {self.path} answers {cmd or 'a session'} in another form than a room does")
+        return reply
 
     def ask(self, cmd, path, **more):
         if self.opened["code"]:
@@ -102,8 +153,8 @@ class Session:
         """The reply, where it is none of a refusal, or one of these."""
         reply = self.ask(cmd, path, **more)
         if reply["code"] and reply["code"] not in but:
-            raise Fault(f"{self.user} is refused {cmd} {path}: {reply.get('error')} ({reply['code']})"
-                        + (f" at {reply['path']}" if "path" in reply else ""))
+            raise Fault(f"{self.user} is refused {cmd} {path}: {shown(reply.get('error', ''))} ({reply['code']})"
+                        + (f" at {shown(reply['path'])}" if "path" in reply else ""))
         return reply
 
     def end(self):
@@ -142,7 +193,7 @@ class Trashes:
 
     def need_user(self, user, path):
         if user not in self.users:
-            raise Fault(f"{path} is {user}'s, who is no user of the room: add {user} to it for this")
+            raise Fault(f"{path} is {shown(user)}'s, who is no user of the room: add {shown(user)} to it for this")
 
     def root(self):
         """Whose the room is, as the first user tells who may ask for that."""

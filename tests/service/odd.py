@@ -1,0 +1,143 @@
+"""`fileroom-admin` where it meets what is in an odd form: a room that somebody took over, a table full of faults, names
+of people and of folders, a terminal that lacks letters."""
+import contextlib
+import json
+import os
+import re
+import shutil
+import signal
+import socket
+import subprocess
+import sys
+import threading
+
+from machines import ADMIN, Machine
+
+FORM = "in another form"
+OPENED = {"code": 0, "slots": 1}
+OWN = [{"type": 0, "flag": 0, "mask": 0x1F07FF, "who": "OWNER@"}]
+WELL = {"STAT": {"code": 0, "owner": "ann", "group": "eng", "kind": "folder"},
+        "GETLIST": {"code": 0, "aclflag": 2, "entries": OWN},
+        "LIST": {"code": 0, "names": [["@settled", "file"]]}, "READ": {"code": 0, "data": ""}}
+ANY = [b"[]", b"7", b"null", b'"code"', b"{}", b'{"code":true}', b'{"code":"0"}', b'{"code":0.5}', b'{"code":null}',
+       b"[" * 100000, b'{"code":5,"error":["NO"]}', b'{"code":5,"path":7}', b'{"code":0}' + b" " * (1 << 20)]
+ODD = {"STAT": [b'{"code":0}', b'{"code":0,"owner":["ann"],"group":"eng","kind":"folder"}',
+                b'{"code":0,"owner":"ann","group":7,"kind":"folder"}',
+                b'{"code":0,"owner":"ann","group":"eng","kind":{}}'],
+       "GETLIST": [b'{"code":0}', b'{"code":0,"aclflag":"2","entries":[]}', b'{"code":0,"aclflag":2,"entries":7}',
+                   b'{"code":0,"aclflag":2,"entries":[7]}', b'{"code":0,"aclflag":2,"entries":[{"who":"ann"}]}'],
+       "LIST": [b'{"code":0}', b'{"code":0,"names":7}', b'{"code":0,"names":[7]}', b'{"code":0,"names":[["a"]]}',
+                b'{"code":0,"names":[[["a"],"file"]]}'],
+       "READ": [b'{"code":0}', b'{"code":0,"data":7}', b'{"code":0,"data":"a"}', b'{"code":0,"data":"\\u00e4"}']}
+
+
+def request_of(asked):
+    """The body of a request; or nothing, where it has none."""
+    head = b"".join(iter(asked.readline, b"\r\n"))
+    length = re.search(rb"content-length: (\d+)", head, re.IGNORECASE)
+    return asked.read(int(length[1])) if length else b""
+
+
+class Taken:
+    """What stands at the room's socket in its place: it answers as a room does, but for some commands."""
+
+    def __init__(self, machine):
+        self.odd, self.opened, self.is_silent, self.met = {}, OPENED, False, threading.Event()
+        os.makedirs(machine.at("run/fileroom"))
+        self.listener = socket.socket(socket.AF_UNIX)
+        self.listener.bind(machine.at("run/fileroom/plans.sock"))
+        self.listener.listen()
+        threading.Thread(target=self.serve, daemon=True).start()
+
+    def serve(self):
+        kept = []
+        with contextlib.suppress(OSError):
+            while True:
+                line, _ = self.listener.accept()
+                self.met.set()
+                if self.is_silent:
+                    kept.append(line)
+                    continue
+                with line, line.makefile("rb") as asked, contextlib.suppress(OSError):
+                    body = self.answer(request_of(asked))
+                    line.sendall(b"HTTP/1.1 200 OK\r\ncontent-length: %d\r\n\r\n" % len(body) + body)
+
+    def answer(self, request):
+        cmd = re.search(rb'"cmd": ?"(\w+)"', request)
+        if not cmd:
+            return self.opened if isinstance(self.opened, bytes) else json.dumps(self.opened).encode()
+        cmd = cmd[1].decode()
+        return self.odd.get(cmd) or json.dumps(WELL.get(cmd, {"code": 0})).encode()
+
+    def end(self, machine):
+        self.listener.shutdown(socket.SHUT_RDWR)
+        shutil.rmtree(machine.at("run"))
+
+
+def told_of_form(machine, tally, what):
+    status, said, faults = machine.does("trash", "plans")
+    tally.differs(f"trash: {what}: {faults[-300:]}", (status, "Traceback" in faults, FORM in said + faults),
+                  (1, False, True))
+
+
+def taken_over(machine, tally):
+    """Any answer of another form is told in words, and a drawn password is told whatever comes of the trash."""
+    it = Taken(machine)
+    tally.differs("as a room answers", machine.does("trash", "plans"),
+                  (0, "plans: 1 of 1 users have a trash (1 new)\n", ""))
+    for body in ANY:
+        it.opened = body
+        told_of_form(machine, tally, f"opened: {body[:60]}")
+    it.opened = OPENED
+    for cmd, bodies in ODD.items():
+        for body in [b"[]", *bodies]:
+            it.odd = {cmd: body}
+            told_of_form(machine, tally, f"{cmd}: {body[:60]}")
+    for at, body in enumerate([b"[]", b"7", b'{"code":0}']):
+        it.odd, user = {"STAT": body}, f"kim{at}"
+        status, said, faults = machine.does("user", "add", "plans", user)
+        lines = said.splitlines()
+        tally.differs(f"user add: {body}: {faults}", (status, faults, [line.split(": ")[0] for line in lines]), (
+            0, "", [f"{user} is a user of the room plans, in no group", f"the password of {user}",
+                    f"{user} has no trash"]))
+    table = os.path.join(machine.folder, "table.csv")
+    with open(table, "w", encoding="utf-8") as file:
+        file.write("user\nlou\n")
+    status, said, faults = machine.does("user", "import", "plans", table)
+    tally.differs(f"user import: {faults}", (status, [line.partition(",")[0] for line in said.splitlines()][1:2]),
+                  (0, ["lou"]))
+    it.odd = {}
+    its_letters(machine, tally, it)
+    stopped_by_hand(machine, tally, it)
+    it.end(machine)
+
+
+def its_letters(machine, tally, it):
+    """What it says does nothing at root's terminal, and is cut."""
+    for what, odd in ("an error", {"LIST": {"code": 9, "error": "\x1b]0;x\x07" + "x" * 9999}}), (
+            "a path", {"LIST": {"code": 9, "error": "NO", "path": "/\x1b]0;x\x07" + "x" * 9999}}), (
+            "an owner", {"STAT": WELL["STAT"] | {"owner": "\x1b]0;x\x07" + "x" * 9999}}):
+        it.odd = {cmd: json.dumps(reply).encode() for cmd, reply in odd.items()}
+        status, said, faults = machine.does("trash", "plans", "ann")
+        told = said + faults
+        tally.differs(f"{what}: {told[:300]}", (status, "\x1b" in told, r"\x1b]0;x\x07" in told, len(told) < 1000),
+                      (1, False, True, True))
+    it.odd = {}
+
+
+def stopped_by_hand(machine, tally, it):
+    """Who waits for a silent room, and ends the command, has the password."""
+    it.is_silent = True
+    it.met.clear()
+    words = [sys.executable, "-B", ADMIN, "--root", machine.root, "-q", "user", "add", "plans", "may"]
+    with subprocess.Popen(words, env=machine.env, stdout=subprocess.PIPE, stderr=subprocess.DEVNULL) as done:
+        tally.differs("it asks the room", it.met.wait(60), True)
+        done.send_signal(signal.SIGINT)
+        tally.differs("the password", len(done.communicate()[0].strip()), 16)
+
+
+def tried(folder, tally):
+    machine = Machine(folder)
+    machine.stand_in("nginx", "true")
+    machine.does("room", "add", "plans", "ann", "eng")
+    taken_over(machine, tally)
