@@ -136,8 +136,22 @@ def stopped_by_hand(machine, tally, it):
         tally.differs("the password", len(done.communicate()[0].strip()), 16)
 
 
+def many_faults(machine, tally):
+    """A table of a wrong row again and again tells the first, and how many more there are."""
+    table = os.path.join(machine.folder, "many.csv")
+    with open(table, "w", encoding="utf-8") as file:
+        file.write("user\n" + "a\n" * 400_000)
+    status, said, faults = machine.does("user", "import", "plans", table)
+    lines = faults.splitlines()
+    tally.differs("many faults", (status, said, len(lines), lines[0], lines[19:]), (
+        1, "", 22, f"fileroom-admin: {table}, line 3: a stands in a line before",
+        [f"fileroom-admin: {table}, line 22: a stands in a line before", "fileroom-admin: and 399979 others",
+         f"fileroom-admin: nothing was changed: 399999 faults in {table}"]))
+
+
 def tried(folder, tally):
     machine = Machine(folder)
     machine.stand_in("nginx", "true")
     machine.does("room", "add", "plans", "ann", "eng")
-    taken_over(machine, tally)
+    for part in taken_over, many_faults:
+        part(machine, tally)

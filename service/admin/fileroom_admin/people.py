@@ -12,6 +12,7 @@ from .trash import Trashes
 
 FOR_WORKERS = 0o640, WORKERS  # who may read the passwords
 DRAWN = 12  # bytes
+FAULTS = 20  # of a table that are told: nobody else changes anything meanwhile
 PATIENCE = 120  # seconds in which a large room has read its file again
 
 
@@ -206,7 +207,8 @@ class People:
         rows, faults = sheets.read_users(path, there, is_update)
         if not faults and len({*there, *rows}) > rosters.USERS:
             faults = [f"the room {room} would have {len({*there, *rows})} users, and {rosters.USERS} are the most"]
-        for it in faults:
+        more = len(faults) - FAULTS
+        for it in [*faults[:FAULTS], *[f"and {more} others"] * (more > 0)]:
             print(f"fileroom-admin: {it}", file=sys.stderr)
         if faults:
             raise Fault(f"nothing was changed: {len(faults)} faults in {path}")
