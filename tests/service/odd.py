@@ -1,6 +1,7 @@
 """`fileroom-admin` where it meets what is in an odd form: a room that somebody took over, a table full of faults, names
 of people and of folders, a terminal that lacks letters."""
 import contextlib
+import itertools
 import json
 import os
 import re
@@ -149,9 +150,27 @@ def many_faults(machine, tally):
          f"fileroom-admin: nothing was changed: 399999 faults in {table}"]))
 
 
+def names(machine, tally):
+    """A name comes back out of a table as it was, whatever it begins and ends with."""
+    sys.path.insert(0, os.path.dirname(ADMIN))
+    from fileroom_admin import sheets
+    each = ["".join(it) for length in range(6) for it in itertools.product(" ';=a", repeat=length)]
+    lost = [it for it in each if sheets.of_cell(sheets.as_cell(it)) != it]
+    tally.differs("names that come back as others", lost, [])
+    table, file = os.path.join(machine.folder, "names.csv"), machine.at("etc/nginx/fileroom/names.json")
+    for name in "Ann ", "  ", "Ann '", " 'Ann'  ":
+        machine.does("user", "name", "ann", name)
+        with open(table, "w", encoding="utf-8") as to:
+            to.write(machine.does("user", "list", "--csv", "plans")[1])
+        machine.write("etc/nginx/fileroom/names.json", "{}\n")
+        status, _, faults = machine.does("user", "import", "--update", "plans", table)
+        with open(file, encoding="utf-8") as back:
+            tally.differs(f"{name!r}: {faults}", (status, json.load(back)), (0, {"ann": name}))
+
+
 def tried(folder, tally):
     machine = Machine(folder)
     machine.stand_in("nginx", "true")
     machine.does("room", "add", "plans", "ann", "eng")
-    for part in taken_over, many_faults:
+    for part in taken_over, many_faults, names:
         part(machine, tally)

@@ -13,7 +13,7 @@ COLUMNS = ["user", "groups", "name"]
 LARGEST = 1 << 20  # bytes of a table
 # What a spreadsheet computes by its first letter, also where it takes wide letters for narrow ones, stands behind an
 # apostrophe: then it is text. So does what begins like that itself, or with a blank, which would be lost; and the same
-# behind a semicolon, at which a spreadsheet of many languages cuts cells.
+# behind a semicolon, at which a spreadsheet of many languages cuts cells. A blank at the end has one behind it.
 FORMULA = r"[=+\-@\s\uff1d\uff0b\uff0d\uff20]"
 
 
@@ -42,11 +42,13 @@ def bytes_of(path):
 
 
 def as_cell(text):
+    text = re.sub(r"(?<=\s)('*)\Z", r"\1'", text)
     return re.sub(f"(^|;)(?='*{FORMULA})", r"\1'", text)
 
 
 def of_cell(cell):
-    return re.sub(f"(^|;)'(?='*{FORMULA})", r"\1", cell.strip())
+    cell = re.sub(r"(?<=\s)('*)'\Z", r"\1", cell.strip())
+    return re.sub(f"(^|;)'(?='*{FORMULA})", r"\1", cell)
 
 
 def rows_of(path):
