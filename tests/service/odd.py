@@ -12,7 +12,7 @@ import subprocess
 import sys
 import threading
 
-from machines import ADMIN, Machine
+from machines import ADMIN, SERVICE, Machine, Served
 
 FORM = "in another form"
 OPENED = {"code": 0, "slots": 1}
@@ -168,9 +168,28 @@ def names(machine, tally):
             tally.differs(f"{name!r}: {faults}", (status, json.load(back)), (0, {"ann": name}))
 
 
+def folders(machine, tally):
+    """What is below a folder that only begins like one of pieces is somebody's as anything else."""
+    it, pieces = Served(machine), ".room-pieces-0123456789abcdef"
+    everybody = [{"type": 0, "flag": 3, "mask": 0x1F07FF, "who": who} for who in ("OWNER@", "EVERYONE@")]
+    it.holds("ann", "SETLIST", "/", aclflag=1, entries=everybody)
+    for path in "/.room-pieces-", "/.room-pieces-/a", f"/{pieces}", f"/{pieces}/000", f"/{pieces}0", f"/x{pieces}":
+        it.holds("may", "MKDIR", path)
+    it.room.kill()
+    folder = machine.at("var/backups/fileroom/plans")
+    os.makedirs(os.path.dirname(folder), exist_ok=True)
+    words = [os.path.join(SERVICE, "fileroom-backup"), it.room.db, it.room.roster, folder]
+    made = subprocess.run(words, env=machine.env, capture_output=True, text=True)
+    tally.differs(f"a backup: {made.stderr}", made.returncode, 0)
+    said = machine.does("user", "owns", "may")[1]
+    owns = [line.rpartition(": ")[2].split(", ") for line in said.splitlines() if line.startswith("may owns")]
+    tally.differs(f"user owns: {said}", owns, [["/.room-pieces-", "/.room-pieces-/a", f"/{pieces}0", f"/x{pieces}"]])
+    it.end(machine)
+
+
 def tried(folder, tally):
     machine = Machine(folder)
     machine.stand_in("nginx", "true")
     machine.does("room", "add", "plans", "ann", "eng")
-    for part in taken_over, many_faults, names:
+    for part in taken_over, many_faults, names, folders:
         part(machine, tally)

@@ -26,7 +26,7 @@ def owned(machine, tally):
     tally.differs("no backup", told.count("is not known: "), 2)
     it, entry = Served(machine), {"type": 0, "flag": 3, "mask": 0x1F07FF}
     everybody = [entry | {"who": it} for it in ("OWNER@", "EVERYONE@")]
-    for path in "/of-kim", "/of-kim/a\u202eb", "/of-kim/.room-pieces-0", "/of-kim/.room-pieces-0/00":
+    for path in "/of-kim", "/of-kim/a\u202eb", *(f"/of-kim/.room-pieces-0123456789abcdef{it}" for it in ("", "/00")):
         it.holds("ann", "SETLIST", "/", aclflag=1, entries=everybody)
         it.holds("kim", "MKDIR", path)
     it.holds("ann", "MKDIR", "/of-ann")

@@ -5,6 +5,7 @@ import datetime
 import importlib.machinery
 import importlib.util
 import os
+import re
 import sys
 import tempfile
 
@@ -12,7 +13,7 @@ from .places import HERE, Fault
 
 TOLD = 20  # paths at most
 GROUP, INHERITED = 0x40, 0x80  # marks of an entry
-PIECES = "/.room-pieces-"  # what is in such a folder is a part of a large file
+PIECES = re.compile(r"/\.room-pieces-[0-9a-f]{16}(/|\Z)")  # a part of a large file (docs/FILES.md)
 
 
 def of_backups():
@@ -65,7 +66,7 @@ def found(places, room, user):
         owns = table.execute("SELECT id FROM node WHERE owner = ?", (user,)).fetchall()
         named = table.execute("SELECT DISTINCT node FROM entry WHERE who = ? AND flag & ? = 0",
                               (user, GROUP | INHERITED)).fetchall()
-        paths = [sorted(path for it, in nodes for path in [path_of(table, it)] if PIECES not in path)
+        paths = [sorted(path for it, in nodes for path in [path_of(table, it)] if not PIECES.search(path))
                  for nodes in (owns, named)]
     return name, *paths
 
