@@ -12,6 +12,7 @@ import subprocess
 import sys
 import threading
 
+from changes import log_of
 from machines import ADMIN, SERVICE, Machine, Served
 
 FORM = "in another form"
@@ -187,9 +188,24 @@ def folders(machine, tally):
     it.end(machine)
 
 
+def letters(machine, tally):
+    """A terminal that lacks a letter is told which it is; a table is of UTF-8 whatever the terminal has."""
+    asked = {"slot": "plans/s/0/1", "asked": '{"cmd":"MKDIR","path":"/\u0150"}', "status": "200", "length": "10"}
+    it = lambda: None
+    it.folder = machine.folder
+    root = log_of(it, "letters", [asked])
+    env = {**machine.env, "PYTHONIOENCODING": "ascii"}
+    words = [sys.executable, "-B", ADMIN, "--root"]
+    done = subprocess.run([*words, root, "log", "plans"], env=env, capture_output=True, text=True)
+    tally.differs(f"log: {done.stderr}", (done.returncode, done.stdout[-16:]), (0, "  MKDIR /\\u0150\n"))
+    machine.does("user", "name", "ann", "\u0150")
+    done = subprocess.run([*words, machine.root, "user", "list", "--csv", "plans"], env=env, capture_output=True)
+    tally.differs(f"a table: {done.stderr}", (done.returncode, "ann,eng,\u0150\n".encode() in done.stdout), (0, True))
+
+
 def tried(folder, tally):
     machine = Machine(folder)
     machine.stand_in("nginx", "true")
     machine.does("room", "add", "plans", "ann", "eng")
-    for part in taken_over, many_faults, names, folders:
+    for part in taken_over, many_faults, names, folders, letters:
         part(machine, tally)

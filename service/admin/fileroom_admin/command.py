@@ -102,6 +102,9 @@ def play(given, commands):
 def user_list(commands, given):
     if given.csv and not given.ROOM:
         raise Fault("--csv is for one ROOM")
+    if given.csv:
+        # (as `user import` reads it, whatever letters a terminal here has)
+        sys.stdout.reconfigure(encoding="utf-8", errors="backslashreplace")
     commands.user_list(given.ROOM, given.csv)
 
 
@@ -139,6 +142,8 @@ DOES = {
 
 
 def main(words):
+    for stream in sys.stdout, sys.stderr:
+        stream.reconfigure(errors="backslashreplace")
     given = parser().parse_args(words)
     os.umask(0o022)  # (nginx reads what is not closed to it on purpose)
     places = Places(given.root)
