@@ -152,6 +152,7 @@ def hides_nothing(asked, tally):
             {"cmd": "MKDIR", "path": ["/z"]}, {"cmd": 7, "path": "/z"}, {"cmd": "CHOWN", "path": "/z"}, [1]]
     texts = [*map(json.dumps, odd), "[" * 1200]
     texts += ['{"path":' + "[" * it + "]" * it + "}" for it in range(deep, 1000, 3)]
+    texts += [" " * 3000 + "[7]", " " * 300]
     about = {"time": "2026-11-28T09:00:00+00:00", "from": "::1", "user": "ann", "status": "502", "length": "-"}
     root = os.path.join(asked.folder, "odd")
     os.makedirs(os.path.join(root, "var", "log", "fileroom"))
@@ -164,7 +165,8 @@ def hides_nothing(asked, tally):
     begin = "no answer  in an odd form"
     for text, (_, line) in zip(texts, lines):
         cut, is_deep = f" (cut, or no command: {len(text)} letters are kept)", text.startswith('{"path":[[')
-        wanted = [f"{begin}{it}: {text[:200]}" for it in ("", cut) if is_deep or bool(it) == text.startswith("[")]
+        shown = text.strip()[:200] or "blanks alone"
+        wanted = [f"{begin}{it}: {shown}" for it in ("", cut) if is_deep or bool(it) != text.startswith("{")]
         tally.differs(f"{text[:80]}: {line[:200]}", line in wanted, True)
 
 
