@@ -1,7 +1,7 @@
 -- What a command of anybody's changes for a caller at paths neither at nor below its own, or out of reach.
 use Rattle.std.proofs.Common.{◌≡◌, ◌⊎◌, ℕ, refl, ap, sym, ◌∙◌, Bool, true, false, ◌||◌, inl, inr, List, [], ◌∷◌}
 use Rattle.std.proofs.Common.{◌++◌, append-nil, append_assoc}
-use Rattle.std.specs.Prelude.{is_none, Err}
+use Rattle.std.specs.Prelude.{is_none, Err, Result}
 use Rattle.std.proofs.Common.{length, drop}
 use Rattle.std.proofs.Common.{Option, None, Some, ◌==◌, option_map}
 use Rattle.std.proofs.lemmas.Bool.{both_ways, or_parts, false_from_ne_true}
@@ -143,7 +143,7 @@ module _ (caller : SubjectModel) (facts : Facts) (names : List (Name × Kind)) (
         full = None;
       })))
 
-  depth_out : (way : Option Refusal) (o : Option Object)
+  pub depth_out : (way : Option Refusal) (o : Option Object)
       → seen_less but_depth (view_with caller way (record facts { depth = depth; full = full }) o)
       ≡ seen_less but_depth (view_with caller way facts o)
   depth_out (Some r) o = refl
@@ -210,21 +210,21 @@ module _ (room later : Room) (caller : SubjectModel) (p t : Path) (is_room : IsR
         (facts_out room later caller p t out q off i) (out q off i))
 
     -- away from both paths, or behind a fault
-    by_place : (less : Sight → Sight) → IsOff caller room (p, t) q
-        → (Off p t q → view_less less later caller q ≡ view_less less room caller q)
-        → view_less less later caller q ≡ view_less less room caller q
-    by_place less off away = elim (place p t q) [
-      | Below_p rest is ↦ ap (seen_less less) (seen_behind p
+    pub by_place : {Y : Type 0} (of : Result (Option Sight) Refusal → Y) → IsOff caller room (p, t) q
+        → (Off p t q → of (view later caller q) ≡ of (view room caller q))
+        → of (view later caller q) ≡ of (view room caller q)
+    by_place of off away = elim (place p t q) [
+      | Below_p rest is ↦ ap of (seen_behind p
           (λ front n more at. s.fronts front n more (inl at)) q rest is
           (off.0 (ap (λ k. is_at_or_below k p) is ∙ at_behind p rest)))
-      | Below_t rest is ↦ ap (seen_less less) (seen_behind t
+      | Below_t rest is ↦ ap of (seen_behind t
           (λ front n more at. s.fronts front n more (inr at)) q rest is
           (off.1 (ap (λ k. is_at_or_below k t) is ∙ at_behind t rest)))
       | Away off_both ↦ away off_both
     ]
 
     pub seen_above : IsOff caller room (p, t) q → view_less but_names later caller q ≡ view_less but_names room caller q
-    seen_above off = by_place but_names off (λ away.
+    seen_above off = by_place (seen_less but_names) off (λ away.
         ap (seen_less but_names) (view_off away)
         ∙ names_out caller facts (children later q) (depth_in q later.objects) full (walk room caller q)
         (object_at room q)
@@ -235,7 +235,7 @@ module _ (room later : Room) (caller : SubjectModel) (p t : Path) (is_room : IsR
       names_stay off = children_same later room caller q (λ n. ap (option_map (λ (o : Object). o.kind))
           (out (q ++ n ∷ []) (child_off p t q off (λ name. (holds name).0) (λ name. (holds name).1) n)))
 
-      view_named : Off p t q → view later caller q ≡ view_with caller (walk room caller q)
+      pub view_named : Off p t q → view later caller q ≡ view_with caller (walk room caller q)
           (record facts { depth = depth_in q later.objects; full = full }) (object_at room q)
       view_named off = view_off off ∙ ap (λ (names : List (Name × Kind)). view_with caller (walk room caller q)
           (record facts { names = names; depth = depth_in q later.objects; full = full }) (object_at room q))
@@ -243,7 +243,7 @@ module _ (room later : Room) (caller : SubjectModel) (p t : Path) (is_room : IsR
 
       pub seen_higher : IsOff caller room (p, t) q
           → view_less but_depth later caller q ≡ view_less but_depth room caller q
-      seen_higher off = by_place but_depth off (λ away.
+      seen_higher off = by_place (seen_less but_depth) off (λ away.
           ap (seen_less but_depth) (view_named away)
           ∙ depth_out caller facts facts.names (depth_in q later.objects) full (walk room caller q) (object_at room q)
           ∙ ap (seen_less but_depth) (sym (view_by_facts room caller q)))
@@ -255,12 +255,12 @@ module _ (room later : Room) (caller : SubjectModel) (p t : Path) (is_room : IsR
         λ is. both_ways (is_at_or_below t q) above.1 (ap (λ k. is_at_or_below k q) is ∙ at_behind q (name ∷ [])),
       )
 
-      depth_stays : Off p t q → depth_in q later.objects ≡ depth_in q room.objects
+      pub depth_stays : Off p t q → depth_in q later.objects ≡ depth_in q room.objects
       depth_stays off = depth_same later room s.is_room is_room q
           (λ rest. out (q ++ rest) (off_below p q rest off.0 above.0, off_below t q rest off.1 above.1))
 
       pub seen_aside : IsOff caller room (p, t) q → view_less but_full later caller q ≡ view_less but_full room caller q
-      seen_aside off = by_place but_full off (λ away.
+      seen_aside off = by_place (seen_less but_full) off (λ away.
           ap (seen_less but_full) (view_named holds_neither away
           ∙ ap (λ (depth : ℕ). view_with caller (walk room caller q)
           (record facts { depth = depth; full = full }) (object_at room q)) (depth_stays away))

@@ -24,6 +24,7 @@ pub mod CommandsStay
 pub mod Others
 pub mod OtherBytes
 pub mod Elsewhere
+pub mod NamesUnseen
 pub mod Unseen
 pub mod ListsUnseen
 pub mod LeftShows

@@ -1,9 +1,9 @@
--- An example that computes: a folder that ann makes where bob may not look does not show to bob, though it takes one of
--- the numbers that are left.
-use Rattle.std.proofs.Common.{◌≡◌, ◌<◌, ℕ, refl, sym, arith, inl, inr, [], ◌∷◌, ◌++◌, false, None}
-use Rattle.std.specs.Prelude.{codes}
+-- Examples that compute: a folder that ann makes where bob may not look does not show to bob, though it takes one of
+-- the numbers that are left; and what shows of it where he may look.
+use Rattle.std.proofs.Common.{◌≡◌, ◌<◌, ℕ, refl, sym, arith, inl, inr, [], ◌∷◌, ◌++◌, true, false, None}
+use Rattle.std.specs.Prelude.{codes, Some}
 use Rattle.std.specs.Str.{IsUtf8}
-use Rattle.std.proofs.lemmas.Bool.{and_from}
+use Rattle.std.proofs.lemmas.Bool.{and_from, both_ways}
 use Rattle.std.proofs.lemmas.Str.{IsUtf8-from_ascii, is_utf8-from_IsUtf8}
 use Rattle.std.proofs.lemmas.Str.Ascii.{IsAscii-nil, IsAscii-cons}
 use Rattle.room_acl.specs.declared.subject.Kind.TheVariants.{Folder}
@@ -14,16 +14,20 @@ use Rattle.room_records.proofs.PathParts.{path_of_names}
 use Rattle.room_records.proofs.FreshRoom.{fresh_is_room}
 use Rattle.room_records.proofs.RoomsMap.{none_is_some, found_stands}
 use Rattle.room_commands.specs.CommandModel as C
-use Rattle.room_commands.specs.ReplyModel.{Done}
+use Rattle.room_commands.specs.ReplyModel.{Done, About, NotDone, Attributes}
+use Rattle.room_commands.specs.declared.reply.RefusalCode.TheVariants.{NoEnt, Access, NotEmpty}
+use Rattle.room_acl.specs.declared.who.Who.TheVariants.{Everyone}
 use Rattle.room_commands.specs.Effect.{effect}
-use Rattle.room_commands.specs.Sight.{LooksAlike, StayAlike, HasNoPower, Own, Other, replies_among, may}
+use Rattle.room_commands.specs.Sight.{LooksAlike, StayAlike, HasNoPower, Own, Other, replies_among, may, may_remove}
+use Rattle.room_commands.specs.Sight.{view}
 use Rattle.room_commands.proofs.Shorthands.{replies}
-use Rattle.room_commands.specs.Elsewhere.{IsOutOfSight, AddsNowhere, rights_at, ListUnseen}
-use Rattle.room_commands.specs.Checks.{walk}
+use Rattle.room_commands.specs.Elsewhere.{IsOutOfSight, AddsNowhere, rights_at, ListUnseen, NameUnseen}
+use Rattle.room_commands.specs.Checks.{walk, is_at_or_below}
 use Rattle.room_acl.specs.Bits.{read_acl}
 use Rattle.room_commands.proofs.ListsUnseen.{unseen_setlist}
 use Rattle.room_commands.proofs.EffectIsRoom.{effect_is_room}
 use Rattle.room_commands.proofs.Unseen.{done_unseen}
+use Rattle.room_commands.proofs.NamesUnseen.{shown_unnamed}
 
 abbrev ann : SubjectModel
 ann = record { name = codes "ann"; groups = [] }
@@ -121,3 +125,72 @@ sealed_unseen = record { rights = rights; lists = lists; attributes = λ reached
 
 bob_sees_no_list : LooksAlike bob locked sealed
 bob_sees_no_list = unseen_setlist locked bob ann h 2 [] None sealed_unseen
+
+-- and whether or not bob may add elsewhere, all looks alike to him as long as a number is left
+name_unseen : NameUnseen bob locked (effect locked ann (C.Mkdir h_a)).room h_a
+name_unseen = record {
+  unlisted = λ walked. (refl, refl);
+  depth = λ front rest is walked removes.
+      absurd (both_ways (may_remove locked bob front) (no_power front rest is walked).0 removes);
+}
+
+bob_sees_no_name : LooksAlike bob locked (effect locked ann (C.Mkdir h_a)).room
+bob_sees_no_name q = sym (shown_unnamed locked bob ann (C.Mkdir h_a) h_a_lawful is_room q name_unseen name_unseen
+    (inl refl) (λ below. refl, λ below. refl))
+
+-- but with some right of bob's on the folder something of it shows
+abbrev opened : ℕ → Room
+opened mask =
+    (effect locked ann (C.SetList 1 (record { allow = true; flags = 0; mask = mask; who = Everyone } ∷ []) h)).room
+
+abbrev later : ℕ → Room
+later mask = (effect (opened mask) ann (C.Mkdir h_a)).room
+
+-- with EXECUTE that the name is taken, and nothing else
+name_was_free : (effect (opened 32) bob (C.Stat h_a)).reply ≡ NotDone (record { code = NoEnt; place = None })
+name_was_free = refl
+
+name_shows : (effect (later 32) bob (C.Stat h_a)).reply ≡ NotDone (record { code = Access; place = Some (h_a, 128) })
+name_shows = refl
+
+removes_none : (front rest : Path) → h_a ≡ front ++ rest → may_remove (opened 32) bob front ≡ false
+removes_none [] rest is = refl
+removes_none (x ∷ []) rest is = let first : x ≡ codes "h" = cc in rw first refl
+removes_none (x ∷ y ∷ []) rest is = let first : x ≡ codes "h" = cc in rw first refl
+removes_none (x ∷ y ∷ z ∷ front) rest is = cc
+
+opened_is_room : IsRoom (opened 32)
+opened_is_room = effect_is_room locked ann
+    (C.SetList 1 (record { allow = true; flags = 0; mask = 32; who = Everyone } ∷ []) h)
+    (refl, (record { flags = refl; mask = refl; who = refl; kind = refl }, tt), h_lawful) is_room
+
+only_the_name_unseen : NameUnseen bob (opened 32) (later 32) h_a
+only_the_name_unseen = record {
+  unlisted = λ walked. (refl, refl);
+  depth = λ front rest is walked removes.
+      absurd (both_ways (may_remove (opened 32) bob front) (removes_none front rest is) removes);
+}
+
+only_the_name_shows : (q : Path) → is_at_or_below q h_a ≡ false → view (later 32) bob q ≡ view (opened 32) bob q
+only_the_name_shows q away = shown_unnamed (opened 32) bob ann (C.Mkdir h_a) h_a_lawful opened_is_room q
+    only_the_name_unseen only_the_name_unseen (inl refl) (
+      λ below. absurd (both_ways (is_at_or_below q h_a) away below),
+      λ below. absurd (both_ways (is_at_or_below q h_a) away below),
+    )
+
+-- with READ_ATTRIBUTES how many names there are
+abbrev in_h : ℕ → Attributes
+in_h size = record { aclflag = 1; group = codes "ops"; kind = Folder; owner = codes "ann"; size = size }
+
+was_nought : (effect (opened 128) bob (C.Stat h)).reply ≡ About (in_h 0)
+was_nought = refl
+
+size_shows : (effect (later 128) bob (C.Stat h)).reply ≡ About (in_h 1)
+size_shows = refl
+
+-- and with DELETE whether there is one
+was_empty : (effect (opened 65536) bob (C.Remove h)).reply ≡ Done
+was_empty = refl
+
+depth_shows : (effect (later 65536) bob (C.Remove h)).reply ≡ NotDone (record { code = NotEmpty; place = None })
+depth_shows = refl

@@ -1,5 +1,5 @@
 -- What a command of anybody's may change for a caller elsewhere (our own rules).
-use Rattle.std.specs.Prelude.{◌≡◌, ℕ, true, false, ◌||◌, [], ◌∷◌, ◌++◌, Option, None, Some, is_none, Result}
+use Rattle.std.specs.Prelude.{◌≡◌, ℕ, ◌⊎◌, true, false, ◌||◌, [], ◌∷◌, ◌++◌, Option, None, Some, is_none, Result}
 use Rattle.std.specs.Option.{option_map}
 use Rattle.std.specs.Result.{result_map_both}
 use Rattle.room_acl.specs.declared.subject.Kind.TheVariants.{Folder}
@@ -9,8 +9,8 @@ use Rattle.room_acl.specs.Access.{allowed_mask}
 use Rattle.room_records.specs.Names.{Name, Path}
 use Rattle.room_records.specs.Room.{Object, Room, object_at, list_of, standing_of, parent_of}
 use Rattle.room_commands.specs.ReplyModel.{Refusal, Attributes}
-use Rattle.room_commands.specs.Checks.{walk, is_at_or_below}
-use Rattle.room_commands.specs.Sight.{Sight, view, may, may_add, may_set, HasNoPower}
+use Rattle.room_commands.specs.Checks.{walk, is_at_or_below, is_full}
+use Rattle.room_commands.specs.Sight.{Sight, view, may, may_add, may_remove, may_set, depth_in, HasNoPower}
 
 -- a path is not at or below another one, unless the caller cannot reach that one
 abbrev pub IsOffOne : SubjectModel → Room → Path → Path → Type 0
@@ -47,18 +47,33 @@ but_names s = record (but_depth s) {
 abbrev pub view_less : (Sight → Sight) → Room → SubjectModel → Path → Result (Option Sight) Refusal
 view_less less room caller path = result_map_both (option_map less) (λ fault. fault) (view room caller path)
 
--- a path that the caller cannot reach, in a folder of which it sees neither the names nor how many they are; and it has
--- no power over the folders above
+-- in the folder of a path the caller sees neither the names nor how many they are
+abbrev pub IsUnlisted : SubjectModel → Room → Path → Type 0
+IsUnlisted caller room path = walk room caller (parent_of path) ≡ None
+    → (may room caller (parent_of path) list_directory ≡ false)
+    × (may room caller (parent_of path) read_attributes ≡ false)
+
+-- nor can it reach the path; and it has no power over the folders above
 abbrev pub IsOutOfSight : SubjectModel → Room → Path → Type 0
-IsOutOfSight caller room path = (is_none (walk room caller path) ≡ false)
-    × (walk room caller (parent_of path) ≡ None → (may room caller (parent_of path) list_directory ≡ false)
-    × (may room caller (parent_of path) read_attributes ≡ false))
+IsOutOfSight caller room path = (is_none (walk room caller path) ≡ false) × IsUnlisted caller room path
     × HasNoPower caller room path
 
 -- the caller may add to no folder, nor give itself the right to
 abbrev pub AddsNowhere : SubjectModel → Room → Type 0
 AddsNowhere caller room = (folder : Path) (o : Object) → object_at room folder ≡ Some o → o.kind ≡ Folder
     → walk room caller folder ≡ None → (may_add room caller folder || may_set room caller folder) ≡ false
+
+-- a path of which the folder shows no names, and each folder above that the caller may remove goes as deep as before
+pub record NameUnseen (caller : SubjectModel) (room later : Room) (path : Path) : Type 0 where
+  pub unlisted : IsUnlisted caller room path
+  pub depth : (front rest : Path) → path ≡ front ++ rest → walk room caller front ≡ None
+      → may_remove room caller front ≡ true → depth_in front later.objects ≡ depth_in front room.objects
+
+-- the rooms have both a number left, or neither has, or the caller reaches no folder to which it may add
+abbrev pub FullUnseen : SubjectModel → Room → Room → Type 0
+FullUnseen caller room later = (is_full later ≡ is_full room)
+    ⊎ ((folder : Path) (o : Object) → object_at room folder ≡ Some o → o.kind ≡ Folder
+    → walk room caller folder ≡ None → may_add room caller folder ≡ false)
 
 -- which rights the caller has on what is at a path
 abbrev pub rights_at : Room → SubjectModel → Path → Option ℕ

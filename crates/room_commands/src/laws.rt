@@ -1,7 +1,7 @@
 //! Laws of rooms and commands. Each function here does nothing: its contract is what the definitions
 //! are meant to say, proved of them.
 ghost use Rattle.std.specs.Prelude.{◌≡◌, ℕ, true, false, List, [], ◌∷◌, ◌++◌, Some, None, map, if◌then◌else◌, ◌↔◌};
-ghost use Rattle.std.specs.Prelude.{Contains, ◌⊎◌, Ok, Err};
+ghost use Rattle.std.specs.Prelude.{Contains, ◌⊎◌, Ok, Err, is_none};
 ghost use Rattle.std.specs.List.{AllByRecursion};
 ghost use Rattle.std.specs.List.Sorted.{IsStrictlySortedBy};
 ghost use Rattle.room_acl.specs.declared.subject.Kind.{Kind};
@@ -28,6 +28,7 @@ ghost use Rattle.room_commands.specs.OtherBytes.{room_with, command_with, reply_
 ghost use Rattle.room_commands.specs.Made.{with_more, IsRoomFull};
 ghost use Rattle.room_commands.specs.Elsewhere.{IsOff, HoldsNeither, IsAboveNeither, but_full, but_depth};
 ghost use Rattle.room_commands.specs.Elsewhere.{but_names, view_less, IsOutOfSight, AddsNowhere, ListUnseen};
+ghost use Rattle.room_commands.specs.Elsewhere.{IsUnlisted, NameUnseen, FullUnseen};
 ghost use Rattle.room_commands.specs.Sight.{may, changes_bytes_alone, Own, own_turns, replies_among};
 ghost use Rattle.room_commands.specs.Sight.{Sight, view, IsSightTold};
 
@@ -249,4 +250,29 @@ pub fn a_command_shows_at_its_paths()
         IsLawful command → IsRoom room → IsOff caller room (paths_of command) path →
         IsAboveNeither (paths_of command) path →
         view_less but_full (effect room other command).room caller path ≡ view_less but_full room caller path }
+{}
+
+/// What others make, remove or move in folders of which a caller sees neither the names nor how many they are shows
+/// little: but for paths at and below theirs that the caller can reach, only how deep a folder goes, and whether a
+/// number is left (`unlisted`). Where these two do not show, nothing does (`elsewhere`). So if the caller can reach no
+/// path of theirs, the rooms look alike to it (`alike`).
+pub fn names_unseen_do_not_show()
+    ensures unlisted { (room : Room) (caller other : SubjectModel) (command : CommandModel) (path : Path) →
+        IsLawful command → IsRoom room → IsUnlisted caller room (paths_of command).0 →
+        IsUnlisted caller room (paths_of command).1 → IsOff caller room (paths_of command) path →
+        view_less but_depth (effect room other command).room caller path ≡ view_less but_depth room caller path }
+    ensures elsewhere { (room : Room) (caller other : SubjectModel) (command : CommandModel) (path : Path) →
+        IsLawful command → IsRoom room →
+        NameUnseen caller room (effect room other command).room (paths_of command).0 →
+        NameUnseen caller room (effect room other command).room (paths_of command).1 →
+        FullUnseen caller room (effect room other command).room → IsOff caller room (paths_of command) path →
+        view (effect room other command).room caller path ≡ view room caller path }
+    ensures alike { (room : Room) (caller other : SubjectModel) (command : CommandModel) →
+        IsLawful command → IsRoom room →
+        NameUnseen caller room (effect room other command).room (paths_of command).0 →
+        NameUnseen caller room (effect room other command).room (paths_of command).1 →
+        FullUnseen caller room (effect room other command).room →
+        is_none (walk room caller (paths_of command).0) ≡ false →
+        is_none (walk room caller (paths_of command).1) ≡ false →
+        LooksAlike caller room (effect room other command).room }
 {}

@@ -1,0 +1,167 @@
+-- What comes into folders, and goes from them, where a caller may not list them.
+use Rattle.std.proofs.Common.{◌≡◌, ◌⊎◌, refl, ap, sym, ◌∙◌, Bool, true, false, not, ◌&&◌, ◌||◌, inl, inr}
+use Rattle.std.proofs.Common.{List, [], ◌∷◌, ◌++◌, length, drop, Option, None, Some, ◌==◌}
+use Rattle.std.proofs.lemmas.Bool.{cases_Bool, and_right}
+use Rattle.room_acl.specs.declared.subject.Kind.{Kind}
+use Rattle.room_acl.specs.declared.subject.Kind.TheVariants.{File, Folder}
+use Rattle.room_acl.specs.Bits.{list_directory, add_file, add_subdirectory, read_attributes}
+use Rattle.room_acl.specs.SubjectModel.{SubjectModel}
+use Rattle.room_records.specs.Names.{Name, Path}
+use Rattle.room_records.specs.Room.{Object, Room, IsRoom, object_at, children, parent_of}
+use Rattle.room_records.proofs.RoomsMap.{parent_of_end}
+use Rattle.room_commands.specs.CommandModel.{CommandModel, paths_of}
+use Rattle.room_commands.specs.ReplyModel.{Refusal, Attributes}
+use Rattle.room_commands.specs.Lawful.{IsLawful}
+use Rattle.room_commands.specs.Checks.{walk, is_file, is_at_or_below}
+use Rattle.room_commands.specs.Effect.{effect}
+use Rattle.room_commands.specs.Sight.{view, may_remove, depth_in}
+use Rattle.room_commands.specs.Elsewhere.{IsOff, IsUnlisted, NameUnseen, FullUnseen, but_depth, view_less}
+use Rattle.room_commands.proofs.RoomsRenamed.{rest_below}
+use Rattle.room_commands.proofs.BytesAlone.{Facts, facts_at, sight_with, size_with, view_with, view_by_facts}
+use Rattle.room_commands.proofs.Staying.{Off, in_folder}
+use Rattle.room_commands.proofs.Elsewhere.{Leaves, by_result, view_off, view_named, by_place, depth_out, depth_stays}
+use Rattle.room_commands.proofs.Shorthands.{if_reached, seen_less}
+use Rattle.std.specs.Bool.{then_some}
+
+same_or_hidden : {X : Type 0} (test : Bool) (x y : X) → (x ≡ y) ⊎ (test ≡ false) → then_some test x ≡ then_some test y
+same_or_hidden test x y (inl same) = ap (then_some test) same
+same_or_hidden true x y (inr off) = let no : true ≡ false = off in cc
+same_or_hidden false x y (inr off) = refl
+
+-- a sight of a folder without its names, and how many they are
+abbrev Unnamed : Facts → Type 0
+Unnamed facts = (facts.may list_directory ≡ false) × (facts.may read_attributes ≡ false)
+
+unnamed_same : (caller : SubjectModel) (facts : Facts) (names : List (Name × Kind)) (way : Option Refusal)
+    (o : Option Object) → (way ≡ None → Unnamed facts)
+    → view_with caller way (record facts { names = names }) o ≡ view_with caller way facts o
+unnamed_same caller facts names (Some r) o unnamed = refl
+unnamed_same caller facts names None None unnamed = refl
+unnamed_same caller facts names None (Some o) unnamed =
+    let attributes_with : List (Name × Kind) → Attributes = λ names. record {
+      aclflag = o.aclflag;
+      group = o.group;
+      kind = o.kind;
+      owner = o.owner;
+      size = size_with names o.bytes o.kind;
+    } in
+    let attributes = same_or_hidden (facts.may read_attributes) (attributes_with names) (attributes_with facts.names)
+    (inr (unnamed refl).1) in
+    let listed = same_or_hidden (not (is_file o.kind) && facts.may list_directory) names facts.names
+    (inr (and_right (not (is_file o.kind)) (facts.may list_directory) (unnamed refl).0)) in
+    (λ i. if_reached None (Some (record (sight_with caller facts o) { attributes = attributes i; names = listed i })))
+
+module _ (room later : Room) (caller : SubjectModel) (p t : Path) (is_room : IsRoom room) (s : Leaves room later p t)
+    (q : Path) where
+  abbrev facts : Facts
+  facts = facts_at room caller q
+
+  abbrev facts_later : Facts
+  facts_later = record facts { depth = depth_in q later.objects; full = (later.left == 0) }
+
+  unnamed_in : (top : Path) → IsUnlisted caller room top → (n : Name) → top ≡ q ++ n ∷ []
+      → walk room caller q ≡ None → Unnamed facts
+  unnamed_in top unlisted n is walked =
+      let folder : parent_of top ≡ q = ap parent_of is ∙ parent_of_end q n in
+      rw folder at (unlisted (ap (walk room caller) folder ∙ walked))
+
+  -- a view later, but for depth and the last number
+  view_unlisted : IsUnlisted caller room p → IsUnlisted caller room t → Off p t q
+      → view later caller q ≡ view_with caller (walk room caller q) facts_later (object_at room q)
+  view_unlisted unlisted_p unlisted_t off = elim (in_folder p q) [
+    | inl at ↦ hidden (unnamed_in p unlisted_p at.0 at.1)
+    | inr no_p ↦ elim (in_folder t q) [
+      | inl at ↦ hidden (unnamed_in t unlisted_t at.0 at.1)
+      | inr no_t ↦ view_named room later caller p t is_room s q (λ n. (no_p n, no_t n)) off
+    ]
+  ]
+    where
+      hidden : (walk room caller q ≡ None → Unnamed facts)
+          → view later caller q ≡ view_with caller (walk room caller q) facts_later (object_at room q)
+      hidden unnamed = view_off room later caller p t is_room s q off
+          ∙ unnamed_same caller facts_later (children later q) (walk room caller q) (object_at room q) unnamed
+
+  pub seen_unlisted : IsUnlisted caller room p → IsUnlisted caller room t → IsOff caller room (p, t) q
+      → view_less but_depth later caller q ≡ view_less but_depth room caller q
+  seen_unlisted unlisted_p unlisted_t is_off =
+      by_place room later caller p t is_room s q (seen_less but_depth) is_off (λ off.
+      ap (seen_less but_depth) (view_unlisted unlisted_p unlisted_t off)
+      ∙ depth_out caller facts facts.names (depth_in q later.objects) (later.left == 0) (walk room caller q)
+      (object_at room q)
+      ∙ ap (seen_less but_depth) (sym (view_by_facts room caller q)))
+
+  module _ (name_p : NameUnseen caller room later p) (name_t : NameUnseen caller room later t)
+      (numbers : FullUnseen caller room later) where
+    depth_above : Off p t q → walk room caller q ≡ None → may_remove room caller q ≡ true
+        → depth_in q later.objects ≡ depth_in q room.objects
+    depth_above off walked removes = elim (cases_Bool (is_at_or_below p q)) [
+      | inl above ↦ name_p.depth q (drop (length q) p) (rest_below q p above) walked removes
+      | inr not_p ↦ elim (cases_Bool (is_at_or_below t q)) [
+        | inl above ↦ name_t.depth q (drop (length q) t) (rest_below q t above) walked removes
+        | inr not_t ↦ depth_stays room later caller p t is_room s q (not_p, not_t) off
+      ]
+    ]
+
+    depth_seen : Off p t q → walk room caller q ≡ None
+        → (depth_in q later.objects ≡ depth_in q room.objects) ⊎ (facts.removes ≡ false)
+    depth_seen off walked = elim (cases_Bool (may_remove room caller q)) [
+      | inl removes ↦ inl (depth_above off walked removes)
+      | inr not_so ↦ inr not_so
+    ]
+
+    abbrev adds_there : Bool
+    adds_there = facts.may add_file || facts.may add_subdirectory
+
+    full_seen : (o : Object) → object_at room q ≡ Some o → walk room caller q ≡ None
+        → ((later.left == 0) ≡ (room.left == 0)) ⊎ ((not (is_file o.kind) && adds_there) ≡ false)
+    full_seen o at walked = elim numbers [
+      | inl same ↦ inl same
+      | inr nowhere ↦ inr (by_kind (nowhere q o at) o.kind refl)
+    ]
+      where
+        by_kind : (o.kind ≡ Folder → walk room caller q ≡ None → adds_there ≡ false) → (kind : Kind) → o.kind ≡ kind
+            → (not (is_file o.kind) && adds_there) ≡ false
+        by_kind nowhere File file = ap (λ kind. not (is_file kind) && adds_there) file
+        by_kind nowhere Folder folder = and_right (not (is_file o.kind)) adds_there (nowhere folder walked)
+
+    there_same : Off p t q → (way : Option Refusal) → walk room caller q ≡ way → (o : Option Object)
+        → object_at room q ≡ o → view_with caller way facts_later o ≡ view_with caller way facts o
+    there_same off (Some r) walked o at = refl
+    there_same off None walked None at = refl
+    there_same off None walked (Some o) at =
+        let depth = same_or_hidden facts.removes (depth_in q later.objects) (depth_in q room.objects)
+        (depth_seen off walked) in
+        let full = same_or_hidden (not (is_file o.kind) && adds_there) (later.left == 0) (room.left == 0)
+        (full_seen o at walked) in
+        (λ i. if_reached None (Some (record (sight_with caller facts o) { depth = depth i; full = full i })))
+
+    pub seen_unnamed : IsOff caller room (p, t) q → view later caller q ≡ view room caller q
+    seen_unnamed is_off = by_place room later caller p t is_room s q (λ seen. seen) is_off (λ off.
+        view_unlisted name_p.unlisted name_t.unlisted off
+        ∙ there_same off (walk room caller q) refl (object_at room q) refl
+        ∙ sym (view_by_facts room caller q))
+
+-- ---- and after a command, refused or not
+
+module _ (room : Room) (caller other : SubjectModel) (command : CommandModel) (lawful : IsLawful command)
+    (is_room : IsRoom room) (q : Path) where
+  abbrev after : Room
+  after = (effect room other command).room
+
+  pub shown_unlisted : IsUnlisted caller room (paths_of command).0 → IsUnlisted caller room (paths_of command).1
+      → IsOff caller room (paths_of command) q
+      → view_less but_depth after caller q ≡ view_less but_depth room caller q
+  shown_unlisted unlisted_p unlisted_t off = by_result room other is_room command lawful
+      (λ later. view_less but_depth later caller q ≡ view_less but_depth room caller q) refl
+      (λ later s. seen_unlisted room later caller (paths_of command).0 (paths_of command).1 is_room s q unlisted_p
+      unlisted_t off)
+
+  pub shown_unnamed : NameUnseen caller room after (paths_of command).0
+      → NameUnseen caller room after (paths_of command).1 → FullUnseen caller room after
+      → IsOff caller room (paths_of command) q → view after caller q ≡ view room caller q
+  shown_unnamed = by_result room other is_room command lawful
+      (λ later. NameUnseen caller room later (paths_of command).0 → NameUnseen caller room later (paths_of command).1
+      → FullUnseen caller room later → IsOff caller room (paths_of command) q
+      → view later caller q ≡ view room caller q)
+      (λ name_p name_t numbers off. refl)
+      (λ later s. seen_unnamed room later caller (paths_of command).0 (paths_of command).1 is_room s q)
