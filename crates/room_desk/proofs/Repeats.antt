@@ -22,11 +22,16 @@ not_accepted_again past q = grind (arith, common_steps, nat_tests, and_parts, ne
 pub again_is_idle : (past : History) (event : EventModel) → changes_rows (event ∷ past) event ≡ false
 again_is_idle past event = grind (arith, common_steps, itself, not_accepted_again)
 
+-- a request that is accepted and leaves a reply asks that it be kept
+is_kept : (past : History) (q : Request)
+    → leaves_no_reply past (Slot q) ≡ false → is_accepted past q ≡ true → q.keep ≡ true
+is_kept past q left taken = grind (arith, common_steps)
+
 -- the same event again gets the same answer, where a reply is left for it
 pub same_answer_again : (start : Room) (past : History) (event : EventModel)
     → leaves_no_reply past event ≡ false → answer_to start (event ∷ past) event ≡ answer_to start past event
 same_answer_again start past event left =
-    grind (arith, common_steps, nat_tests, and_parts, itself, not_accepted_again)
+    grind (arith, common_steps, nat_tests, and_parts, itself, not_accepted_again, is_kept)
 
 -- and where none is left, it is refused
 pub uncached_again : (start : Room) (past : History) (event : EventModel)
