@@ -72,7 +72,7 @@ module _ (start : Room) where
       absurd (both_ways _ (ap is_delay is ∙ never_delay start past event) delay)
   delay_step past next event answered delay (inr (is, stays)) = stays
 
-  pub doubted_joins : (past next : History) (events : List EventModel) (answers : List AnswerModel)
+  doubted_joins : (past next : History) (events : List EventModel) (answers : List AnswerModel)
       (doubted : List EventModel) (event : EventModel) → Run start past events answers next
       → Contains (in_doubt doubted events answers) event
       → TakenWith past (attempts_of events answers) next doubted event
@@ -96,4 +96,14 @@ module _ (start : Room) where
               ])
           | inr other ↦ absurd (in_none event (rw other at at))
         ]
+      ]
+
+  -- the event in doubt joined where it was sent
+  pub doubt_is_taken : (past next : History) (events : List EventModel) (answers : List AnswerModel)
+      (event : EventModel) → Run start past events answers next → Contains (in_doubt [] events answers) event
+      → Taken start past (attempts_of events answers) (event ∷ next)
+  doubt_is_taken past next events answers event run has =
+      elim (doubted_joins past next events answers [] event run has) [
+        | inl taken ↦ taken
+        | inr (none, taken) ↦ absurd (in_none event none)
       ]

@@ -1,34 +1,26 @@
--- A client over several runs of streams of messages, each of which ended by a stop.
-use Rattle.std.proofs.Common.{◌≡◌, suc, ◌^◌, ◌<◌, refl, subst, ap, inl, inr, ◌⊎◌, List, [], ◌∷◌, length, Some, true}
-use Rattle.std.proofs.Common.{Result, Ok, Err, false, ◌+◌, ◌∙◌}
+-- Messages that are answered in turn are attempts in turn, and a stop after them leaves rows to which they lead.
+use Rattle.std.proofs.Common.{◌≡◌, refl, subst, ap, inl, inr, ◌⊎◌, List, [], ◌∷◌, Some, true, Result, Ok, Err}
 use Rattle.std.specs.List.{Contains}
 use Rattle.std.proofs.lemmas.Bool.{cases_Bool}
 use Rattle.room_acl.specs.SubjectModel.{SubjectModel}
 use Rattle.room_records.specs.Records.{Records}
 use Rattle.room_records.specs.Room.{Room}
 use Rattle.room_records.specs.Shelf.{View, LeavesNew}
-use Rattle.room_commands.specs.CommandModel.{CommandModel}
 use Rattle.room_wire.specs.declared.fault.WireFault.{WireFault}
 use Rattle.room_wire.specs.Asks.AskOf.{AskModel, Check, Event, ask_of}
 use Rattle.room_wire.specs.Asks.EventModel.{EventModel}
 use Rattle.room_wire.specs.Messages.MessageModel.{MessageModel}
 use Rattle.room_wire.specs.Serving.Outputs.{InTurn}
-use Rattle.room_wire.specs.declared.answers.code.Code.TheVariants.{Delay}
-use Rattle.room_desk.specs.AnswerModel.{AnswerModel, Refused}
+use Rattle.room_desk.specs.AnswerModel.{AnswerModel}
 use Rattle.room_desk.specs.History.{History}
-use Rattle.room_desk.specs.Representation.{RepresentsHistory, StandsFor}
-use Rattle.room_desk.specs.Serving.{MayAnswer, AnswersOrDelays, AnswersMessage, Step, EventAnswered, by_event}
+use Rattle.room_desk.specs.Representation.{StandsFor}
+use Rattle.room_desk.specs.Serving.{MayAnswer, AnswersOrDelays, AnswersMessage, by_event}
 use Rattle.room_desk.specs.Stops.{is_delay, doubt_after, StandsInDoubt, Doubt, no_doubt, AnswersInDoubt}
-use Rattle.room_desk.specs.Client.{Lane, HoldsSlot, ran, Attempt, is_lost, Taken, HearsLess, Client, idle, KeepsRule}
-use Rattle.room_desk.specs.ClientRuns.{attempts_in, ServedStream, StreamStopsAt, StreamsStopAndStart}
-use Rattle.room_desk.specs.ClientRuns.{sent_in_streams}
-use Rattle.room_desk.specs.Client.{IsAsk}
-use Rattle.room_desk.proofs.Stops.{at_rest, never_delay}
+use Rattle.room_desk.specs.Client.{Attempt, is_lost, Taken}
+use Rattle.room_desk.specs.ClientRuns.{attempts_in, Leads}
+use Rattle.room_desk.proofs.Stops.{at_rest}
 use Rattle.room_desk.proofs.StreamStops.{after_ask}
-use Rattle.room_desk.proofs.Attempts.{client_did, client_told}
-use Rattle.room_desk.proofs.AttemptRuns.{step_meets, one_of, delay_step, taken_in_turn, taken_unheard, in_none}
-use Rattle.room_desk.specs.Client.{IsTold, HasDone}
-use Rattle.room_desk.proofs.ClientRuns.{Leads}
+use Rattle.room_desk.proofs.AttemptRuns.{step_meets, one_of, delay_step, in_none}
 
 -- the attempt that a message asks, and then others
 abbrev pub with_attempt : Result AskModel WireFault → AnswerModel → List Attempt → List Attempt
@@ -157,71 +149,6 @@ module _ (start : Room) where
         let then : Doubt = record { past = one.0; doubted = doubt_after known.doubted (ask_of users m) answered } in
         let later = stream_in_doubt users mid after ms answers then run intact one.2 one.3 in
         (later.0, (then, (one.1, refl), later.1), later.2)
-
-    one_stream : (past : History) (served : ServedStream) (found left : Records) → RepresentsHistory start found past
-        → StreamStopsAt view served found left
-        → Leads start past (attempts_in served.users served.messages served.answers) left
-    one_stream past served found left stand stops =
-        let stands : StandsFor start past (view stops.before) = λ there. (stops.laid_out, rw stops.rows stand) in
-        let (next, run, leaves) = stream_in_doubt served.users stops.before stops.after served.messages served.answers
-        (no_doubt past) stops.run stops.intact stands
-        (λ r may. inl (at_rest view settled stops.before start past stops.there stands r may)) in
-        in_doubt_leads served.users past next served.messages served.answers left run (leaves left stops.may_leave)
-
-    all_streams : (past : History) (runs : List ServedStream) (found left : Records)
-        → RepresentsHistory start found past → StreamsStopAndStart view runs found left
-        → Leads start past (sent_in_streams runs) left
-    all_streams past [] found left stand same = (past, refl, rw same stand)
-    all_streams past (served ∷ more) found left stand (mid, stops, later) =
-        let (then, taken, stands) = one_stream past served found mid stand stops in
-        let (next, more_taken, at_end) = all_streams then more mid left stands later in (
-          next,
-          taken_in_turn start past then next (attempts_in served.users served.messages served.answers)
-              (sent_in_streams more) taken more_taken,
-          at_end,
-        )
-
-    pub client_over_streams : (lane : Lane) (past : History) (runs : List ServedStream) (found left : Records)
-        (sent : List Attempt) (client : Client) → RepresentsHistory start found past → HoldsSlot lane past
-        → StreamsStopAndStart view runs found left → HearsLess (sent_in_streams runs) sent
-        → KeepsRule lane (length (ran lane past)) idle sent client → suc (length client.done) < 2 ^ 32
-        → (next : History) × RepresentsHistory start left next × HasDone lane client past next
-    client_over_streams lane past runs found left sent client stand holds stops less keeps few =
-        let (next, taken, at_end) = all_streams past runs found left stand stops in
-        let did = client_did lane start past holds client next sent keeps
-        (taken_unheard start past next (sent_in_streams runs) sent less taken) few in
-        (next, at_end, did)
-
-    -- an answer of a step is DELAY, or is not lost
-    heard : (past next : History) (event : EventModel) (answered : AnswerModel)
-        → (answered ≡ Refused Delay → ⊥) → Step start past event answered next → is_lost (Some answered) ≡ false
-    heard past next event answered other (inl (is, joins)) = ap is_delay is ∙ never_delay start past event
-    heard past next event answered other (inr (delay, stays)) = absurd (other delay)
-
-    -- what the client is told in the run after them
-    pub client_hears : (lane : Lane) (past : History) (runs : List ServedStream) (found left : Records)
-        (sent : List Attempt) (client : Client) (before after : S) (event : EventModel) (answered : AnswerModel)
-        (command : CommandModel) → RepresentsHistory start found past → HoldsSlot lane past
-        → StreamsStopAndStart view runs found left → HearsLess (sent_in_streams runs) sent
-        → KeepsRule lane (length (ran lane past)) idle sent client → suc (length client.done) < 2 ^ 32
-        → (view before).is_laid_out → (view before).records ≡ left
-        → EventAnswered view before event answered after → (view after).is_intact
-        → IsAsk lane (length (ran lane past) + length client.done) command event
-        → (answered ≡ Refused Delay → ⊥)
-        → (next : History) × StandsFor start next (view after)
-        × IsTold lane start (length (ran lane past)) client next command (Some answered)
-    client_hears lane past runs found left sent client before after event answered command stand holds stops less
-        keeps few laid_out rows call intact ask other =
-        let (mid, taken, at_end) = all_streams past runs found left stand stops in
-        let stands : StandsFor start mid (view before) = λ there. (laid_out, rw rows at_end) in
-        let (next, step, stands_after) = call.step intact start mid stands in (
-          next,
-          stands_after,
-          client_told lane start past holds client mid next sent
-              (record { event = event; told = Some answered }) command keeps
-              (taken_unheard start past mid (sent_in_streams runs) sent less taken) ask
-              (step_meets start mid next event answered step) (heard mid next event answered other step) few,
-        )
 
     laid_out_in_turn : (users : List SubjectModel) (before after : S) (ms : List MessageModel)
         (answers : List AnswerModel) (past : History) → InTurn (MayAnswer view users) before ms answers after

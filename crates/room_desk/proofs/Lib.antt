@@ -37,5 +37,4 @@ pub mod Clients
 pub mod Attempts
 pub mod AttemptRuns
 mod ClientExamples
-pub mod ClientRuns
 pub mod ClientStreams

@@ -1,27 +1,23 @@
 //! Laws of a client that asks until it is answered: each of its commands runs once.
 ghost use Rattle.std.specs.Prelude.{◌≡◌, ◌≢◌, ◌⊎◌, ℕ, suc, ◌+◌, ◌^◌, ◌<◌, true, false, List, ◌∷◌, [], ◌++◌};
-ghost use Rattle.std.specs.Prelude.{length, Option, Some};
+ghost use Rattle.std.specs.Prelude.{length, Option};
 ghost use Rattle.std.specs.List.{Contains};
 ghost use Rattle.room_records.specs.Room.{Room};
 ghost use Rattle.room_commands.specs.CommandModel.{CommandModel};
-ghost use Rattle.room_wire.specs.declared.answers.code.Code.TheVariants.{RetryUncached, SeqMisordered};
-ghost use Rattle.room_wire.specs.declared.answers.code.Code.TheVariants.{SeqFalseRetry, Delay};
+ghost use Rattle.room_wire.specs.declared.answers.code.Code.TheVariants.{RetryUncached, SeqMisordered, SeqFalseRetry};
 ghost use Rattle.room_wire.specs.Asks.EventModel.{EventModel};
 ghost use Rattle.room_wire.specs.Forms.Texts.{command_text};
 ghost use Rattle.room_desk.specs.AnswerModel.{AnswerModel, Reply, Refused};
 ghost use Rattle.room_desk.specs.History.{History, Accepted, accepted, original_reply, answer_to};
-ghost use Rattle.room_desk.specs.Serving.{Run, EventAnswered, MayAnswer};
+ghost use Rattle.room_desk.specs.Serving.{Run, MayAnswer};
 ghost use Rattle.room_desk.specs.Stops.{in_doubt};
 ghost use Rattle.room_desk.specs.Client.{Lane, HoldsSlot, IsAsk, IsUsed, Asks, ran, answer_again, Attempt, is_lost};
 ghost use Rattle.room_desk.specs.Client.{Meets, Taken, HearsLess, attempts_of, Client, idle, KeepsRule};
 ghost use Rattle.room_desk.specs.Client.{HasDone, IsTold};
-ghost use Rattle.room_desk.specs.ClientRuns.{Served, StopAndStart, sent_in, ServedStream, StreamsStopAndStart};
-ghost use Rattle.room_desk.specs.ClientRuns.{sent_in_streams, LeadsBy, attempts_in};
+ghost use Rattle.room_desk.specs.ClientRuns.{LeadsBy, attempts_in};
 ghost use Rattle.room_acl.specs.SubjectModel.{SubjectModel};
 ghost use Rattle.room_wire.specs.Messages.MessageModel.{MessageModel};
 ghost use Rattle.room_wire.specs.Serving.Outputs.{InTurn};
-ghost use Rattle.room_desk.specs.Representation.{RepresentsHistory, StandsFor};
-ghost use Rattle.room_records.specs.Records.{Records};
 
 use room_records::Shelf;
 
@@ -92,32 +88,6 @@ pub fn runs_and_stops_take_attempts()
         Taken start past sent mid → Taken start mid more next → Taken start past (sent ++ more) next }
     ensures lost { (start : Room) (past next : History) (sent heard : List Attempt) →
         HearsLess sent heard → Taken start past sent next → Taken start past heard next }
-{}
-
-/// So it is over several runs of a room over its store, each of which ended by a stop, where the next run finds the
-/// rows that the stop left, and the client goes on where it was: runs of events, and of streams of messages (`stream`).
-/// What it is told in the run after them is the reply of the one run of its command, or the like, as above (`told`).
-pub fn a_client_acts_once_across_stops<S: Shelf>()
-    ensures events { (start : Room) (lane : Lane) (past : History) (runs : List Served) (found left : Records)
-        (sent : List Attempt) (client : Client) → RepresentsHistory start found past → HoldsSlot lane past →
-        StopAndStart S.view runs found left → HearsLess (sent_in runs) sent →
-        KeepsRule lane (length (ran lane past)) idle sent client → suc (length client.done) < 2 ^ 32 →
-        (next : History) × RepresentsHistory start left next × HasDone lane client past next }
-    ensures stream { (start : Room) (lane : Lane) (past : History) (runs : List ServedStream) (found left : Records)
-        (sent : List Attempt) (client : Client) → RepresentsHistory start found past → HoldsSlot lane past →
-        StreamsStopAndStart S.view runs found left → HearsLess (sent_in_streams runs) sent →
-        KeepsRule lane (length (ran lane past)) idle sent client → suc (length client.done) < 2 ^ 32 →
-        (next : History) × RepresentsHistory start left next × HasDone lane client past next }
-    ensures told { (start : Room) (lane : Lane) (past : History) (runs : List ServedStream) (found left : Records)
-        (sent : List Attempt) (client : Client) (before after : S) (event : EventModel) (answered : AnswerModel)
-        (command : CommandModel) → RepresentsHistory start found past → HoldsSlot lane past →
-        StreamsStopAndStart S.view runs found left → HearsLess (sent_in_streams runs) sent →
-        KeepsRule lane (length (ran lane past)) idle sent client → suc (length client.done) < 2 ^ 32 →
-        (S.view before).is_laid_out → (S.view before).records ≡ left →
-        EventAnswered S.view before event answered after → (S.view after).is_intact →
-        IsAsk lane (length (ran lane past) + length client.done) command event → answered ≢ Refused Delay →
-        (next : History) × StandsFor start next (S.view after)
-        × IsTold lane start (length (ran lane past)) client next command (Some answered) }
 {}
 
 /// Messages that are answered in turn from a store that is there are such attempts, and a stop after them leaves rows

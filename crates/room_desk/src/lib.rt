@@ -13,8 +13,8 @@ mod sessions;
 mod stop_laws;
 
 pub use client_laws::{
-    a_client_acts_once_across_stops, a_client_that_asks_until_it_is_answered_acts_once,
-    messages_lead_where_their_attempts_do, requests_in_turn_run_once, runs_and_stops_take_attempts,
+    a_client_that_asks_until_it_is_answered_acts_once, messages_lead_where_their_attempts_do,
+    requests_in_turn_run_once, runs_and_stops_take_attempts,
 };
 pub use desk::Desk;
 pub use laws::{

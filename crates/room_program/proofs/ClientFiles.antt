@@ -26,11 +26,11 @@ use Rattle.room_wire.specs.Messages.MessageModel.{MessageModel}
 use Rattle.room_wire.specs.Serving.Outputs.{InTurn}
 use Rattle.room_desk.specs.AnswerModel.{AnswerModel}
 use Rattle.room_desk.specs.History.{History}
-use Rattle.room_desk.specs.Representation.{RepresentsHistory, StandsFor}
+use Rattle.room_desk.specs.Representation.{StandsFor}
 use Rattle.room_desk.specs.Serving.{AnswersMessage, MayAnswer}
 use Rattle.room_desk.specs.Client.{Lane, HoldsSlot, ran, Attempt, HearsLess, Client, idle, KeepsRule, HasDone}
 use Rattle.room_desk.specs.Client.{Taken, is_lost, IsAsk, IsTold}
-use Rattle.room_desk.specs.ClientRuns.{LeadsBy, attempts_in}
+use Rattle.room_desk.specs.ClientRuns.{Leads, LeadsBy, attempts_in}
 use Rattle.room_desk.proofs.Attempts.{client_did, client_told}
 use Rattle.room_desk.proofs.AttemptRuns.{taken_in_turn, taken_unheard}
 use Rattle.room_desk.proofs.ClientStreams.{messages_lead, stream_is_taken, with_attempt}
@@ -146,8 +146,8 @@ module _ {D : Type 0} (g : Ghosts D) (stays : (file : D) → g.may_leave file (g
       → (shelf_view g stays last).is_intact → LeadsBy (shelf_view g stays) sent taken last
   leads_by users sent (ms, answers, run, same) intact start past stand =
       let was = was_intact (shelf_view g stays) users taken last ms answers run intact in
-      subst (λ (s : List Attempt). LeavesNew (shelf_view g stays last) (λ left. (next : History)
-      × Taken start past s next × RepresentsHistory start left next) × (shelf_view g stays last).leaves_laid_out) same
+      subst (λ (s : List Attempt). LeavesNew (shelf_view g stays last) (Leads start past s)
+      × (shelf_view g stays last).leaves_laid_out) same
       (messages_lead start (shelf_view g stays) (settled g stays) users taken last ms answers past
       (leaves_laid_out g stays taken) (was, (adopted.1 was).0) run intact stand)
 

@@ -1,5 +1,4 @@
-use Rattle.room_desk.proofs.AttemptRuns.{run_is_taken, taken_in_turn, taken_unheard}
-use Rattle.room_desk.proofs.ClientRuns.{doubt_is_taken}
+use Rattle.room_desk.proofs.AttemptRuns.{run_is_taken, doubt_is_taken, taken_in_turn, taken_unheard}
 use Rattle.room_desk.proofs.client_laws.runs_and_stops_take_attempts.Goals as goal
 
 pub returns-clause-run : goal.returns-clause-run
