@@ -28,8 +28,7 @@ use Rattle.room_commands.specs.Checks.{is_file, is_kind, check_exists, check_abs
 use Rattle.room_commands.specs.Checks.{proper_prefixes, prefix_refusal, walk, check_folder_full, check_room_full}
 use Rattle.room_commands.proofs.Rights.{all_none}
 use Rattle.room_commands.proofs.ChecksTell.{not_refused, exists_there}
-use Rattle.room_commands.specs.Sight.{may, Sight, sight_of}
-use Rattle.room_commands.specs.Sight.{LooksAlike}
+use Rattle.room_commands.specs.Sight.{may, Sight, sight_of, view}
 use Rattle.room_commands.proofs.Shorthands.{if_reached, there_seen, kind_of, right_on}
 use Rattle.std.specs.Result.{result_err}
 use Rattle.std.specs.Bool.{then_some}
@@ -187,38 +186,38 @@ way_seen : (way : Option Refusal) (there : Option Sight) → result_err (if_reac
 way_seen None there = refl
 way_seen (Some r) there = refl
 
-module _ (a b : Room) (caller : SubjectModel) (alike : LooksAlike caller a b) where
-  pub way_alike : (path : Path) → walk a caller path ≡ walk b caller path
-  way_alike path = sym (way_seen (walk a caller path) (option_map (sight_of a caller path) (object_at a path)))
-      ∙ ap result_err (alike path)
+module _ (a b : Room) (caller : SubjectModel) (path : Path) (alike : view a caller path ≡ view b caller path) where
+  pub way_alike : walk a caller path ≡ walk b caller path
+  way_alike = sym (way_seen (walk a caller path) (option_map (sight_of a caller path) (object_at a path)))
+      ∙ ap result_err (alike)
       ∙ way_seen (walk b caller path) (option_map (sight_of b caller path) (object_at b path))
 
   -- what stands at the end of a way that passes looks the same
-  pub there_alike : (path : Path) → walk a caller path ≡ None
+  pub there_alike : walk a caller path ≡ None
       → option_map (sight_of a caller path) (object_at a path) ≡ option_map (sight_of b caller path) (object_at b path)
-  there_alike path walked = ap there_seen
+  there_alike walked = ap there_seen
       (ap (λ way. if_reached way (option_map (sight_of a caller path) (object_at a path))) (sym walked)
-      ∙ alike path
+      ∙ alike
       ∙ ap (λ way. if_reached way (option_map (sight_of b caller path) (object_at b path)))
-      (sym (way_alike path) ∙ walked))
+      (sym way_alike ∙ walked))
 
-  module _ (path : Path) (walked : walk a caller path ≡ None) where
+  module _ (walked : walk a caller path ≡ None) where
     some_alike : is_some (object_at a path) ≡ is_some (object_at b path)
-    some_alike = is_some_seen a caller path (object_at a path) ∙ ap is_some (there_alike path walked)
+    some_alike = is_some_seen a caller path (object_at a path) ∙ ap is_some (there_alike walked)
         ∙ sym (is_some_seen b caller path (object_at b path))
 
     pub kind_alike : (kind : Kind) → is_kind kind (object_at a path) ≡ is_kind kind (object_at b path)
     kind_alike kind = is_kind_seen a caller path kind (object_at a path)
-        ∙ ap (seen_kind kind) (there_alike path walked) ∙ sym (is_kind_seen b caller path kind (object_at b path))
+        ∙ ap (seen_kind kind) (there_alike walked) ∙ sym (is_kind_seen b caller path kind (object_at b path))
 
     pub kind_of_alike : kind_of (object_at a path) ≡ kind_of (object_at b path)
     kind_of_alike = kind_of_seen a caller path (object_at a path)
-        ∙ ap kind_seen (there_alike path walked) ∙ sym (kind_of_seen b caller path (object_at b path))
+        ∙ ap kind_seen (there_alike walked) ∙ sym (kind_of_seen b caller path (object_at b path))
 
     pub kinds_alike : option_map (λ (o : Object). o.kind) (object_at a path)
         ≡ option_map (λ (o : Object). o.kind) (object_at b path)
     kinds_alike = kinds_seen a caller path (object_at a path)
-        ∙ ap (option_map (λ (s : Sight). s.kind)) (there_alike path walked)
+        ∙ ap (option_map (λ (s : Sight). s.kind)) (there_alike walked)
         ∙ sym (kinds_seen b caller path (object_at b path))
 
     pub exists_alike : check_exists a path ≡ check_exists b path
@@ -235,7 +234,7 @@ module _ (a b : Room) (caller : SubjectModel) (alike : LooksAlike caller a b) wh
 
     pub right_alike : (wanted : ℕ) → check_right a caller path wanted ≡ check_right b caller path wanted
     right_alike wanted = right_is_seen a caller path wanted (object_at a path)
-        ∙ ap (right_seen path wanted) (there_alike path walked)
+        ∙ ap (right_seen path wanted) (there_alike walked)
         ∙ sym (right_is_seen b caller path wanted (object_at b path))
 
     -- what is there in one room is there in the other, and looks the same
@@ -250,24 +249,24 @@ module _ (a b : Room) (caller : SubjectModel) (alike : LooksAlike caller a b) wh
           is_other = other.1;
           same = some_is (sight_of a caller path here.0) (sight_of b caller path other.0)
               (ap (option_map (sight_of a caller path)) (sym here.1)
-              ∙ there_alike path walked ∙ ap (option_map (sight_of b caller path)) other.1);
+              ∙ there_alike walked ∙ ap (option_map (sight_of b caller path)) other.1);
         }
 
-  module _ (folder : Path) (name : Name) (walked : walk a caller (folder ++ name ∷ []) ≡ None) where
-    -- a folder that can be traversed shows each name in it
-    pub children_alike : children a folder ≡ children b folder
-    children_alike =
-        same_entries (children a folder) (children b folder) (children_rise a folder) (children_rise b folder) (λ n.
-        kind_of_child a folder n
-        ∙ kinds_alike (folder ++ n ∷ []) (walk_to_other a caller folder n name ∙ walked)
-        ∙ sym (kind_of_child b folder n))
+module _ (a b : Room) (caller : SubjectModel) (folder : Path) (name : Name)
+    (walked : walk a caller (folder ++ name ∷ []) ≡ None) where
+  -- a folder that can be traversed shows each name in it
+  pub folder_full_alike : ((n : Name) → view a caller (folder ++ n ∷ []) ≡ view b caller (folder ++ n ∷ []))
+      → check_folder_full a folder ≡ check_folder_full b folder
+  folder_full_alike alike =
+      ap (λ named. refuse_if (nat_le max_children (length named)) FolderFull) (same_entries (children a folder)
+      (children b folder) (children_rise a folder) (children_rise b folder) (λ n.
+      kind_of_child a folder n
+      ∙ kinds_alike a b caller (folder ++ n ∷ []) (alike n) (walk_to_other a caller folder n name ∙ walked)
+      ∙ sym (kind_of_child b folder n)))
 
+  module _ (alike : view a caller folder ≡ view b caller folder) where
     pub in_folder_alike : (wanted : ℕ) → check_right a caller folder wanted ≡ check_right b caller folder wanted
-    in_folder_alike = right_alike folder (walk_to_folder a caller folder name walked).0
-
-    pub folder_full_alike : check_folder_full a folder ≡ check_folder_full b folder
-    folder_full_alike =
-        ap (λ named. refuse_if (nat_le max_children (length named)) FolderFull) children_alike
+    in_folder_alike = right_alike a b caller folder alike (walk_to_folder a caller folder name walked).0
 
     -- the caller may add to the folder
     pub room_full_alike : (may a caller folder add_file || may a caller folder add_subdirectory) ≡ true
@@ -276,7 +275,7 @@ module _ (a b : Room) (caller : SubjectModel) (alike : LooksAlike caller a b) wh
         let ways = walk_to_folder a caller folder name walked in
         let (there, (no_file, _)) = all_none (check_exists a folder ∷ check_folder a folder
         ∷ check_right a caller folder execute ∷ []) ways.1 in
-        let both = both_there folder ways.0 there in
+        let both = both_there a b caller folder alike ways.0 there in
         let is_folder : is_file both.here.kind ≡ false =
         sym (ap (is_kind File) both.is) ∙ not_refused (is_kind File (object_at a folder)) _ no_file in
         ap (λ test. refuse_if test RoomFull) (shown_same _ _ _ _ (ap (λ (s : Sight). s.full) both.same)

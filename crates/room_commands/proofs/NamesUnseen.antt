@@ -1,6 +1,6 @@
 -- What comes into folders, and goes from them, where a caller may not list them.
 use Rattle.std.proofs.Common.{◌≡◌, ◌⊎◌, refl, ap, sym, ◌∙◌, Bool, true, false, not, ◌&&◌, ◌||◌, inl, inr}
-use Rattle.std.proofs.Common.{List, [], ◌∷◌, ◌++◌, length, drop, Option, None, Some, ◌==◌}
+use Rattle.std.proofs.Common.{List, [], ◌∷◌, ◌++◌, append_assoc, length, drop, Option, None, Some, ◌==◌}
 use Rattle.std.proofs.lemmas.Bool.{cases_Bool, and_right}
 use Rattle.room_acl.specs.declared.subject.Kind.{Kind}
 use Rattle.room_acl.specs.declared.subject.Kind.TheVariants.{File, Folder}
@@ -8,15 +8,20 @@ use Rattle.room_acl.specs.Bits.{list_directory, add_file, add_subdirectory, read
 use Rattle.room_acl.specs.SubjectModel.{SubjectModel}
 use Rattle.room_records.specs.Names.{Name, Path}
 use Rattle.room_records.specs.Room.{Object, Room, IsRoom, object_at, children, parent_of}
-use Rattle.room_records.proofs.RoomsMap.{parent_of_end}
+use Rattle.room_records.proofs.RoomsMap.{parent_of_end, ends}
 use Rattle.room_commands.specs.CommandModel.{CommandModel, paths_of}
 use Rattle.room_commands.specs.ReplyModel.{Refusal, Attributes}
 use Rattle.room_commands.specs.Lawful.{IsLawful}
 use Rattle.room_commands.specs.Checks.{walk, is_file, is_at_or_below}
 use Rattle.room_commands.specs.Effect.{effect}
 use Rattle.room_commands.specs.Sight.{view, may_remove, depth_in}
-use Rattle.room_commands.specs.Elsewhere.{IsOff, IsUnlisted, NameUnseen, FullUnseen, but_depth, view_less}
+use Rattle.room_commands.specs.Elsewhere.{IsOff, IsUnlisted, NameUnseen, FullUnseen, FoldersFullUnseen}
+use Rattle.room_commands.specs.Elsewhere.{but_depth, view_less}
 use Rattle.room_commands.proofs.RoomsRenamed.{rest_below}
+use Rattle.room_commands.proofs.Renaming.{at_behind}
+use Rattle.room_commands.proofs.EffectIsRoom.{effect_is_room}
+use Rattle.room_commands.proofs.Looks.{walk_to_folder}
+use Rattle.room_commands.proofs.NothingShows.{AlikeAt, reply_at}
 use Rattle.room_commands.proofs.BytesAlone.{Facts, facts_at, sight_with, size_with, view_with, view_by_facts}
 use Rattle.room_commands.proofs.Staying.{Off, in_folder}
 use Rattle.room_commands.proofs.Elsewhere.{Leaves, by_result, view_off, view_named, by_place, depth_out, depth_stays}
@@ -143,25 +148,59 @@ module _ (room later : Room) (caller : SubjectModel) (p t : Path) (is_room : IsR
 
 -- ---- and after a command, refused or not
 
+-- what is in a folder at or below a path is so too
+below_too : (q top : Path) → is_at_or_below (parent_of q) top ≡ true → is_at_or_below q top ≡ true
+below_too [] top below = below
+below_too (first ∷ more) top below =
+    let end = ends first more in
+    let folder : parent_of (first ∷ more) ≡ end.folder = ap parent_of end.is ∙ parent_of_end end.folder end.name in
+    let rest = drop (length top) end.folder in
+    let inside : end.folder ≡ top ++ rest = rest_below top end.folder (rw folder at below) in
+    ap (λ k. is_at_or_below k top) (end.is ∙ ap (λ f. f ++ end.name ∷ []) inside
+    ∙ append_assoc top rest (end.name ∷ []))
+    ∙ at_behind top (rest ++ end.name ∷ [])
+
 module _ (room : Room) (caller other : SubjectModel) (command : CommandModel) (lawful : IsLawful command)
-    (is_room : IsRoom room) (q : Path) where
+    (is_room : IsRoom room) where
   abbrev after : Room
   after = (effect room other command).room
 
-  pub shown_unlisted : IsUnlisted caller room (paths_of command).0 → IsUnlisted caller room (paths_of command).1
-      → IsOff caller room (paths_of command) q
+  pub shown_unlisted : (q : Path) → IsUnlisted caller room (paths_of command).0
+      → IsUnlisted caller room (paths_of command).1 → IsOff caller room (paths_of command) q
       → view_less but_depth after caller q ≡ view_less but_depth room caller q
-  shown_unlisted unlisted_p unlisted_t off = by_result room other is_room command lawful
+  shown_unlisted q unlisted_p unlisted_t off = by_result room other is_room command lawful
       (λ later. view_less but_depth later caller q ≡ view_less but_depth room caller q) refl
       (λ later s. seen_unlisted room later caller (paths_of command).0 (paths_of command).1 is_room s q unlisted_p
       unlisted_t off)
 
-  pub shown_unnamed : NameUnseen caller room after (paths_of command).0
+  pub shown_unnamed : (q : Path) → NameUnseen caller room after (paths_of command).0
       → NameUnseen caller room after (paths_of command).1 → FullUnseen caller room after
       → IsOff caller room (paths_of command) q → view after caller q ≡ view room caller q
-  shown_unnamed = by_result room other is_room command lawful
+  shown_unnamed q = by_result room other is_room command lawful
       (λ later. NameUnseen caller room later (paths_of command).0 → NameUnseen caller room later (paths_of command).1
       → FullUnseen caller room later → IsOff caller room (paths_of command) q
       → view later caller q ≡ view room caller q)
       (λ name_p name_t numbers off. refl)
       (λ later s. seen_unnamed room later caller (paths_of command).0 (paths_of command).1 is_room s q)
+
+  pub answered_unnamed : (own : CommandModel) → IsLawful own → NameUnseen caller room after (paths_of command).0
+      → NameUnseen caller room after (paths_of command).1 → FullUnseen caller room after
+      → FoldersFullUnseen caller room after → IsOff caller room (paths_of command) (paths_of own).0
+      → IsOff caller room (paths_of command) (paths_of own).1
+      → (effect after caller own).reply ≡ (effect room caller own).reply
+  answered_unnamed own lawful_own name_p name_t numbers folders off_p off_t =
+      sym (reply_at room after caller is_room (effect_is_room room other command lawful is_room) own lawful_own
+      (at (paths_of own).0 off_p) (at (paths_of own).1 off_t))
+    where
+      at : (q : Path) → IsOff caller room (paths_of command) q → AlikeAt room after caller q
+      at q off = record {
+        here = sym (shown_unnamed q name_p name_t numbers off);
+        above = sym (shown_unnamed (parent_of q) name_p name_t numbers (
+          λ below. off.0 (below_too q (paths_of command).0 below),
+          λ below. off.1 (below_too q (paths_of command).1 below),
+        ));
+        full = λ end walked adds.
+            let folder : parent_of q ≡ end.folder = ap parent_of end.is ∙ parent_of_end end.folder end.name in
+            sym (folders (parent_of q) (ap (walk room caller) folder
+            ∙ (walk_to_folder room caller end.folder end.name (ap (walk room caller) (sym end.is) ∙ walked)).0) adds);
+      }

@@ -3,6 +3,7 @@ use Rattle.std.proofs.Common.{◌≡◌, ℕ, ◌+◌, refl, ap, sym, ◌∙◌,
 use Rattle.std.proofs.Common.{◌++◌, length, Option, None, Some, nat_lt, cond}
 use Rattle.std.specs.Prelude.{is_none, bit_and}
 use Rattle.std.proofs.lemmas.Bool.{or_parts, and_from, or_left, or_right}
+use Rattle.room_acl.specs.declared.subject.Kind.{Kind}
 use Rattle.room_acl.specs.declared.subject.Kind.TheVariants.{File, Folder}
 use Rattle.room_acl.specs.Bits.{read_data, list_directory, write_data, add_file, append_data, add_subdirectory}
 use Rattle.room_acl.specs.Bits.{delete_child, read_attributes, delete_object, read_acl, write_acl, write_owner}
@@ -13,7 +14,7 @@ use Rattle.room_records.specs.Limits.{max_names}
 use Rattle.room_records.specs.Names.{Name, Path, path_eq}
 use Rattle.room_records.specs.Room.{Room, IsRoom, object_at, children, list_of, standing_of, parent_of}
 use Rattle.room_records.proofs.RoomsMap.{some_is, none_is_some, parent_of_end, Ends}
-use Rattle.room_commands.specs.CommandModel.{CommandModel}
+use Rattle.room_commands.specs.CommandModel.{CommandModel, paths_of}
 use Rattle.room_commands.specs.CommandModel as C
 use Rattle.room_commands.specs.ReplyModel.{Refusal, NotDone, About, Names, Size, Bytes, Entries}
 use Rattle.room_commands.specs.ReplyModel.{Allowed, Done}
@@ -29,7 +30,7 @@ use Rattle.room_commands.specs.Checks.{check_depth, check_folder_full, check_roo
 use Rattle.room_commands.specs.Checks.{bytes_at}
 use Rattle.room_commands.specs.Checks.{is_at_or_below}
 use Rattle.room_commands.specs.Effect.{effect, effect_by, reply, attributes_of}
-use Rattle.room_commands.specs.Sight.{LooksAlike, Sight, may, may_remove, depth_in}
+use Rattle.room_commands.specs.Sight.{LooksAlike, Sight, may, may_add, may_remove, depth_in, view}
 use Rattle.room_commands.proofs.Rights.{one_may}
 use Rattle.room_commands.proofs.ChecksTell.{not_refused}
 use Rattle.room_commands.proofs.EffectIsRoom.{not_root_ends}
@@ -72,16 +73,40 @@ replied_alike a b caller command (Some r) (Some s) same replies = ap NotDone (so
 replied_alike a b caller command None (Some s) same replies = absurd (none_is_some s same)
 replied_alike a b caller command (Some r) None same replies = absurd (none_is_some r (sym same))
 
+-- what a command at a path asks of the rooms looks the same in both
+pub record AlikeAt (a b : Room) (caller : SubjectModel) (path : Path) : Type 0 where
+  pub here : view a caller path ≡ view b caller path
+  pub above : view a caller (parent_of path) ≡ view b caller (parent_of path)
+  pub full : Ends path → walk a caller path ≡ None → may_add a caller (parent_of path) ≡ true
+      → check_folder_full a (parent_of path) ≡ check_folder_full b (parent_of path)
+
+alike_at : (a b : Room) (caller : SubjectModel) → LooksAlike caller a b → (path : Path) → AlikeAt a b caller path
+alike_at a b caller alike path = record {
+  here = alike path;
+  above = alike (parent_of path);
+  full = λ end walked adds.
+      let folder : parent_of path ≡ end.folder = ap parent_of end.is ∙ parent_of_end end.folder end.name in
+      ap (check_folder_full a) folder
+      ∙ folder_full_alike a b caller end.folder end.name (ap (walk a caller) (sym end.is) ∙ walked)
+      (λ n. alike (end.folder ++ n ∷ []))
+      ∙ ap (check_folder_full b) (sym folder);
+}
+
+adds_either : (kind : Kind) (may : ℕ → Bool) → may (right_to_add kind) ≡ true
+    → (may add_file || may add_subdirectory) ≡ true
+adds_either File may adds = or_left _ _ adds
+adds_either Folder may adds = or_right _ _ adds
+
 -- a right that is not refused is there
 is_there : (x : Option Refusal) → x ≡ None → is_none x ≡ true
 is_there x none = ap is_none none
 
-module _ (a b : Room) (caller : SubjectModel) (room_a : IsRoom a) (room_b : IsRoom b)
-    (alike : LooksAlike caller a b) where
+module _ (a b : Room) (caller : SubjectModel) (room_a : IsRoom a) (room_b : IsRoom b) where
   -- what is shown of an object that is there in both
-  module _ (path : Path) (walked : walk a caller path ≡ None) (there : check_exists a path ≡ None) where
+  module _ (path : Path) (near : AlikeAt a b caller path) (walked : walk a caller path ≡ None)
+      (there : check_exists a path ≡ None) where
     both : BothThere a b caller path
-    both = both_there a b caller alike path walked there
+    both = both_there a b caller path near.here walked there
 
     is_folder : check_folder a path ≡ None → is_file both.here.kind ≡ false
     is_folder passed = sym (ap (is_kind File) both.is) ∙ not_refused (is_kind File (object_at a path)) _ passed
@@ -143,9 +168,12 @@ module _ (a b : Room) (caller : SubjectModel) (room_a : IsRoom a) (room_b : IsRo
     depth_shown removes = shown_same _ _ _ _ (ap (λ (s : Sight). s.depth) both.same) removes
 
   -- what the folder above shows
-  module _ (path : Path) (end : Ends path) (walked : walk a caller path ≡ None) where
+  module _ (path : Path) (near : AlikeAt a b caller path) (end : Ends path) (walked : walk a caller path ≡ None) where
     above : parent_of path ≡ end.folder
     above = ap parent_of end.is ∙ parent_of_end end.folder end.name
+
+    alike_above : view a caller end.folder ≡ view b caller end.folder
+    alike_above = rw above at near.above
 
     way_in : walk a caller (end.folder ++ end.name ∷ []) ≡ None
     way_in = ap (walk a caller) (sym end.is) ∙ walked
@@ -154,13 +182,12 @@ module _ (a b : Room) (caller : SubjectModel) (room_a : IsRoom a) (room_b : IsRo
         → check_right a caller (parent_of path) wanted ≡ check_right b caller (parent_of path) wanted
     right_above wanted =
         ap (λ folder. check_right a caller folder wanted) above
-        ∙ in_folder_alike a b caller alike end.folder end.name way_in wanted
+        ∙ in_folder_alike a b caller end.folder end.name way_in alike_above wanted
         ∙ ap (λ folder. check_right b caller folder wanted) (sym above)
 
-    full_above : check_folder_full a (parent_of path) ≡ check_folder_full b (parent_of path)
-    full_above =
-        ap (check_folder_full a) above ∙ folder_full_alike a b caller alike end.folder end.name way_in
-        ∙ ap (check_folder_full b) (sym above)
+    full_above : (may a caller end.folder add_file || may a caller end.folder add_subdirectory) ≡ true
+        → check_folder_full a (parent_of path) ≡ check_folder_full b (parent_of path)
+    full_above adds = near.full end walked (ap (may_add a caller) above ∙ adds)
 
     may_above : (wanted : ℕ) → check_right a caller (parent_of path) wanted ≡ None
         → may a caller end.folder wanted ≡ true
@@ -170,10 +197,10 @@ module _ (a b : Room) (caller : SubjectModel) (room_a : IsRoom a) (room_b : IsRo
 
     room_full : (may a caller end.folder add_file || may a caller end.folder add_subdirectory) ≡ true
         → check_room_full a ≡ check_room_full b
-    room_full = room_full_alike a b caller alike end.folder end.name way_in
+    room_full = room_full_alike a b caller end.folder end.name way_in alike_above
 
     removal_alike : check_removal a caller path ≡ check_removal b caller path
-    removal_alike = (λ i. removal_refusal path (right_alike a b caller alike path walked delete_object i)
+    removal_alike = (λ i. removal_refusal path (right_alike a b caller path near.here walked delete_object i)
         (right_above delete_child i))
 
     removes : check_removal a caller path ≡ None → may_remove a caller path ≡ true
@@ -186,7 +213,7 @@ module _ (a b : Room) (caller : SubjectModel) (room_a : IsRoom a) (room_b : IsRo
 
     depth_alike : check_exists a path ≡ None → check_removal a caller path ≡ None
         → depth_in path a.objects ≡ depth_in path b.objects
-    depth_alike there right = depth_shown path walked there (removes right)
+    depth_alike there right = depth_shown path near walked there (removes right)
 
     empty_alike : check_exists a path ≡ None → check_removal a caller path ≡ None
         → refuse_if (nat_lt 0 (length (children a path))) NotEmpty
@@ -200,162 +227,167 @@ module _ (a b : Room) (caller : SubjectModel) (room_a : IsRoom a) (room_b : IsRo
     too_deep_alike to there right =
         ap (λ depth. refuse_if (nat_lt max_names (length to + depth)) TooDeep) (depth_alike there right)
 
-  way : (path : Path) → walk a caller path ≡ walk b caller path
-  way = way_alike a b caller alike
+  module _ (path : Path) (near : AlikeAt a b caller path) where
+    way : walk a caller path ≡ walk b caller path
+    way = way_alike a b caller path near.here
 
-  exists : (path : Path) → walk a caller path ≡ None → check_exists a path ≡ check_exists b path
-  exists = exists_alike a b caller alike
+    exists : walk a caller path ≡ None → check_exists a path ≡ check_exists b path
+    exists = exists_alike a b caller path near.here
 
-  right : (path : Path) → walk a caller path ≡ None → (wanted : ℕ)
-      → check_right a caller path wanted ≡ check_right b caller path wanted
-  right = right_alike a b caller alike
+    right : walk a caller path ≡ None → (wanted : ℕ)
+        → check_right a caller path wanted ≡ check_right b caller path wanted
+    right = right_alike a b caller path near.here
 
-  file : (path : Path) → walk a caller path ≡ None → check_file a path ≡ check_file b path
-  file = file_alike a b caller alike
+    file : walk a caller path ≡ None → check_file a path ≡ check_file b path
+    file = file_alike a b caller path near.here
 
-  absent : (path : Path) → walk a caller path ≡ None → check_absent a path ≡ check_absent b path
-  absent = absent_alike a b caller alike
+    absent : walk a caller path ≡ None → check_absent a path ≡ check_absent b path
+    absent = absent_alike a b caller path near.here
 
   ends_of : (path : Path) (code : RefusalCode) → refuse_if (is_root path) code ≡ None → Ends path
   ends_of path code passed = not_root_ends path (not_refused (is_root path) code passed)
 
   -- an object on a way that passes, and a right on it
-  reached : (path : Path) (wanted : ℕ) (Rest : Type 0) (others others' : List (Option Refusal))
+  reached : (path : Path) → AlikeAt a b caller path → (wanted : ℕ) (Rest : Type 0)
+      (others others' : List (Option Refusal))
       → (walk a caller path ≡ None → check_exists a path ≡ None → check_right a caller path wanted ≡ None
       → AlikeInTurn Rest others others')
       → AlikeInTurn Rest (walk a caller path ∷ check_exists a path ∷ check_right a caller path wanted ∷ others)
       (walk b caller path ∷ check_exists b path ∷ check_right b caller path wanted ∷ others')
-  reached path wanted Rest others others' then = (
-    way path,
+  reached path near wanted Rest others others' then = (
+    way path near,
     λ walked. (
-      exists path walked,
+      exists path near walked,
       λ there.
-          (right path walked wanted, λ may. then walked there may),
+          (right path near walked wanted, λ may. then walked there may),
     ),
   )
 
   -- the same of a file
-  reached_file : (path : Path) (wanted : ℕ) (Rest : Type 0) (others others' : List (Option Refusal))
+  reached_file : (path : Path) → AlikeAt a b caller path → (wanted : ℕ) (Rest : Type 0)
+      (others others' : List (Option Refusal))
       → (walk a caller path ≡ None → check_exists a path ≡ None → check_file a path ≡ None
       → check_right a caller path wanted ≡ None → AlikeInTurn Rest others others')
       → AlikeInTurn Rest
       (walk a caller path ∷ check_exists a path ∷ check_file a path ∷ check_right a caller path wanted ∷ others)
       (walk b caller path ∷ check_exists b path ∷ check_file b path ∷ check_right b caller path wanted ∷ others')
-  reached_file path wanted Rest others others' then = (
-    way path,
+  reached_file path near wanted Rest others others' then = (
+    way path near,
     λ walked. (
-      exists path walked,
+      exists path near walked,
       λ there.
-          (file path walked, λ is. (right path walked wanted, λ may. then walked there is may)),
+          (file path near walked, λ is. (right path near walked wanted, λ may. then walked there is may)),
     ),
   )
 
-  pub in_turn : (command : CommandModel) → IsLawful command → AlikeInTurn
+  in_turn_at : (command : CommandModel) → IsLawful command → AlikeAt a b caller (paths_of command).0
+      → AlikeAt a b caller (paths_of command).1 → AlikeInTurn
       (reply a caller command ≡ reply b caller command) (checks a caller command) (checks b caller command)
-  in_turn (C.Stat path) lawful = reached path read_attributes
-      (reply a caller (C.Stat path) ≡ reply b caller (C.Stat path)) [] [] (attributes_alike path)
-  in_turn (C.ListNames path) lawful = (
-    way path,
+  in_turn_at (C.Stat path) lawful near near_to = reached path near read_attributes
+      (reply a caller (C.Stat path) ≡ reply b caller (C.Stat path)) [] [] (attributes_alike path near)
+  in_turn_at (C.ListNames path) lawful near near_to = (
+    way path near,
     λ walked. (
-      exists path walked,
+      exists path near walked,
       λ there. (
-        folder_alike a b caller alike path walked,
+        folder_alike a b caller path near.here walked,
         λ folder. (
-          right path walked list_directory,
+          right path near walked list_directory,
           λ may.
-              names_alike path walked there folder may,
+              names_alike path near walked there folder may,
         ),
       ),
     ),
   )
-  in_turn (C.Mkdir path) lawful = (
+  in_turn_at (C.Mkdir path) lawful near near_to = (
     refl,
     λ not_root. (
-      way path,
+      way path near,
       λ walked. (
-        absent path walked,
+        absent path near walked,
         λ free.
             let end = ends_of path Exist not_root in (
-              right_above path end walked add_subdirectory,
-              λ may. (
-                full_above path end walked,
-                λ not_full. (
-                  room_full path end walked (or_right _ _ (may_above path end walked add_subdirectory may)),
-                  λ left. refl,
-                ),
-              ),
+              right_above path near end walked add_subdirectory,
+              λ may.
+                  let adds = or_right _ _ (may_above path near end walked add_subdirectory may) in (
+                    full_above path near end walked adds,
+                    λ not_full. (room_full path near end walked adds, λ left. refl),
+                  ),
             ),
       ),
     ),
   )
-  in_turn (C.Create bytes path) lawful = (
+  in_turn_at (C.Create bytes path) lawful near near_to = (
     refl,
     λ not_root. (
-      way path,
+      way path near,
       λ walked. (
-        absent path walked,
+        absent path near walked,
         λ free.
             let end = ends_of path Exist not_root in (
-              right_above path end walked add_file,
+              right_above path near end walked add_file,
               λ may. (
                 refl,
-                λ small. (
-                  full_above path end walked,
-                  λ not_full.
-                      (room_full path end walked (or_left _ _ (may_above path end walked add_file may)), λ left. refl),
-                ),
+                λ small.
+                    let adds = or_left _ _ (may_above path near end walked add_file may) in (
+                      full_above path near end walked adds,
+                      λ not_full. (room_full path near end walked adds, λ left. refl),
+                    ),
               ),
             ),
       ),
     ),
   )
-  in_turn (C.Read path) lawful = reached_file path read_data
-      (reply a caller (C.Read path) ≡ reply b caller (C.Read path)) [] [] (bytes_shown path)
-  in_turn (C.Write bytes path) lawful =
-      reached_file path write_data (Size (length bytes) ≡ Size (length bytes)) (check_size (length bytes) ∷ [])
+  in_turn_at (C.Read path) lawful near near_to = reached_file path near read_data
+      (reply a caller (C.Read path) ≡ reply b caller (C.Read path)) [] [] (bytes_shown path near)
+  in_turn_at (C.Write bytes path) lawful near near_to =
+      reached_file path near write_data (Size (length bytes) ≡ Size (length bytes)) (check_size (length bytes) ∷ [])
       (check_size (length bytes) ∷ []) (λ walked there is may. (refl, λ small. refl))
-  in_turn (C.Append bytes path) lawful = reached_file path append_data
+  in_turn_at (C.Append bytes path) lawful near near_to = reached_file path near append_data
       (Size (length (bytes_at a path) + length bytes) ≡ Size (length (bytes_at b path) + length bytes))
       (check_size (length (bytes_at a path) + length bytes) ∷ [])
       (check_size (length (bytes_at b path) + length bytes) ∷ []) (λ walked there is may.
-      let size = size_shown path walked there is may in
+      let size = size_shown path near walked there is may in
       (ap (λ n. check_size (n + length bytes)) size, λ small. ap (λ n. Size (n + length bytes)) size))
-  in_turn (C.Remove path) lawful = (
+  in_turn_at (C.Remove path) lawful near near_to = (
     refl,
     λ not_root. (
-      way path,
+      way path near,
       λ walked. (
-        exists path walked,
+        exists path near walked,
         λ there.
             let end = ends_of path Inval not_root in
-            (removal_alike path end walked, λ may. (empty_alike path end walked there may, λ empty. refl)),
+            (removal_alike path near end walked, λ may. (empty_alike path near end walked there may, λ empty. refl)),
       ),
     ),
   )
-  in_turn (C.Rename path to) lawful = (
+  in_turn_at (C.Rename path to) lawful near near_to = (
     refl,
     λ outside. (
-      way path,
+      way path near,
       λ walked. (
-        exists path walked,
+        exists path near walked,
         λ there. (
-          way to,
+          way to near_to,
           λ walked_to. (
-            absent to walked_to,
+            absent to near_to walked_to,
             λ free.
                 let apart = or_parts (is_root path || is_root to) (is_at_or_below to path) (not_refused _ _ outside) in
                 let roots = or_parts (is_root path) (is_root to) apart.0 in
                 let end = not_root_ends path roots.0 in
                 let end_to = not_root_ends to roots.1 in (
-                  removal_alike path end walked,
+                  removal_alike path near end walked,
                   λ removal. (
-                    right_above to end_to walked_to (right_to_add (object_or_default a path).kind)
+                    right_above to near_to end_to walked_to (right_to_add (object_or_default a path).kind)
                         ∙ ap (λ kind. check_right b caller (parent_of to) (right_to_add kind))
-                        (kind_of_alike a b caller alike path walked),
+                        (kind_of_alike a b caller path near.here walked),
                     λ adds. (
-                      too_deep_alike path end walked to there removal,
+                      too_deep_alike path near end walked to there removal,
                       λ fits. (
-                        ap (cond (path_eq (parent_of path) (parent_of to)) None) (full_above to end_to walked_to),
+                        ap (cond (path_eq (parent_of path) (parent_of to)) None)
+                            (full_above to near_to end_to walked_to (adds_either (object_or_default a path).kind
+                            (may a caller end_to.folder) (may_above to near_to end_to walked_to
+                            (right_to_add (object_or_default a path).kind) adds))),
                         λ not_full.
                             refl,
                       ),
@@ -367,32 +399,43 @@ module _ (a b : Room) (caller : SubjectModel) (room_a : IsRoom a) (room_b : IsRo
       ),
     ),
   )
-  in_turn (C.GetList path) lawful = reached path read_acl
-      (reply a caller (C.GetList path) ≡ reply b caller (C.GetList path)) [] [] (list_shown path)
-  in_turn (C.SetList aclflag entries path) lawful = reached path write_acl (Done ≡ Done)
+  in_turn_at (C.GetList path) lawful near near_to = reached path near read_acl
+      (reply a caller (C.GetList path) ≡ reply b caller (C.GetList path)) [] [] (list_shown path near)
+  in_turn_at (C.SetList aclflag entries path) lawful near near_to = reached path near write_acl (Done ≡ Done)
       (check_lawful (own_entries_fault (own_entries_of_setlist path aclflag entries) (kind_of (object_at a path))) ∷ [])
       (check_lawful (own_entries_fault (own_entries_of_setlist path aclflag entries) (kind_of (object_at b path))) ∷ [])
       (λ walked there may. (
         ap (λ kind. check_lawful (own_entries_fault (own_entries_of_setlist path aclflag entries) kind))
-            (kind_of_alike a b caller alike path walked),
+            (kind_of_alike a b caller path near.here walked),
         λ fits. refl,
       ))
-  in_turn (C.Chown group owner path) lawful = reached path write_owner (Done ≡ Done) [] []
+  in_turn_at (C.Chown group owner path) lawful near near_to = reached path near write_owner (Done ≡ Done) [] []
       (λ walked there may. refl)
-  in_turn (C.Access mask path) lawful = (
-    way path,
+  in_turn_at (C.Access mask path) lawful near near_to = (
+    way path near,
     λ walked. (
-      exists path walked,
+      exists path near walked,
       λ there.
-          rights_shown path walked there mask,
+          rights_shown path near walked there mask,
     ),
   )
 
-  pub reply_alike : (command : CommandModel) → IsLawful command
+  pub reply_at : (command : CommandModel) → IsLawful command → AlikeAt a b caller (paths_of command).0
+      → AlikeAt a b caller (paths_of command).1
       → (effect a caller command).reply ≡ (effect b caller command).reply
-  reply_alike command lawful =
-      let each = in_turn command lawful in
+  reply_at command lawful near near_to =
+      let each = in_turn_at command lawful near near_to in
       let Rest = reply a caller command ≡ reply b caller command in
       replied_alike a b caller command _ _
       (refused_alike Rest (checks a caller command) (checks b caller command) each)
       (passed_alike Rest (checks a caller command) (checks b caller command) each)
+
+  module _ (alike : LooksAlike caller a b) (command : CommandModel) (lawful : IsLawful command) where
+    pub in_turn : AlikeInTurn
+        (reply a caller command ≡ reply b caller command) (checks a caller command) (checks b caller command)
+    in_turn = in_turn_at command lawful (alike_at a b caller alike (paths_of command).0)
+        (alike_at a b caller alike (paths_of command).1)
+
+    pub reply_alike : (effect a caller command).reply ≡ (effect b caller command).reply
+    reply_alike = reply_at command lawful (alike_at a b caller alike (paths_of command).0)
+        (alike_at a b caller alike (paths_of command).1)

@@ -42,7 +42,7 @@ use Rattle.room_commands.specs.Checks.{right_to_add}
 module _ (a b : Room) (caller : SubjectModel) (alike : LooksAlike caller a b) where
   pub may_alike : (path : Path) → walk a caller path ≡ None → (wanted : ℕ)
       → may a caller path wanted ≡ may b caller path wanted
-  may_alike path walked wanted = ap is_none (right_alike a b caller alike path walked wanted)
+  may_alike path walked wanted = ap is_none (right_alike a b caller path (alike path) walked wanted)
 
   pub may_remove_alike : (path : Path) → walk a caller path ≡ None
       → may_remove a caller path ≡ may_remove b caller path
@@ -52,12 +52,13 @@ module _ (a b : Room) (caller : SubjectModel) (alike : LooksAlike caller a b) wh
       let folder : parent_of (first ∷ rest) ≡ end.folder = ap parent_of end.is ∙ parent_of_end end.folder end.name in
       let above : check_right a caller (parent_of (first ∷ rest)) delete_child
       ≡ check_right b caller (parent_of (first ∷ rest)) delete_child =
-      rw folder (in_folder_alike a b caller alike end.folder end.name (ap (walk a caller) (sym end.is) ∙ walked)
-      delete_child) in
-      (λ i. is_none (right_alike a b caller alike (first ∷ rest) walked delete_object i) || is_none (above i))
+      rw folder (in_folder_alike a b caller end.folder end.name (ap (walk a caller) (sym end.is) ∙ walked)
+      (alike end.folder) delete_child) in
+      let here = right_alike a b caller (first ∷ rest) (alike (first ∷ rest)) walked delete_object in
+      (λ i. is_none (here i) || is_none (above i))
 
   pub way_back : (path : Path) → walk b caller path ≡ None → walk a caller path ≡ None
-  way_back path walked = way_alike a b caller alike path ∙ walked
+  way_back path walked = way_alike a b caller path (alike path) ∙ walked
 
 -- looking alike, now and later, goes both ways
 pub stay_turned : (a b : Room) (caller : SubjectModel) → StayAlike caller a b → StayAlike caller b a
@@ -77,7 +78,7 @@ stay_turned a b caller s = record {
       || may_alike a b caller s.now path back write_owner i) ∙ sets) in (
         λ rest. sym (was.0 rest),
         sym was.1,
-        λ folder. sym (was.2 (kind_alike a b caller s.now path back Folder ∙ folder)),
+        λ folder. sym (was.2 (kind_alike a b caller path (s.now path) back Folder ∙ folder)),
       );
 }
 
@@ -87,25 +88,25 @@ pub stay_joined : (a b c : Room) (caller : SubjectModel) → StayAlike caller a 
 stay_joined a b c caller s next = record {
   now = λ path. s.now path ∙ next.now path;
   adding = λ folder name kind walked adds.
-      let on = sym (way_alike a b caller s.now (folder ++ name ∷ [])) ∙ walked in
+      let on = sym (way_alike a b caller (folder ++ name ∷ []) (s.now (folder ++ name ∷ []))) ∙ walked in
       let first = s.adding folder name kind walked adds in
       let second = next.adding folder name kind on
       (sym (may_alike a b caller s.now folder (walk_to_folder a caller folder name walked).0 (right_to_add kind))
       ∙ adds) in
       (first.0 ∙ second.0, first.1 ∙ second.1, first.2 ∙ second.2);
   moving = λ path walked removes rest.
-      let on = sym (way_alike a b caller s.now path) ∙ walked in
+      let on = sym (way_alike a b caller path (s.now path)) ∙ walked in
       s.moving path walked removes rest
       ∙ next.moving path on (sym (may_remove_alike a b caller s.now path walked) ∙ removes) rest;
   setting = λ path walked sets.
-      let on = sym (way_alike a b caller s.now path) ∙ walked in
+      let on = sym (way_alike a b caller path (s.now path)) ∙ walked in
       let first = s.setting path walked sets in
       let second = next.setting path on ((λ i. sym (may_alike a b caller s.now path walked write_acl) i
       || sym (may_alike a b caller s.now path walked write_owner) i) ∙ sets) in (
         λ rest. first.0 rest ∙ second.0 rest,
         first.1 ∙ second.1,
         λ folder. first.2 folder
-            ∙ second.2 (sym (kind_alike a b caller s.now path walked Folder) ∙ folder),
+            ∙ second.2 (sym (kind_alike a b caller path (s.now path) walked Folder) ∙ folder),
       );
 }
 

@@ -286,7 +286,7 @@ module _ (a b a' b' : Room) (caller : SubjectModel) (p t : Path) (s : Step a b a
     | Below_t more is ↦ ap (option_map (λ (o : Object). o.kind)) (rw is (s.at_t.inside more))
     | Away off ↦
         ap (option_map (λ (o : Object). o.kind)) (s.out_a (q ++ name ∷ []) off)
-        ∙ kinds_alike a b caller alike (q ++ name ∷ []) (walk_to_other a caller q name n ∙ walked)
+        ∙ kinds_alike a b caller (q ++ name ∷ []) (alike (q ++ name ∷ [])) (walk_to_other a caller q name n ∙ walked)
         ∙ ap (option_map (λ (o : Object). o.kind)) (sym (s.out_b (q ++ name ∷ []) off))
   ])
 
@@ -306,7 +306,7 @@ module _ (a b a' b' : Room) (caller : SubjectModel) (p t : Path) (s : Step a b a
     facts_b = facts_at b caller q
 
     way_after : walk a' caller q ≡ walk b' caller q
-    way_after = walk_out a a' caller p t s.out_a q off ∙ way_alike a b caller alike q
+    way_after = walk_out a a' caller p t s.out_a q off ∙ way_alike a b caller q (alike q)
         ∙ sym (walk_out b b' caller p t s.out_b q off)
 
     depth_after : walk a caller q ≡ None → may_remove a caller q ≡ true
@@ -402,7 +402,7 @@ module _ (a b a' b' : Room) (caller : SubjectModel) (p t : Path) (s : Step a b a
         ∙ sym (view_by_facts b' caller q)
       where
         way_b : walk b' caller q ≡ way
-        way_b = walk_out b b' caller p t s.out_b q off ∙ sym (way_alike a b caller alike q) ∙ is
+        way_b = walk_out b b' caller p t s.out_b q off ∙ sym (way_alike a b caller q (alike q)) ∙ is
 
         there_before : walk a caller q ≡ None
             → option_map (sight_with caller facts_a) (object_at a q)
@@ -412,7 +412,7 @@ module _ (a b a' b' : Room) (caller : SubjectModel) (p t : Path) (s : Step a b a
             ap there_seen
             (ap (λ w. if_reached w (option_map (sight_with caller facts_a) (object_at a q))) (sym h) ∙ whole
             ∙ ap (λ w. if_reached w (option_map (sight_with caller facts_b) (object_at b q)))
-            (sym (way_alike a b caller alike q) ∙ h))
+            (sym (way_alike a b caller q (alike q)) ∙ h))
 
         by_way : (w : Option Refusal) → walk a caller q ≡ w
             → view_with caller w (facts_at a' caller q) (object_at a q)
@@ -527,7 +527,7 @@ module _ (a b a' b' : Room) (caller : SubjectModel) (p t : Path) (before : StayA
   way_here : walk a' caller top ≡ walk b' caller top
   way_here =
       walk_same a' a caller top (λ front n rest is. prefix_out a a' caller p t out_a front (fronts front n rest is))
-      ∙ way_alike a b caller before.now top
+      ∙ way_alike a b caller top (before.now top)
       ∙ walk_same b b' caller top (λ front n rest is.
       sym (prefix_out b b' caller p t out_b front (fronts front n rest is)))
 
@@ -540,7 +540,7 @@ module _ (a b a' b' : Room) (caller : SubjectModel) (p t : Path) (before : StayA
       let off = fronts end.folder end.name [] (is ∙ end.is) in
       let to_folder = walk_to_folder a caller end.folder end.name (ap (walk a caller) (sym (is ∙ end.is)) ∙ walked) in
       rw folder (right_out a a' caller p t out_a end.folder wanted off
-      ∙ right_alike a b caller before.now end.folder to_folder.0 wanted
+      ∙ right_alike a b caller end.folder (before.now end.folder) to_folder.0 wanted
       ∙ sym (right_out b b' caller p t out_b end.folder wanted off))
 
   pub region_at : Region a' b' caller top

@@ -1,6 +1,6 @@
 -- What others do out of a caller's sight.
 use Rattle.std.proofs.Common.{◌≡◌, ◌⊎◌, ap, sym, ◌∙◌, Bool, true, false, ◌||◌, inl, inr}
-use Rattle.std.proofs.Common.{[], ◌++◌, length, drop, None, Some, ◌==◌}
+use Rattle.std.proofs.Common.{◌++◌, length, drop, None, Some, ◌==◌}
 use Rattle.std.specs.Prelude.{is_none}
 use Rattle.std.proofs.lemmas.Bool.{both_ways, or_parts, or_left, or_right, false_from_ne_true}
 use Rattle.room_acl.specs.declared.subject.Kind.{Kind}

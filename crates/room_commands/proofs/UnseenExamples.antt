@@ -178,6 +178,10 @@ only_the_name_shows q away = shown_unnamed (opened 32) bob ann (C.Mkdir h_a) h_a
       λ below. absurd (both_ways (is_at_or_below q h_a) away below),
     )
 
+others_answered : replies (later 32) bob (C.ListNames [] ∷ C.Stat h ∷ C.Mkdir (codes "h" ∷ codes "b" ∷ []) ∷ [])
+    ≡ replies (opened 32) bob (C.ListNames [] ∷ C.Stat h ∷ C.Mkdir (codes "h" ∷ codes "b" ∷ []) ∷ [])
+others_answered = refl
+
 -- with READ_ATTRIBUTES how many names there are
 abbrev in_h : ℕ → Attributes
 in_h size = record { aclflag = 1; group = codes "ops"; kind = Folder; owner = codes "ann"; size = size }

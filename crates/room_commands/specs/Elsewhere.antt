@@ -9,7 +9,7 @@ use Rattle.room_acl.specs.Access.{allowed_mask}
 use Rattle.room_records.specs.Names.{Name, Path}
 use Rattle.room_records.specs.Room.{Object, Room, object_at, list_of, standing_of, parent_of}
 use Rattle.room_commands.specs.ReplyModel.{Refusal, Attributes}
-use Rattle.room_commands.specs.Checks.{walk, is_at_or_below, is_full}
+use Rattle.room_commands.specs.Checks.{walk, is_at_or_below, is_full, check_folder_full}
 use Rattle.room_commands.specs.Sight.{Sight, view, may, may_add, may_remove, may_set, depth_in, HasNoPower}
 
 -- a path is not at or below another one, unless the caller cannot reach that one
@@ -74,6 +74,11 @@ abbrev pub FullUnseen : SubjectModel → Room → Room → Type 0
 FullUnseen caller room later = (is_full later ≡ is_full room)
     ⊎ ((folder : Path) (o : Object) → object_at room folder ≡ Some o → o.kind ≡ Folder
     → walk room caller folder ≡ None → may_add room caller folder ≡ false)
+
+-- each folder to which the caller may add takes one more object in both rooms, or in neither
+abbrev pub FoldersFullUnseen : SubjectModel → Room → Room → Type 0
+FoldersFullUnseen caller room later = (folder : Path) → walk room caller folder ≡ None
+    → may_add room caller folder ≡ true → check_folder_full later folder ≡ check_folder_full room folder
 
 -- which rights the caller has on what is at a path
 abbrev pub rights_at : Room → SubjectModel → Path → Option ℕ

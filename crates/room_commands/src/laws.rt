@@ -28,7 +28,7 @@ ghost use Rattle.room_commands.specs.OtherBytes.{room_with, command_with, reply_
 ghost use Rattle.room_commands.specs.Made.{with_more, IsRoomFull};
 ghost use Rattle.room_commands.specs.Elsewhere.{IsOff, HoldsNeither, IsAboveNeither, but_full, but_depth};
 ghost use Rattle.room_commands.specs.Elsewhere.{but_names, view_less, IsOutOfSight, AddsNowhere, ListUnseen};
-ghost use Rattle.room_commands.specs.Elsewhere.{IsUnlisted, NameUnseen, FullUnseen};
+ghost use Rattle.room_commands.specs.Elsewhere.{IsUnlisted, NameUnseen, FullUnseen, FoldersFullUnseen};
 ghost use Rattle.room_commands.specs.Sight.{may, changes_bytes_alone, Own, own_turns, replies_among};
 ghost use Rattle.room_commands.specs.Sight.{Sight, view, IsSightTold};
 
@@ -255,7 +255,8 @@ pub fn a_command_shows_at_its_paths()
 /// What others make, remove or move in folders of which a caller sees neither the names nor how many they are shows
 /// little: but for paths at and below theirs that the caller can reach, only how deep a folder goes, and whether a
 /// number is left (`unlisted`). Where these two do not show, nothing does (`elsewhere`). So if the caller can reach no
-/// path of theirs, the rooms look alike to it (`alike`).
+/// path of theirs, the rooms look alike to it (`alike`); and if it can but does not name one, it is answered as before,
+/// FOLDER_FULL aside (`answer`).
 pub fn names_unseen_do_not_show()
     ensures unlisted { (room : Room) (caller other : SubjectModel) (command : CommandModel) (path : Path) →
         IsLawful command → IsRoom room → IsUnlisted caller room (paths_of command).0 →
@@ -275,4 +276,12 @@ pub fn names_unseen_do_not_show()
         is_none (walk room caller (paths_of command).0) ≡ false →
         is_none (walk room caller (paths_of command).1) ≡ false →
         LooksAlike caller room (effect room other command).room }
+    ensures answer { (room : Room) (caller other : SubjectModel) (command own : CommandModel) →
+        IsLawful command → IsLawful own → IsRoom room →
+        NameUnseen caller room (effect room other command).room (paths_of command).0 →
+        NameUnseen caller room (effect room other command).room (paths_of command).1 →
+        FullUnseen caller room (effect room other command).room →
+        FoldersFullUnseen caller room (effect room other command).room →
+        IsOff caller room (paths_of command) (paths_of own).0 → IsOff caller room (paths_of command) (paths_of own).1 →
+        (effect (effect room other command).room caller own).reply ≡ (effect room caller own).reply }
 {}
