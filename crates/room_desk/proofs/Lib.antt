@@ -33,6 +33,9 @@ pub mod Secrets
 pub mod SecretRuns
 pub mod OtherBytes
 pub mod LeftShows
+pub mod NumberedAnew
+pub mod NeverFull
+mod NumberedExamples
 pub mod Clients
 pub mod Attempts
 pub mod AttemptRuns

@@ -10,5 +10,6 @@ pub mod Verdicts
 pub mod AlikePasts
 pub mod OtherBytes
 pub mod Made
+pub mod NumberedAnew
 pub mod Client
 pub mod ClientRuns

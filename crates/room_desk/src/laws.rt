@@ -1,12 +1,13 @@
 //! Laws of histories. Each function here does nothing: its contract is what the definitions are meant
 //! to say, proved of them.
 ghost use Rattle.std.specs.Prelude.{◌≡◌, ◌≢◌, ◌≤◌, ◌↔◌, ℕ, ◌^◌, true, false, List, [], ◌∷◌, None, map};
-ghost use Rattle.std.specs.Prelude.{◌++◌, length, nat_eq, nat_lt};
+ghost use Rattle.std.specs.Prelude.{◌++◌, ◌+◌, length, nat_eq, nat_lt};
 ghost use Rattle.std.specs.List.{AllByRecursion, IsDistinct};
 ghost use Rattle.room_acl.specs.SubjectModel.{SubjectModel};
 ghost use Rattle.room_slots.specs.Slots.{next_number, verdict};
 ghost use Rattle.room_slots.specs.declared.verdict.Verdict.TheVariants.{New};
-ghost use Rattle.room_records.specs.Records.{Records};
+ghost use Rattle.room_records.specs.Limits.{max_objects};
+ghost use Rattle.room_records.specs.Records.{ObjectRecords, Records};
 ghost use Rattle.room_records.specs.Room.{Room, IsRoom};
 ghost use Rattle.room_records.specs.Representation.{RepresentsRoom};
 ghost use Rattle.room_wire.specs.Asks.EventModel.{EventModel, Request, Open, Close, Slot};
@@ -24,6 +25,7 @@ ghost use Rattle.room_commands.specs.OtherBytes.{room_with, blank};
 ghost use Rattle.room_desk.specs.OtherBytes.{DifferInBytes, TellsOfRead};
 ghost use Rattle.room_commands.specs.Made.{with_more};
 ghost use Rattle.room_desk.specs.Made.{NeverFull, ended};
+ghost use Rattle.room_desk.specs.NumberedAnew.{AreNumberedAnew};
 ghost use Rattle.room_desk.specs.SessionRows.{closed_row};
 ghost use Rattle.std.specs.Option.{option_map};
 ghost use Rattle.std.specs.Prelude.{IsTrue, Bool, ◌⊎◌};
@@ -205,6 +207,20 @@ pub fn what_is_left_shows_in_a_history_by_room_full_alone()
     ensures rows { (more : ℕ) (start : Room) (r other : Records) (past : History) → NeverFull start past →
         RepresentsHistory start r past → RepresentsRoom other.objects (with_more more (state_after start past)) →
         other.session ≡ r.session → other.slot ≡ r.slot → RepresentsHistory (with_more more start) other past }
+{}
+
+/// Rows that are numbered anew stand for the same room with more numbers left: as many more as the next number went
+/// down. With the sessions, and what the slots keep, as they were, they stand for the same history of a room that began
+/// with that much more, unless a request in it was answered ROOM_FULL: and none was while a number is left.
+pub fn rows_numbered_anew_stand_for_the_same_history()
+    ensures room { (to : ℕ → ℕ) (old anew : ObjectRecords) (room : Room) (more : ℕ) → RepresentsRoom old room →
+        AreNumberedAnew to old anew → anew.next + more ≡ old.next → RepresentsRoom anew (with_more more room) }
+    ensures history { (to : ℕ → ℕ) (start : Room) (r other : Records) (past : History) (more : ℕ) →
+        RepresentsHistory start r past → NeverFull start past → AreNumberedAnew to r.objects other.objects →
+        other.objects.next + more ≡ r.objects.next → other.session ≡ r.session → other.slot ≡ r.slot →
+        RepresentsHistory (with_more more start) other past }
+    ensures never_full { (start : Room) (r : Records) (past : History) → RepresentsHistory start r past →
+        r.objects.next ≤ max_objects → NeverFull start past }
 {}
 
 /// A room that is put anew in the place of one, as with other numbers for its objects: where each session is closed and

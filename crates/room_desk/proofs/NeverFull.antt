@@ -1,0 +1,219 @@
+-- A room that has a number left was never full: ROOM_FULL is answered where none is left, and their number never rises.
+use Rattle.std.proofs.Common.{◌≡◌, ◌≤◌, ℕ, ◌+◌, ◌-◌, refl, ap, sym, ◌∙◌, arith, Bool, true, false, cond, List, [], ◌∷◌}
+use Rattle.std.proofs.Common.{length, map, Option, None, Some, ◌==◌}
+use Rattle.std.specs.Prelude.{if◌then◌else◌}
+use Rattle.std.specs.List.{AllByRecursion}
+use Rattle.std.specs.Option.{option_map_or}
+use Rattle.std.proofs.lemmas.Bool.Decides.{nat_tests}
+use Rattle.room_acl.specs.declared.access.Decision.{Decision}
+use Rattle.room_acl.specs.declared.access.Decision.TheVariants.{Allowed, Denied}
+use Rattle.room_acl.specs.declared.inheritance.ListFault.{ListFault}
+use Rattle.room_acl.specs.declared.inheritance.ListFault.TheVariants as L
+use Rattle.room_acl.specs.Access.{decision}
+use Rattle.room_acl.specs.Bits.{read_data, list_directory, write_data, add_file, append_data, add_subdirectory, execute}
+use Rattle.room_acl.specs.Bits.{delete_object, read_attributes, read_acl, write_acl, write_owner}
+use Rattle.room_acl.specs.Inheritance.{own_entries_fault}
+use Rattle.room_acl.specs.SubjectModel.{SubjectModel}
+use Rattle.room_records.specs.Limits.{max_objects}
+use Rattle.room_records.specs.Names.{Path, path_eq}
+use Rattle.room_records.specs.Records.{Records}
+use Rattle.room_records.specs.Room.{Object, Room, list_of, standing_of, object_at, parent_of}
+use Rattle.room_commands.specs.CommandModel.{CommandModel}
+use Rattle.room_commands.specs.CommandModel as C
+use Rattle.room_commands.specs.declared.reply.RefusalCode.{RefusalCode}
+use Rattle.room_commands.specs.declared.reply.RefusalCode.TheVariants.{NoEnt, NotDir, IsDir, Exist, NotEmpty}
+use Rattle.room_commands.specs.declared.reply.RefusalCode.TheVariants.{Inval, FBig, TooDeep, FolderFull, RoomFull}
+use Rattle.room_commands.specs.ReplyModel.{ReplyModel, Refusal, NotDone}
+use Rattle.room_commands.specs.SetList.{own_entries_of_setlist}
+use Rattle.room_commands.specs.Checks.{first_refusal, checks, check_right, check_removal, denied_at, walk, refuse_if}
+use Rattle.room_commands.specs.Checks.{check_exists, check_absent, check_folder, check_file, check_size}
+use Rattle.room_commands.specs.Checks.{check_folder_full, check_lawful, check_room_full, may_delete}
+use Rattle.room_commands.specs.Checks.{refusal_without_place, prefix_refusal, proper_prefixes}
+use Rattle.room_commands.specs.Checks.{bytes_at, object_or_default, right_to_add}
+use Rattle.room_commands.specs.Effect.{effect, effect_by}
+use Rattle.room_commands.specs.Made.{IsRoomFull}
+use Rattle.room_wire.specs.Asks.EventModel.{Open, Close, Slot}
+use Rattle.room_desk.specs.History.{History, is_accepted, state_after}
+use Rattle.room_desk.specs.Made.{NeverFull}
+use Rattle.room_desk.specs.Representation.{RepresentsHistory}
+
+abbrev is_full_code : RefusalCode → Bool
+is_full_code RoomFull = true
+is_full_code code = false
+
+abbrev says_full : Option Refusal → Bool
+says_full None = false
+says_full (Some r) = is_full_code r.code
+
+also : {A B : Type 0} → A → B → A × B
+also a b = (a, b)
+
+abbrev NoneSaysFull : List (Option Refusal) → Type 0
+NoneSaysFull xs = AllByRecursion (λ (x : Option Refusal). says_full x ≡ false) xs
+
+first_says : (xs : List (Option Refusal)) → NoneSaysFull xs → says_full (first_refusal xs) ≡ false
+first_says [] none = refl
+first_says (None ∷ xs) none = first_says xs none.1
+first_says (Some r ∷ xs) none = none.0
+
+refused : (test : Bool) (code : RefusalCode) → is_full_code code ≡ false → says_full (refuse_if test code) ≡ false
+refused true code other = other
+refused false code other = refl
+
+denied : (path : Path) (d : Decision) → says_full (denied_at path d) ≡ false
+denied path Allowed = refl
+denied path (Denied bit) = refl
+
+no_fault : (fault : Option ListFault) → says_full (check_lawful fault) ≡ false
+no_fault None = refl
+no_fault (Some L.Inval) = refl
+no_fault (Some L.AttrNotSupp) = refl
+
+unless : (test : Bool) (x : Option Refusal) → says_full x ≡ false → says_full (if test then None else x) ≡ false
+unless true x silent = refl
+unless false x silent = silent
+
+module _ (room : Room) (caller : SubjectModel) where
+  by_object : (path : Path) (wanted : ℕ) (o : Option Object) → says_full (option_map_or (λ (o : Object).
+      denied_at path (decision (list_of room path) caller (standing_of o) wanted)) o
+      (Some (refusal_without_place NoEnt))) ≡ false
+  by_object path wanted None = refl
+  by_object path wanted (Some o) = denied path (decision (list_of room path) caller (standing_of o) wanted)
+
+  right : (path : Path) (wanted : ℕ) → says_full (check_right room caller path wanted) ≡ false
+  right path wanted = by_object path wanted (object_at room path)
+
+  exists : (path : Path) → says_full (check_exists room path) ≡ false
+  exists path = refused _ NoEnt refl
+
+  folder : (path : Path) → says_full (check_folder room path) ≡ false
+  folder path = refused _ NotDir refl
+
+  on_the_way : (fronts : List Path) → NoneSaysFull (map (prefix_refusal room caller) fronts)
+  on_the_way [] = tt
+  on_the_way (front ∷ fronts) = also
+      (first_says (check_exists room front ∷ check_folder room front ∷ check_right room caller front execute ∷ [])
+      (also (exists front) (also (folder front) (also (right front execute) tt)))) (on_the_way fronts)
+
+  way : (path : Path) → says_full (walk room caller path) ≡ false
+  way path = first_says (map (prefix_refusal room caller) (proper_prefixes path)) (on_the_way (proper_prefixes path))
+
+  file : (path : Path) → says_full (check_file room path) ≡ false
+  file path = refused _ IsDir refl
+
+  absent : (path : Path) → says_full (check_absent room path) ≡ false
+  absent path = refused _ Exist refl
+
+  size : (n : ℕ) → says_full (check_size n) ≡ false
+  size n = refused _ FBig refl
+
+  few : (path : Path) → says_full (check_folder_full room path) ≡ false
+  few path = refused _ FolderFull refl
+
+  removal : (path : Path) → says_full (check_removal room caller path) ≡ false
+  removal path = unless (may_delete room caller path) (denied_at path (Denied delete_object)) refl
+
+  module _ (some : 1 ≤ room.left) where
+    some_left : (left : ℕ) → 1 ≤ left → (left == 0) ≡ false
+    some_left left some = grind (arith, nat_tests)
+
+    left : says_full (check_room_full room) ≡ false
+    left = ap (λ test. says_full (refuse_if test RoomFull)) (some_left room.left some)
+
+    none_says : (command : CommandModel) → NoneSaysFull (checks room caller command)
+    none_says (C.Stat path) = also (way path) (also (exists path) (also (right path read_attributes) tt))
+    none_says (C.ListNames path) =
+        also (way path) (also (exists path) (also (folder path) (also (right path list_directory) tt)))
+    none_says (C.Mkdir path) = also (refused _ Exist refl) (also (way path) (also (absent path)
+        (also (right (parent_of path) add_subdirectory) (also (few (parent_of path)) (also left tt)))))
+    none_says (C.Create bytes path) = also (refused _ Exist refl) (also (way path) (also (absent path)
+        (also (right (parent_of path) add_file) (also (size (length bytes))
+        (also (few (parent_of path)) (also left tt))))))
+    none_says (C.Read path) = also (way path) (also (exists path) (also (file path) (also (right path read_data) tt)))
+    none_says (C.Write bytes path) = also (way path) (also (exists path) (also (file path)
+        (also (right path write_data) (also (size (length bytes)) tt))))
+    none_says (C.Append bytes path) = also (way path) (also (exists path) (also (file path)
+        (also (right path append_data) (also (size (length (bytes_at room path) + length bytes)) tt))))
+    none_says (C.Remove path) = also (refused _ Inval refl) (also (way path) (also (exists path)
+        (also (removal path) (also (refused _ NotEmpty refl) tt))))
+    none_says (C.Rename path to) = also (refused _ Inval refl) (also (way path) (also (exists path)
+        (also (way to) (also (absent to) (also (removal path)
+        (also (right (parent_of to) (right_to_add (object_or_default room path).kind)) (also (refused _ TooDeep refl)
+        (also (unless (path_eq (parent_of path) (parent_of to)) (check_folder_full room (parent_of to))
+        (few (parent_of to))) tt))))))))
+    none_says (C.GetList path) = also (way path) (also (exists path) (also (right path read_acl) tt))
+    none_says (C.SetList aclflag entries path) = also (way path) (also (exists path) (also (right path write_acl)
+        (also (no_fault (own_entries_fault (own_entries_of_setlist path aclflag entries)
+        (object_or_default room path).kind)) tt)))
+    none_says (C.Chown group owner path) = also (way path) (also (exists path) (also (right path write_owner) tt))
+    none_says (C.Access mask path) = also (way path) (also (exists path) tt)
+
+  abbrev replies_full : ReplyModel → Bool
+  replies_full (NotDone r) = is_full_code r.code
+  replies_full other = false
+
+  as_refused : (command : CommandModel) (x : Option Refusal)
+      → replies_full (effect_by room caller command x).reply ≡ says_full x
+  as_refused command (Some r) = refl
+  as_refused (C.Stat path) None = refl
+  as_refused (C.ListNames path) None = refl
+  as_refused (C.Mkdir path) None = refl
+  as_refused (C.Create bytes path) None = refl
+  as_refused (C.Read path) None = refl
+  as_refused (C.Write bytes path) None = refl
+  as_refused (C.Append bytes path) None = refl
+  as_refused (C.Remove path) None = refl
+  as_refused (C.Rename path to) None = refl
+  as_refused (C.GetList path) None = refl
+  as_refused (C.SetList aclflag entries path) None = refl
+  as_refused (C.Chown group owner path) None = refl
+  as_refused (C.Access mask path) None = refl
+
+  not_full : (command : CommandModel) → 1 ≤ room.left → IsRoomFull (effect room caller command).reply → ⊥
+  not_full command some full =
+      let says : true ≡ false = sym (ap replies_full full)
+      ∙ as_refused command (first_refusal (checks room caller command))
+      ∙ first_says (checks room caller command) (none_says some command) in cc
+
+  -- what was left before
+  less : (left : ℕ) → 1 ≤ left - 1 → 1 ≤ left
+  less left some = omega arith
+
+  left_before : (command : CommandModel) (x : Option Refusal) → 1 ≤ (effect_by room caller command x).room.left
+      → 1 ≤ room.left
+  left_before command (Some r) some = some
+  left_before (C.Mkdir path) None some = less room.left some
+  left_before (C.Create bytes path) None some = less room.left some
+  left_before (C.Stat path) None some = some
+  left_before (C.ListNames path) None some = some
+  left_before (C.Read path) None some = some
+  left_before (C.Write bytes path) None some = some
+  left_before (C.Append bytes path) None some = some
+  left_before (C.Remove path) None some = some
+  left_before (C.Rename path to) None some = some
+  left_before (C.GetList path) None some = some
+  left_before (C.SetList aclflag entries path) None some = some
+  left_before (C.Chown group owner path) None some = some
+  left_before (C.Access mask path) None some = some
+
+left_of_either : (t : Bool) (x y : Room) → (1 ≤ x.left → 1 ≤ y.left) → 1 ≤ (cond t x y).left → 1 ≤ y.left
+left_of_either true x y before some = before some
+left_of_either false x y before some = some
+
+never : (start : Room) (past : History) → 1 ≤ (state_after start past).left → NeverFull start past
+never start [] some = tt
+never start (Open caller sid slots ∷ past) some = never start past some
+never start (Close caller sid ∷ past) some = never start past some
+never start (Slot q ∷ past) some =
+    let s = state_after start past in
+    let before : 1 ≤ s.left = left_of_either (is_accepted past q) (effect s q.caller q.command).room s
+    (left_before s q.caller q.command (first_refusal (checks s q.caller q.command))) some in
+    (λ accepted. not_full s q.caller q.command before, never start past before)
+
+one_left : (next left : ℕ) → next + left ≡ max_objects + 1 → next ≤ max_objects → 1 ≤ left
+one_left next left all below = omega arith
+
+pub never_full : (start : Room) (r : Records) (past : History) → RepresentsHistory start r past
+    → r.objects.next ≤ max_objects → NeverFull start past
+never_full start r past stand below =
+    never start past (one_left r.objects.next (state_after start past).left stand.room.next below)
