@@ -36,6 +36,8 @@ SPOILT = {
     "a reply": "UPDATE kept SET reply = x'7b7d' WHERE rowid = 1", "a number of a slot": "UPDATE kept SET seq = seq + 1",
     "a request": "UPDATE kept SET request = x'7b7d' WHERE rowid = 1", "what is kept": "DELETE FROM kept",
     "a lower next number": "UPDATE room SET next = next - 1", "a higher one": "UPDATE room SET next = next + 1",
+    "a number below 1": ";".join(f"UPDATE {it} = 0 WHERE {it.split()[-1]} = (SELECT min(node) FROM doc)"
+                                 for it in ("node SET id", "entry SET node", "doc SET node")),
     "another version": "UPDATE room SET version = 1", "a table": "CREATE TABLE more (a INTEGER)",
 }
 
@@ -224,7 +226,7 @@ def refused(machine, tally, db, copy, before, used):
         def spoil(old, new, statement=statement):
             renumber(old, new)
             with contextlib.closing(sqlite3.connect(new)) as table, table:
-                changed = table.execute(statement).rowcount
+                changed = sum(table.execute(it).rowcount for it in statement.split(";"))
             tally.differs(f"{what} is spoilt", changed != 0, True)
 
         # (the program's reports are left out: it is this comparison that has to find it)
