@@ -111,12 +111,12 @@ front: $(BUILT)
 # takeovers by Pacemaker, pacemaker, pcs, nginx-light and openssh-server; for people at a desk nginx and chromium.
 # TAKEOVERS=100 plays so many.
 standby: $(BUILT)
-	tests/standby/run
+	lab/standby/run
 
 # A Debian 12 with systemd itself, booted by systemd-nspawn: what `make dist` makes is installed there, the first day
 # done, and then attacked. By hand, and not part of `make test`. Needs root, systemd-container and debootstrap.
 machine: $(BUILT)
-	tests/machine/run
+	lab/machine/run
 
 # A million requests to one served room: its memory stays, and so does the time of a request. `make test` sends 40,000.
 soak: $(BUILT)

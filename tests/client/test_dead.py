@@ -12,7 +12,7 @@ import time
 from unittest import mock
 
 HERE = os.path.dirname(os.path.abspath(__file__))
-sys.path[:0] = [HERE, os.path.join(HERE, ".."), os.path.join(HERE, "..", "..", "client")]
+sys.path[:0] = [HERE, os.path.join(HERE, "..", "lib"), os.path.join(HERE, "..", "..", "client")]
 sys.dont_write_bytecode = True
 from desk import Desk
 from room_client import NoAnswer, Settings

@@ -1,5 +1,5 @@
 """Nobody sees or does by WebDAV what the lists do not let them: random requests of three users, compared with a plain
-model of the room (tests/plain.py), while lists and bytes change past the gateway."""
+model of the room (tests/lib/plain.py), while lists and bytes change past the gateway."""
 import base64
 import json
 import os

@@ -14,7 +14,7 @@ import tempfile
 import time
 
 HERE = os.path.dirname(os.path.abspath(__file__))
-sys.path[:0] = [HERE, os.path.join(HERE, "..")]
+sys.path[:0] = [HERE, os.path.join(HERE, "..", "lib")]
 from nginx import Front
 from served import (Line, Room, end_with_parent, first_answer, message, need_program, session, slot, work_folder)
 

@@ -14,7 +14,7 @@ import sys
 import threading
 import time
 
-sys.path.insert(0, os.path.join(os.path.dirname(os.path.abspath(__file__)), ".."))
+sys.path.insert(0, os.path.join(os.path.dirname(os.path.abspath(__file__)), "..", "lib"))
 from hostile import OPEN_AT_ONCE, at_once, status
 from nginx import FOLDER, Front, login
 from served import Line, Tally, first_answer, guard, message, text_of, until, work_folder

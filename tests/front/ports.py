@@ -17,7 +17,7 @@ import tempfile
 import time
 
 HERE = os.path.dirname(os.path.abspath(__file__))
-sys.path.insert(0, os.path.join(HERE, ".."))
+sys.path.insert(0, os.path.join(HERE, "..", "lib"))
 from nginx import FOLDER, PATH, Front, login
 from served import Tally, end_with_parent, guard, loopback, message, text_of, work_folder
 

@@ -19,7 +19,7 @@ import sys
 import threading
 
 if __name__ == "__main__":
-    sys.path.insert(0, os.path.join(os.path.dirname(os.path.abspath(__file__)), ".."))
+    sys.path.insert(0, os.path.join(os.path.dirname(os.path.abspath(__file__)), "..", "lib"))
 from nginx import PATH
 from served import HERE, PROGRAM, Line, Room, free_port, session, slot, text_of
 from transcripts import as_told, by_shell, lines_of, scenes

@@ -1,4 +1,4 @@
-"""Both reports of a room of 10,000 objects, line by line beside those by the plain model of tests/plain.py.
+"""Both reports of a room of 10,000 objects, line by line beside those by the plain model of tests/lib/plain.py.
 
 Names, kinds, owners, groups, list flags and lists are drawn at random, the lists of every form that SETLIST takes, some
 with as many entries as may be; the objects have numbers in no order of theirs.

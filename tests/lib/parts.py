@@ -21,6 +21,7 @@ from served import end_with_parent
 COUNTS = re.compile(r"(\d+) passed, (\d+) failed")
 FAILED = re.compile(r"(\w+: )?FAILED: ")
 NOT_TRIED = re.compile(r"(?:skipped|\w+: NOT TRIED): (.+)")
+BY_PYTEST = re.compile(r"[.]+ *\[ *\d+%\]|\d+ passed.* in [\d.]+s.*")  # what it says of its own
 GRACE = 20  # seconds to end in order
 MOMENT = 5  # seconds for what ends with a part to see that it has ended, where other work comes first
 TICKS = os.sysconf("SC_CLK_TCK")
@@ -239,7 +240,7 @@ class Part:
             return f"FAILED: {self.why[0][:300]}"
         if self.watch:
             return self.watch.showed()
-        lines = [it for it in self.lines if it.strip() and not COUNTS.fullmatch(it)]
+        lines = [it for it in self.lines if it.strip() and not (COUNTS.fullmatch(it) or BY_PYTEST.fullmatch(it))]
         return f"{self.passed} passed: {lines[-1].removeprefix(f'{self.name}: ')}" if lines else f"{self.passed} passed"
 
 

@@ -1,7 +1,7 @@
 """Clients of a room that is killed and started again.
 
 Many at once send each request again at random, and append their pieces to a document of their own and to one that all
-share: `tests/front/run` plays them through the front, `tests/machine/inside` on a booted machine. One alone (`Pieces`)
+share: `tests/front/run` plays them through the front, `lab/machine/inside` on a booted machine. One alone (`Pieces`)
 knows what is in flight as the room ends: `tests/crash/run`, `tests/service/run`.
 """
 import base64

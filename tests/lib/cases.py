@@ -1,5 +1,5 @@
-"""The cases of tests/cases.toml, by which client, gateway and page are held to docs/FILES.md. Each is laid in a folder
-of a room, and looked at, by the room's wire alone, and by no code of the three."""
+"""The cases of tests/cases/cases.toml, by which client, gateway and page are held to docs/FILES.md. Each is laid in a
+folder of a room, and looked at, by the room's wire alone, and by no code of the three."""
 import base64
 import functools
 import hashlib
@@ -10,7 +10,7 @@ import re
 import threading
 import tomllib
 
-from served import Line, session, slot
+from served import HERE, Line, session, slot
 
 TOP, TRASH = "/cases", "/trash/@d/ann"
 NAME, PIECE, MARK = ".room-file", 65536, "0123456789abcdef"
@@ -21,7 +21,7 @@ TRASHES = {"own": (TRASH, 2, PRIVATE), "older": ("/trash/ann", 2, PRIVATE), "ope
 PIECES = re.compile(r"\.room-pieces-[0-9a-f]{16}")
 INHERITED, ENTRY = 0x80, re.compile("([+-])(.+):([0-9A-Fx]+):([0-9]+)")
 STEP = re.compile(r"(\w+) (.*?)(?: ([=!&]) (.*))?")
-with open(os.path.join(os.path.dirname(__file__), "cases.toml"), "rb") as file:
+with open(os.path.join(HERE, "cases", "cases.toml"), "rb") as file:
     TABLE = tomllib.load(file)
 
 

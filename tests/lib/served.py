@@ -2,7 +2,7 @@
 
 FILEROOM names another program than build/fileroom. A script calls `need_program` first: from then on it ends, and its
 servers and folders with it, when it is stopped, when its parent ends, and when it takes longer than it may.
-`python3 tests/served.py` prints a free port.
+`python3 tests/lib/served.py` prints a free port.
 """
 import atexit
 import contextlib
@@ -24,7 +24,7 @@ import tempfile
 import threading
 import time
 
-HERE = os.path.dirname(os.path.abspath(__file__))
+HERE = os.path.dirname(os.path.dirname(os.path.abspath(__file__)))  # (tests/)
 PROGRAM = os.path.realpath(os.environ.get("FILEROOM", os.path.join(HERE, "..", "build", "fileroom")))
 SCRIPT = os.path.relpath(os.path.abspath(sys.argv[0]), os.path.join(HERE, ".."))
 SID = "0123456789abcdef0123456789abcdef"

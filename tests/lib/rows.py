@@ -1,4 +1,4 @@
-"""The rows of a room's file beside those that the plain model of tests/plain.py has: an object's path stands for its
+"""The rows of a room's file beside those that the plain model of plain.py has: an object's path stands for its
 number, and each list for its rows."""
 import contextlib
 import sqlite3
