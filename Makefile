@@ -69,7 +69,7 @@ full: $(BUILT)
 
 # Sends a served room odd, malformed and cut messages, and the program odd words, rosters and streams.
 wire: $(BUILT)
-	tests/wire/run
+	pytest-3 tests/program/test_wire.py
 
 # Reads a served room with the sqlite3 program, and serves a room that it made. Needs sqlite3.
 tables: $(BUILT)
