@@ -1,5 +1,5 @@
 //! The events between other things as one run. Where memory is wanting for it, that is told, and it is run once more:
-//! `tests/growth/run` refuses memory so.
+//! `make growth` refuses memory so.
 use crate::asking::{Asked, ask_of};
 use crate::differences::Differences;
 use crate::fault::Fault;

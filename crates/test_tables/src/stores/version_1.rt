@@ -1,4 +1,4 @@
-//! A room of version 1, by the statements of `tests/upgrade/version1.sql`, which says what is in it.
+//! A room of version 1, by the statements of `version1.sql` of the tests, which says what is in it.
 use sqlite::{Alter, Connection};
 use std::test::Fail;
 
