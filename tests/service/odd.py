@@ -11,6 +11,7 @@ import socket
 import subprocess
 import sys
 import threading
+import time
 
 from changes import log_of
 from machines import ADMIN, SERVICE, Machine, Served
@@ -45,6 +46,7 @@ class Taken:
 
     def __init__(self, machine):
         self.odd, self.opened, self.is_silent, self.met = {}, OPENED, False, threading.Event()
+        self.sends = lambda line, answer: line.sendall(answer)
         os.makedirs(machine.at("run/fileroom"))
         self.listener = socket.socket(socket.AF_UNIX)
         self.listener.bind(machine.at("run/fileroom/plans.sock"))
@@ -62,7 +64,7 @@ class Taken:
                     continue
                 with line, line.makefile("rb") as asked, contextlib.suppress(OSError):
                     body = self.answer(request_of(asked))
-                    line.sendall(b"HTTP/1.1 200 OK\r\ncontent-length: %d\r\n\r\n" % len(body) + body)
+                    self.sends(line, b"HTTP/1.1 200 OK\r\ncontent-length: %d\r\n\r\n" % len(body) + body)
 
     def answer(self, request):
         cmd = re.search(rb'"cmd": ?"(\w+)"', request)
@@ -110,6 +112,7 @@ def taken_over(machine, tally):
                   (0, ["lou"]))
     it.odd = {}
     its_letters(machine, tally, it)
+    takes_its_time(machine, tally, it)
     stopped_by_hand(machine, tally, it)
     it.end(machine)
 
@@ -125,6 +128,50 @@ def its_letters(machine, tally, it):
         tally.differs(f"{what}: {told[:300]}", (status, "\x1b" in told, r"\x1b]0;x\x07" in told, len(told) < 1000),
                       (1, False, True, True))
     it.odd = {}
+
+
+def byte_by_byte(line, answer):
+    for at in range(len(answer)):
+        line.sendall(answer[at:at + 1])
+        time.sleep(0.3)
+
+
+def a_bit_late(line, answer):
+    time.sleep(0.4)
+    line.sendall(answer)
+
+
+class HeadsWithoutEnd:
+    sent = 0  # bytes, at most, in one answer
+
+    def __call__(self, line, _):
+        sent = 0
+        while sent < 1 << 26:
+            sent += line.send(b"HTTP/1.1 100 Continue\r\nx: " + b"x" * 60000 + b"\r\n\r\n")
+            self.sent = max(self.sent, sent)
+
+
+def takes_its_time(machine, tally, it):
+    """It holds the lock of all changes for as long as a room may take, however it spends that, and no memory."""
+    sys.path.insert(0, os.path.dirname(ADMIN))
+    from fileroom_admin import places, trash
+    endless, path = HeadsWithoutEnd(), machine.at("run/fileroom/plans.sock")
+    users = {"ann": ["eng"], **{f"user{at}": [] for at in range(40)}}
+    waits = trash.WAIT, trash.IN_ALL
+    for it.sends, trash.WAIT, trash.IN_ALL, most, what in (
+            (byte_by_byte, 2, 4, 6, "does not answer"), (a_bit_late, 2, 3, 6, "longer than 3 seconds in all"),
+            (endless, 2, 4, 6, "does not answer")):
+        begun, fault = time.monotonic(), ""
+        try:
+            with trash.Trashes(path, users) as trashes:
+                for user in users:
+                    trashes.settle(user)
+        except places.Fault as one:
+            fault = str(one)
+        tally.differs(f"{it.sends}: {fault}", (what in fault, time.monotonic() - begun < most), (True, True))
+    tally.differs(f"heads without end: {endless.sent}", trash.LONGEST <= endless.sent < 2 * trash.LONGEST, True)
+    trash.WAIT, trash.IN_ALL = waits
+    it.sends = lambda line, answer: line.sendall(answer)
 
 
 def stopped_by_hand(machine, tally, it):

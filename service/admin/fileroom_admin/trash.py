@@ -14,8 +14,10 @@ from .places import Fault
 from .told import is_entry
 
 TOP = "/trash"
-WAIT = 20  # seconds that a room may take to start
+WAIT = 20  # seconds that a room may take for a request, or to start
+IN_ALL = 300  # and for all that it is asked here, while no other change can happen; the next call goes on
 LONGEST = 1 << 20  # bytes of an answer: the names of a folder take fewer
+HEAD = 1 << 16  # and of its head
 TOLD = 200  # letters of what the room says
 NOENT, ACCESS = 1, 5
 FOLDER = "folder"
@@ -91,39 +93,69 @@ def part_of(user):
     return f"{TOP}/@{sum(user.encode()) % 16:x}"
 
 
+class Patience:
+    """Until when what answers may take its time, which all sessions share."""
+
+    def __init__(self):
+        self.end = time.monotonic() + IN_ALL
+
+    def more(self):
+        self.end = max(self.end, time.monotonic() + WAIT)
+
+    def of_one(self):
+        now = time.monotonic()
+        if now >= self.end:
+            raise Fault(f"the room took longer than {IN_ALL} seconds in all")
+        return min(self.end, now + WAIT)
+
+
+class Bounded(socket.socket):
+    """One that reads until `end`, however slowly the bytes come, and `most` of them: what answers may be no room."""
+
+    def recv_into(self, *words):
+        left = self.end - time.monotonic()
+        if left <= 0 or self.most <= 0:
+            raise TimeoutError
+        self.settimeout(left)
+        count = super().recv_into(*words)
+        self.most -= count
+        return count
+
+
 class Line(http.client.HTTPConnection):
     """One connection to a room's socket."""
 
-    def __init__(self, path):
-        super().__init__("localhost", timeout=WAIT)
-        self.path = path
+    def __init__(self, path, end):
+        super().__init__("localhost")
+        self.path, self.end = path, end
 
     def connect(self):
-        self.sock = socket.socket(socket.AF_UNIX)
-        self.sock.settimeout(self.timeout)
+        self.sock = Bounded(socket.AF_UNIX)
+        self.sock.end, self.sock.most = self.end, LONGEST + HEAD
+        self.sock.settimeout(max(self.end - time.monotonic(), 0.001))
         self.sock.connect(self.path)
 
 
 class Session:
     """A user's, of one slot: a request is sent until it is answered, and acts once."""
 
-    def __init__(self, path, user):
-        self.path, self.user, self.number = path, user, 0
+    def __init__(self, path, user, patience):
+        self.path, self.user, self.patience, self.number = path, user, patience, 0
         self.target = f"/v1/sessions/{secrets.token_hex(16)}"
         self.opened = self.send("POST", self.target, {"slots": 1})
 
     def send(self, method, target, body=None):
-        end = time.monotonic() + WAIT
-        while True:
-            status, text = self.once(method, target, body)
+        end = self.patience.of_one()
+        while time.monotonic() < end:
+            status, text = self.once(method, target, body, end)
             if status not in (0, 503):
                 return self.reply_of(text, (body or {}).get("cmd"))
-            if time.monotonic() > end:
-                raise Fault(f"the room does not answer at {self.path}")
             time.sleep(0.1)
+        self.patience.of_one()  # (or all time is over)
+        raise Fault(f"the room does not answer at {self.path}")
 
-    def once(self, method, target, body):
-        line = Line(self.path)
+    def once(self, method, target, body, end):
+        line = Line(self.path, end)
         try:
             text = b"" if body is None else json.dumps(body).encode()
             line.request(method, target, text, {"room-user": self.user, "connection": "close"})
@@ -169,7 +201,7 @@ class Trashes:
     def __init__(self, path, users, is_anew=False):
         if not os.path.exists(path):
             raise Fault("the room is not served")
-        self.path, self.users, self.is_anew = path, users, is_anew
+        self.path, self.users, self.is_anew, self.patience = path, users, is_anew, Patience()
         self.sessions, self.names, self.settled, self.known = {}, {}, {}, {}
 
     def __enter__(self):
@@ -180,15 +212,18 @@ class Trashes:
         return self
 
     def __exit__(self, *_):
+        """(Where all time is over, there is some for what was found, so that the next call goes on.)"""
+        self.patience.more()
         for part, users in self.settled.items():
             with contextlib.suppress(Fault):  # (then they are asked again)
                 self.write_down(part, users)
         for it in self.sessions.values():
-            it.end()
+            with contextlib.suppress(Fault):
+                it.end()
 
     def by(self, user):
         if user not in self.sessions:
-            self.sessions[user] = Session(self.path, user)
+            self.sessions[user] = Session(self.path, user, self.patience)
         return self.sessions[user]
 
     def need_user(self, user, path):
