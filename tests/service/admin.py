@@ -226,7 +226,8 @@ def counted(task, left):
 
 
 def stopped(machine, step, *words, stdin=""):
-    """A call in a process of its own, which is killed before this one of its steps: its status."""
+    """A call in a process of its own, which is killed before this one of its steps: its status. (What it says comes
+    behind what others said.)"""
     child = os.fork()
     if child:
         return os.waitstatus_to_exitcode(os.waitpid(child, 0)[1])
@@ -234,17 +235,30 @@ def stopped(machine, step, *words, stdin=""):
         os.environ.update(machine.env)
         tempfile.tempdir = machine.folder  # (what a kill leaves there goes with the machine)
         os.umask(0o077)
-        sys.stdin, sys.stdout = io.StringIO(stdin), open(os.devnull, "w", encoding="utf-8")
-        sys.stderr = sys.stdout
+        said = os.path.join(machine.folder, "said")
+        sys.stdin, sys.stdout = io.StringIO(stdin), open(said, "a", encoding="utf-8")
+        sys.stderr = open(said, "a", buffering=1, encoding="utf-8")  # (as Python has it)
         left = [step]
         for name in "replace", "unlink", "link", "fsync", "chmod":
             setattr(os, name, counted(getattr(os, name), left))
         subprocess.run = counted(subprocess.run, left)
         sys.path.insert(0, os.path.dirname(ADMIN))
         from fileroom_admin.command import main
-        os._exit(main(["--root", machine.root, *words]))
+        status = main(["--root", machine.root, *words])
+        sys.stdout.flush()
+        os._exit(status)
     finally:
         os._exit(BROKEN)
+
+
+def lost_in(machine, logins):
+    """Who has another login than before, and neither was its password told nor that it may not have been."""
+    said = text_of(os.path.join(machine.folder, "said"))
+    users = [it.partition(":")[0] for it in text_of(machine.at("etc/nginx/fileroom/users")).splitlines()
+             if it not in logins and ":{SSHA}" in it]
+    words = {it: re.search(f"the password of {it}: (.*)", said) for it in users}
+    return [it for it in users if f"fileroom-admin user passwd {it}" not in said
+            and not (words[it] and fits(machine, it, words[it][1]))]
 
 
 def stops(machine, tally, *words, stdin="", broken=None):
@@ -264,6 +278,8 @@ def stops(machine, tally, *words, stdin="", broken=None):
         shutil.rmtree(machine.root)
         shutil.copytree(saved, machine.root, symlinks=True)
         machine.breaks(broken or "")
+        with open(os.path.join(machine.folder, "said"), "w"):
+            pass
         status = stopped(machine, at, *words, stdin=stdin)
         machine.mended()
         tally.differs(f"{words}, stopped at {at}", status in (1 if broken else 0, KILLED), True)
@@ -271,6 +287,7 @@ def stops(machine, tally, *words, stdin="", broken=None):
         next_call = stopped(machine, MOST, "user", "list")
         found, told = machine.files(logins), machine.told()
         tally.differs(f"the next call, {words} stopped at {at}", (next_call, found in (before, after)), (0, True))
+        tally.differs(f"whose password is lost, {words} stopped at {at}", lost_in(machine, logins), [])
         is_before = found == before
         want = asked if not is_before else undone(asked) if broken and told else []
         tally.differs(f"services, {words} stopped at {at}", told[len(told) - len(want) if want else 0:], want)
@@ -526,8 +543,8 @@ def tried(folder, tally):
     machine.stand_in("nginx", "true")  # (it has taken such files, and would be most of the time)
     steps = [stops(machine, tally, "room", "add", "more", "ann", "eng", broken="fileroom-backup@more.timer")]
     steps += [stops(machine, tally, *it.split(), stdin="some longer word\n") for it in (
-        "user add plans kim eng", "user passwd kim --stdin", "user remove plans kim", f"tls {cert} {key}",
-        "room add more ann eng")]
+        "user add plans kim eng", "user passwd kim", "user passwd kim --stdin", "user remove plans kim",
+        f"tls {cert} {key}", "room add more lou eng")]
     written_since(machine, tally)
     machine.stand_in("nginx", STAND_INS["nginx"])
     looked_at(machine, tally)

@@ -77,11 +77,12 @@ def write(path, data, mode, owner):
 
 class Change:
     """What is to become of files and services. `room` is a room whose file is made with it, by its owner and group, or
-    is there already where it has none; where all is undone, the file is put aside."""
+    is there already where it has none; where all is undone, the file is put aside. `drawn` are users whose password is
+    in no file, but its hash."""
 
     def __init__(self, places):
         self.places = places
-        self.files, self.looks, self.does, self.undoes, self.room = {}, [], [], [], None
+        self.files, self.looks, self.does, self.undoes, self.room, self.drawn = {}, [], [], [], None, []
 
     def put(self, path, text, mode=None, group=None):
         """(A file that is there keeps its mode and owner, unless a mode is given.)"""
@@ -99,8 +100,8 @@ class Change:
         self.does.append(words)
         self.undoes.insert(0, undo or words)
 
-    def happen(self):
-        """What each service said."""
+    def happen(self, tell=lambda: None):
+        """What each service said. `tell` tells the passwords, while the journal still says whose they are."""
         files = [[path, os.path.exists(path), sum_of(data)] for path, (data, *_) in self.files.items()]
         for path, was, its_sum in files:
             os.makedirs(os.path.dirname(path), exist_ok=True)
@@ -110,7 +111,7 @@ class Change:
             if its_sum:
                 self.prepare(path, was)
         return Journal(self.places, {"files": files, "room": self.room, "looks": self.looks, "does": self.does,
-                                     "undoes": self.undoes}).play()
+                                     "undoes": self.undoes, "drawn": self.drawn}).play(tell)
 
     def prepare(self, path, was):
         data, mode, group = self.files[path]
@@ -131,7 +132,7 @@ class Journal:
         os.replace(beside(self.path, NEW), self.path)
         keep(self.path)
 
-    def play(self):
+    def play(self, tell):
         """Does it all, or undoes it and says why."""
         try:
             self.write("prepared")
@@ -146,14 +147,15 @@ class Journal:
             for words in self.says["looks"]:
                 asked(*words)
             self.write("decided")
-            return self.finish()
+            return self.finish(tell)
         except BaseException:
             self.undo()
             raise
 
-    def finish(self):
+    def finish(self, tell=lambda: None):
         """What each service said."""
         told = [self.do(*words) for words in self.says["does"]]
+        tell()
         self.clear()
         return told
 
@@ -278,6 +280,8 @@ def recover(places, tell):
             journal = Journal(places, json.load(file))
         if journal.says["state"] == "decided":
             tell("continuing a change that was stopped")
+            for user in journal.says.get("drawn", ()):
+                tell(f"it may not have told the password of {user}: fileroom-admin user passwd {user}")
             try:
                 journal.finish()
             except Fault:

@@ -148,6 +148,11 @@ def main(words):
     os.umask(0o022)  # (nginx reads what is not closed to it on purpose)
     places = Places(given.root)
     say = (lambda text: None) if given.quiet else print
+
+    def tell(what, secret):
+        """(A kill takes what is in a buffer.)"""
+        print(secret if given.quiet else what + secret, flush=True)
+
     try:
         if places.is_machine and os.geteuid() != 0:
             raise Fault("run it as root")
@@ -163,7 +168,7 @@ def main(words):
         if given.command == "check":
             return looking.check(places, given.backup_hours, print)
         with changes.alone(places, lambda text: print(f"fileroom-admin: {text}", file=sys.stderr)):
-            play(given, Commands(places, say, lambda what, secret: print(secret if given.quiet else what + secret)))
+            play(given, Commands(places, say, tell))
         return 0
     except (Fault, OSError) as fault:
         print(f"fileroom-admin: {fault}", file=sys.stderr)

@@ -47,9 +47,7 @@ class Commands(Rooms, Dav):
         change.room = room, owner, group
         self.put_room(change, room)
         drawn = self.draw(change, owner)
-        change.happen()
-        self.say(f"the room {room} is served, and backed up each night")
-        self.tell_password(owner, drawn)
+        change.happen(lambda: self.tell_password(owner, drawn, f"the room {room} is served, and backed up each night"))
         self.trash_for(room, owner)
 
     def put_room(self, change, room):

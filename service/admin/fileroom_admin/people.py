@@ -92,6 +92,7 @@ class People:
         drawn = {it: secrets.token_urlsafe(DRAWN) for it in users}
         if drawn:
             self.put_passwords(change, {it: rosters.hashed_drawn(word) for it, word in drawn.items()})
+            change.drawn = list(drawn)
         return drawn
 
     def put_passwords(self, change, lines):
@@ -99,12 +100,19 @@ class People:
         change.put(users, rosters.with_passwords(self.passwords(), lines),
                    *(() if os.path.exists(users) else FOR_WORKERS))
 
-    def tell_password(self, user, drawn):
+    def tell_password(self, user, drawn, *before):
         """(The one thing that -q prints too; before the room is asked for anything, since it may not answer.)"""
+        for it in before:
+            self.say(it)
         if user in drawn:
             self.tell(f"the password of {user}: ", drawn[user])
         else:
             self.say(f"{user} keeps the old password")
+
+    def tell_passwords(self, drawn, before):
+        self.say(before)
+        for user, word in drawn.items():
+            self.tell("", f"{user},{word}")
 
     def put_names(self, change, names):
         """(A user without one is shown as the roster has it.)"""
@@ -120,9 +128,8 @@ class People:
             raise Fault(f"{user} is already in the room {room} (to change groups: fileroom-admin user groups)")
         change = self.change_rosters({room: {user: groups}})
         drawn = self.draw(change, user)
-        change.happen()
-        self.say(f"{user} is a user of the room {room}, in {', '.join(groups) or 'no group'}")
-        self.tell_password(user, drawn)
+        change.happen(lambda: self.tell_password(user, drawn, (
+            f"{user} is a user of the room {room}, in {', '.join(groups) or 'no group'}")))
         self.until_answers(room)
         self.trash_for(room, user)
 
@@ -180,8 +187,7 @@ class People:
         change = Change(self.places)
         if given is None:
             drawn = self.draw_anew(change, user)
-            change.happen()
-            self.tell_password(user, drawn)
+            change.happen(lambda: self.tell_password(user, drawn))
         else:
             rosters.need_password(given)
             self.put_passwords(change, {user: rosters.hashed_chosen(given)})
@@ -216,12 +222,9 @@ class People:
         change = self.change_rosters({room: its_groups}) if its_groups else Change(self.places)
         drawn = self.draw(change, *rows)
         self.put_names(change, {user: names.get(user) if name is None else name for user, (_, name) in rows.items()})
-        change.happen()
         new = [it for it in rows if it not in there]
-        self.say(f"{room}: {len(new)} new users, {len(its_groups) - len(new)} with other groups, "
-                 f"{len(rows)} in the table")
-        for user, word in drawn.items():
-            self.tell("", f"{user},{word}")
+        change.happen(lambda: self.tell_passwords(drawn, (
+            f"{room}: {len(new)} new users, {len(its_groups) - len(new)} with other groups, {len(rows)} in the table")))
         if its_groups:
             self.until_answers(room)
         self.trash_for(room, *new)
