@@ -24,6 +24,9 @@ DATA = base64.b64encode(bytes(range(256)) * 9).decode()
 SPOILT = {
     "a right": "UPDATE entry SET mask = mask + 1 WHERE place = 0 AND node = 3",
     "an entry less": "DELETE FROM entry WHERE node = 4 AND place = (SELECT max(place) FROM entry WHERE node = 4)",
+    "an entry more": "INSERT INTO entry SELECT node, place + 1, type, flag, mask, who FROM entry WHERE node = 4 "
+                     "ORDER BY place DESC LIMIT 1",
+    "a kind": "UPDATE node SET kind = 0 WHERE id = 2",
     "an owner": "UPDATE node SET owner = 'eve' WHERE id = 5", "a group": "UPDATE node SET grp = 'eve' WHERE id = 5",
     "a flag of a list": "UPDATE node SET aclflag = 4 WHERE id = 2",
     "bytes": "UPDATE doc SET bytes = x'00' WHERE node = (SELECT max(node) FROM doc)",
