@@ -64,6 +64,7 @@ def of_a_machine(machine, tally):
             ("answer_seconds", {"room": "plans", "quantile": "0.5"}, "0.5"),
             ("restore_age_seconds", {"room": "plans"}, None)):
         tally.differs(f"{name} {labels}", of(name, **labels), want)
+    tally.differs("whose the room is, in its backup", text_of(os.path.join(latest, "owner")), "ann\n")
     size = sum(os.stat(machine.at(f"var/lib/fileroom/plans/{name}")).st_size for name in ("room.db", "room.db-wal"))
     tally.differs("room_bytes", int(of("room_bytes", room="plans")), size)
     tally.differs("backup_age_seconds", 5 * HOUR <= float(of("backup_age_seconds", room="plans")) < 6 * HOUR, True)
@@ -155,11 +156,14 @@ def paces(machine, tally):
 
 
 def panels(tally):
-    """Each number of the dashboard is one that there is."""
+    """Each number of the dashboard, and of the rules for alerts, is one that there is."""
     names = set(re.findall(r'"([a-z_]+)": "', text_of(os.path.join(SERVICE, "admin/fileroom_admin/numbers.py"))))
     board = json.loads(text_of(os.path.join(SERVICE, "grafana.json")))
     asked = {target["expr"] for panel in board["panels"] for target in panel["targets"]}
     tally.differs("the dashboard's numbers", {it for it in asked if it.removeprefix("fileroom_") not in names}, set())
+    ruled = set(re.findall(r"\bfileroom_([a-z_]+)\b", text_of(os.path.join(SERVICE, "alerts.yml"))))
+    tally.differs("the rules' numbers", (ruled - names, {"numbers_left_days", "memory_left_days", "disk_left_days"}
+                                         - ruled), (set(), set()))
 
 
 def tried_backups(machine, tally, latest):

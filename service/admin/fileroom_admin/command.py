@@ -3,7 +3,7 @@ import argparse
 import os
 import sys
 
-from . import changes, looking, numbers, told
+from . import changes, looking, numbers, told, warned
 from .commands import Commands
 from .places import Fault, Places
 
@@ -37,6 +37,7 @@ def parser():
     check.add_argument("--backup-hours", type=int, default=26, help="how many hours old the latest backup may be (26)")
     check.add_argument("--prometheus", nargs="?", const="-", metavar="FILE",
                        help="numbers for a monitor, to FILE or standard output")
+    words.add_parser("warn", help="tells the owner of each room on the page what ends within ten days")
     standby = words.add_parser("standby", help="check NAME: whether another machine could take over a room")
     standby.add_argument("what", choices=["check"])
     standby.add_argument("NAME")
@@ -164,6 +165,9 @@ def main(words):
         if given.command == "check" and given.prometheus:
             text = numbers.told(places, given.backup_hours)
             print(text, end="") if given.prometheus == "-" else numbers.write(text, given.prometheus)
+            return 0
+        if given.command == "warn":
+            warned.put(places)
             return 0
         if given.command == "check":
             return looking.check(places, given.backup_hours, print)

@@ -1,5 +1,4 @@
 """`fileroom-admin check`: what is wrong with a machine, each finding with its remedy."""
-import contextlib
 import glob
 import grp
 import json
@@ -10,7 +9,7 @@ import shutil
 import stat
 import time
 
-from . import dav, rosters
+from . import dav, paces, rosters
 from .changes import JOURNAL, sum_in
 from .commands import OF_ROOM, end_of, of_room
 from .owned import made_at
@@ -24,9 +23,8 @@ DAYS_LEFT = 21  # of a certificate
 TRIED_DAYS = 9  # since a backup was tried
 FULL = 3 / 4  # of a unit's memory: a room's file that is larger is told
 OF_LISTS = 2.5  # so much memory its start takes where long lists fill it
-NUMBERS, USED = 1_000_000, 750_000  # of objects: a room's, and from how many on it is told
-NUMBERS_DAYS = 30  # or from how many days on before they end, at the pace of the last ones
-PACE_DAYS = 8  # over which a pace is taken
+USED = 750_000  # numbers of a room for objects: from here on it is told
+DAYS = 30  # or from how many days on before they end, and before memory or a disk does
 OTHERS = stat.S_IRWXG | stat.S_IRWXO
 CLEAR = 8080  # the front's port without TLS
 LISTENS = "0A"  # a state, in /proc/net/tcp
@@ -204,23 +202,24 @@ class Findings:
 
     def memory(self, room):
         """(As it opens its file the program holds the largest table, and the file may be that one table.)"""
-        unit, file = self.places.unit(room), self.places.file(room)
-        told = re.search(r"(?m)^MemoryMax=(\d+)$", said("systemctl", "show", "--property=MemoryMax", unit)[1])
-        size = sum(os.stat(it).st_size for it in (file, file + "-wal") if os.path.exists(it))
-        if told and size > int(told[1]) * FULL:
-            self.add(f"{room}: its file has {size >> 20} MiB, its unit {int(told[1]) >> 20} MiB of memory to hold it",
-                     "give the machine more memory; docs/RUNNING.md, Memory, has other ways")
-        elif told and size * OF_LISTS > int(told[1]):
+        limit, size = paces.memory_of(self.places.unit(room)), paces.size_of(self.places.state(room))
+        days = paces.of_memory(self.places, room)
+        if limit and size > limit * FULL or days is not None and days < DAYS:
+            pace = "" if days is None else f", and at the pace of the last days does not start again in {days:.0f} days"
+            self.add(f"{room}: its file has {size >> 20} MiB, its unit {limit >> 20} MiB of memory to hold it{pace}",
+                     "give the machine more memory (docs/RUNNING.md, Memory, has other ways); "
+                     f"fileroom-admin log {room} shows who writes so much")
+        elif limit and size * OF_LISTS > limit:
             self.note(f"{room}: if long lists fill its file of {size >> 20} MiB, its start takes more than the "
-                      f"{int(told[1]) >> 20} MiB of memory of its unit", "docs/RUNNING.md, Memory, has more")
+                      f"{limit >> 20} MiB of memory of its unit", "docs/RUNNING.md, Memory, has more")
 
     def numbers(self, room):
         """(The program counts them, and `fileroom-backup` writes down the count.)"""
         folder, names = self.places.backups(room), self.places.copies(room)
-        used, left = pace_of(folder, names)
-        if used > USED or left is not None and left < NUMBERS_DAYS:
+        used, left = paces.of_numbers(folder, names)
+        if used > USED or left is not None and left < DAYS:
             days = "" if left is None else f", and at the pace of the last days the others last {left:.0f} days"
-            self.add(f"{room}: of the {NUMBERS:,} numbers that it has for objects, {used:,} are used{days}",
+            self.add(f"{room}: of the {paces.NUMBERS:,} numbers that it has for objects, {used:,} are used{days}",
                      f"fileroom-admin room renew {room}; fileroom-admin log {room} shows who makes so many")
 
     def owner(self, path):
@@ -285,6 +284,11 @@ class Findings:
             it = shutil.disk_usage(folder)
             if it.free < min(ROOM_LEFT, it.total / 10):
                 self.add(f"the disk of {folder} has {it.free >> 20} MiB free", "delete what is not needed")
+            days = paces.of_disk(self.places, folder)
+            if days is not None and days < DAYS:
+                self.add(f"the disk of {folder}, at the pace of the last days, has no space for rooms and backups in "
+                         f"{days:.0f} days",
+                         "delete what is not needed, or keep fewer backups (man fileroom-backup, KEEP)")
 
 
 def runs_other(unit, pause):
@@ -293,32 +297,6 @@ def runs_other(unit, pause):
     installed = sum_in(os.path.join(PREFIX, "bin/fileroom"))
     pid = re.search(r"(?m)^MainPID=([1-9]\d*)$", said("systemctl", "show", "--property=MainPID", unit)[1])
     return bool(installed and pid) and sum_in(f"/proc/{pid[1]}/exe") not in (None, installed)
-
-
-def count_in(path):
-    """The number in a file of somebody else's, or 0."""
-    with contextlib.suppress(OSError, ValueError), open(path, "rb", opener=unlinked) as file:
-        return int(file.read(9))
-    return 0
-
-
-def pace_of(folder, names):
-    """How many numbers a room has used, by its latest backup that tells it, or 0; and how many days the others last,
-    as they were used in the last days. That is None where it is not known, or none were used. (A room that was renewed
-    begins anew.)"""
-    counts = [(made_at(it), count_in(os.path.join(folder, it, "numbers"))) for it in names]
-    counts = [(when, used) for when, used in counts if used]
-    if not counts:
-        return 0, None
-    now, used = counts[-1]
-    since = [it for it in counts if it[0] >= now - PACE_DAYS * 86400]
-    begin = max((at for at in range(1, len(since)) if since[at][1] < since[at - 1][1]), default=0)
-    days, more = (now - since[begin][0]) / 86400, used - since[begin][1]
-    return used, max(NUMBERS - used, 0) * days / more if more and days > 0.5 else None
-
-
-def unlinked(path, flags):
-    return os.open(path, flags | os.O_NOFOLLOW | os.O_NONBLOCK)
 
 
 def template_of(unit):

@@ -7,11 +7,11 @@ import shutil
 import tempfile
 import time
 
-from . import rosters
+from . import paces, rosters
 from .changes import answers
-from .looking import PACE_DAYS, Findings, end_of, look, pace_of
+from .looking import Findings, end_of, look
 from .owned import latest, made_at
-from .places import LISTEN, Fault, read, said, said_before
+from .places import LISTEN, Fault, read, said_before
 
 WINDOW = 600  # seconds of the front's log that are counted
 TAIL = 8 << 20  # bytes of it that are read at most
@@ -21,6 +21,7 @@ ABOUT = {
     "room_bytes": "size of the room's file and log",
     "room_growth_bytes_per_day": "by its backups of the last days",
     "memory_limit_bytes": "of the room's unit: its file has to fit it",
+    "memory_left_days": "until it does not, and the room does not start again, as it grew in the last days",
     "numbers_used": "of the 1,000,000 numbers that the room has for objects, by its latest backup",
     "numbers_left_days": "until they end, as they were used in the last days",
     "users": "users of the roster",
@@ -31,6 +32,7 @@ ABOUT = {
     "answers": "answers of the room in the last ten minutes, by the hundred of their status",
     "answer_seconds": "how long these took",
     "disk_free_bytes": "free on the disk of this folder",
+    "disk_left_days": "until it has no space for rooms and backups, as they grew in the last days",
     "certificate_seconds": "until the certificate ends",
     "findings": "what fileroom-admin check finds",
 }
@@ -62,8 +64,9 @@ class Numbers:
         self.add("users", len(rosters.users_of(read(places.roster(room)))), room=room)
         if is_here:
             self.add("up", answers(places.socket(room)), room=room)
-            self.add("room_bytes", size_of(places.state(room)), room=room)
-            self.add("memory_limit_bytes", memory_of(places.unit(room)), room=room)
+            self.add("room_bytes", paces.size_of(places.state(room)), room=room)
+            self.add("memory_limit_bytes", paces.memory_of(places.unit(room)), room=room)
+            self.add("memory_left_days", paces.of_memory(places, room), room=room)
         self.backups(room)
 
     def backups(self, room):
@@ -72,18 +75,14 @@ class Numbers:
         self.add("backups", len(names), room=room)
         if not names:
             return
-        used, left = pace_of(folder, names)
+        used, left = paces.of_numbers(folder, names)
         self.add("numbers_used", used or None, room=room)
         self.add("numbers_left_days", left, room=room)
         self.add("backup_age_seconds", time.time() - made_at(latest(self.places, room)), room=room)
         tried = os.path.join(folder, ".tried")
         if os.path.exists(tried):
             self.add("restore_age_seconds", time.time() - os.lstat(tried).st_mtime, room=room)
-        first = next(it for it in names if made_at(it) > made_at(names[-1]) - PACE_DAYS * 86400)
-        days = (made_at(names[-1]) - made_at(first)) / 86400
-        if days > 0.5:
-            grown = size_of(os.path.join(folder, names[-1])) - size_of(os.path.join(folder, first))
-            self.add("room_growth_bytes_per_day", grown / days, room=room)
+        self.add("room_growth_bytes_per_day", paces.growth_of(self.places, room), room=room)
 
     def front(self):
         found, rooms = {}, {*self.places.rooms()}
@@ -102,20 +101,11 @@ class Numbers:
         for folder in *self.places.disks(), self.places.at("var/log"):
             if os.path.isdir(folder):
                 self.add("disk_free_bytes", shutil.disk_usage(folder).free, folder=folder)
+                self.add("disk_left_days", paces.of_disk(self.places, folder), folder=folder)
         if " ssl" in read(self.places.at(LISTEN), ""):
             end = datetime.datetime.strptime(end_of(self.places.front("tls/cert.pem")), "%b %d %H:%M:%S %Y %Z")
             self.add("certificate_seconds", end.replace(tzinfo=datetime.timezone.utc).timestamp() - time.time())
         self.add("findings", len(findings.found))
-
-
-def size_of(folder):
-    paths = [os.path.join(folder, it) for it in ("room.db", "room.db-wal")]
-    return sum(os.lstat(it).st_size for it in paths if os.path.exists(it))
-
-
-def memory_of(unit):
-    told = re.search(r"(?m)^MemoryMax=(\d+)$", said("systemctl", "show", "--property=MemoryMax", unit)[1])
-    return int(told[1]) if told else None
 
 
 def lines_of_front(path):
@@ -146,13 +136,14 @@ def told(places, hours):
     return it.text()
 
 
-def write(text, path):
-    """A reader of the file has the numbers of before, or these."""
+def write(text, path, mode=0o644, group=-1):
+    """A reader of the file has the text of before, or this one."""
     handle, made = tempfile.mkstemp(prefix=".fileroom-", dir=os.path.dirname(os.path.abspath(path)))
     try:
         with open(handle, "w", encoding="utf-8") as file:
             file.write(text)
-            os.fchmod(file.fileno(), 0o644)  # (its name may be another file's by now, in a folder of somebody's)
+            os.fchown(file.fileno(), -1, group)
+            os.fchmod(file.fileno(), mode)  # (its name may be another file's by now, in a folder of somebody's)
         os.replace(made, path)
     except BaseException:
         os.unlink(made)
