@@ -109,7 +109,7 @@ def said_before(machine, tally):
 def another_in_its_place(machine, tally, path):
     """Who has the folder puts a link to a file of root's where the new one was just made: that file stays as it is."""
     sys.path.insert(0, os.path.join(SERVICE, "admin"))
-    from fileroom_admin import numbers as module
+    from fileroom_admin import places as module
     secret = os.path.join(machine.folder, "secret")
     with open(os.open(secret, os.O_WRONLY | os.O_CREAT, 0o600), "w", encoding="utf-8") as file:
         file.write("of root")

@@ -3,9 +3,9 @@ import argparse
 import os
 import sys
 
-from . import changes, looking, numbers, told, warned
+from . import changes, held, looking, numbers, told, warned
 from .commands import Commands
-from .places import Fault, Places
+from .places import Fault, Places, write
 
 HERE = os.path.dirname(os.path.realpath(__file__))
 STANDBY = os.path.join(HERE, "..", "..", "standby", "fileroom-standby")
@@ -20,6 +20,7 @@ def parser():
     add_rooms(words)
     add_users(words)
     add_groups(words)
+    add_bounds(words)
     add_command(words, "trash", "makes the trash of each user who has none; of USER also where it is open to others",
                 "ROOM", many="USER")
     log = add_command(words, "log", "who changed what in a room, and when, as the front's log has it", "ROOM")
@@ -71,9 +72,22 @@ def add_users(words):
     add_command(user, "owns", "what a user owns in each room, by the latest backups", "USER")
     one = add_command(user, "passwd", "a new random password", "USER")
     one.add_argument("--stdin", action="store_true", help="take the first line of standard input instead")
+    one = add_command(user, "hold", "lets USER read in ROOM, and change nothing", "ROOM", "USER")
+    one.add_argument("--at", choices=[*held.BOUNDS], help="only if that is the user's bound, as fail2ban asks")
+    one.add_argument("--made", action="store_true", help="of objects: where a room has few numbers left, few are many")
+    one = add_command(user, "release", "lets a user who is held change things again", "ROOM", "USER")
+    one.add_argument("--over", action="store_true", help="as fail2ban asks, once the day is over")
     one = user.add_parser("list", help="rooms, users, groups, and who has a login")
     one.add_argument("ROOM", nargs="?")
     one.add_argument("--csv", action="store_true", help="of ROOM, as `user import --update` reads it")
+
+
+def add_bounds(words):
+    one = add_command(words, "bound", "how much a login may ask of ROOM in a day; without BOUND, prints it", "ROOM")
+    one.add_argument("BOUND", nargs="?", choices=[*held.BOUNDS])
+    of = one.add_mutually_exclusive_group()
+    of.add_argument("--user", help="of this user alone")
+    of.add_argument("--group", help="of this group's users")
 
 
 def add_groups(words):
@@ -113,6 +127,24 @@ def passwd(commands, given):
     commands.user_passwd(given.USER, sys.stdin.readline().rstrip("\r\n") if given.stdin else None)
 
 
+def hold(places, given, say):
+    if held.hold(places, given.ROOM, given.USER, given.at, given.made):
+        say(f"{given.USER} is held in {given.ROOM}")
+    return 0
+
+
+def release(places, given, say):
+    held.release(places, given.ROOM, given.USER, given.over)
+    say(f"{given.USER} is not held in {given.ROOM}")
+    return 0
+
+
+def warn(places, given, say):
+    warned.put(places)
+    return 0
+
+
+AT_ONCE = {"user hold": hold, "user release": release, "warn ": warn}  # which wait for no other change
 TELLS = "dav list", "user list", "user owns", "group list", "room list", "room export", "room renew"
 DOES = {
     "user list": user_list,
@@ -133,6 +165,7 @@ DOES = {
     "user passwd": passwd,
     "group add": lambda it, given: it.group_change(given.ROOM, given.GROUP, given.USER, True),
     "group remove": lambda it, given: it.group_change(given.ROOM, given.GROUP, given.USER, False),
+    "bound": lambda it, given: it.bound(given.ROOM, given.BOUND, given.user, given.group),
     "trash": lambda it, given: it.trash(given.ROOM, given.USER),
     "tls": lambda it, given: it.tls(given.CERT, given.KEY),
     "dav on": lambda it, given: it.dav("on", given.ROOM),
@@ -164,11 +197,10 @@ def main(words):
             return 0
         if given.command == "check" and given.prometheus:
             text = numbers.told(places, given.backup_hours)
-            print(text, end="") if given.prometheus == "-" else numbers.write(text, given.prometheus)
+            print(text, end="") if given.prometheus == "-" else write(text, given.prometheus)
             return 0
-        if given.command == "warn":
-            warned.put(places)
-            return 0
+        if f"{given.command} {getattr(given, 'what', '')}" in AT_ONCE:
+            return AT_ONCE[f"{given.command} {getattr(given, 'what', '')}"](places, given, say)
         if given.command == "check":
             return looking.check(places, given.backup_hours, print)
         with changes.alone(places, lambda text: print(f"fileroom-admin: {text}", file=sys.stderr)):

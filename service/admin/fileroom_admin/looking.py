@@ -9,7 +9,7 @@ import shutil
 import stat
 import time
 
-from . import dav, paces, rosters
+from . import dav, paces, rosters, warned
 from .changes import JOURNAL, sum_in
 from .commands import OF_ROOM, end_of, of_room
 from .owned import made_at
@@ -222,6 +222,13 @@ class Findings:
             self.add(f"{room}: of the {paces.NUMBERS:,} numbers that it has for objects, {used:,} are used{days}",
                      f"fileroom-admin room renew {room}; fileroom-admin log {room} shows who makes so many")
 
+    def held(self, room):
+        for user, since in warned.held_in(self.places, room).items():
+            when = time.strftime("%Y-%m-%dT%H:%M", time.localtime(since))
+            self.add(f"{room}: {user} is held since {when}, for asking more in a day than the bound of this login",
+                     f"fileroom-admin log {room} --user {user} shows what; fileroom-admin user release {room} {user}; "
+                     f"fileroom-admin bound {room} many --user {user}")
+
     def owner(self, path):
         if not self.places.is_machine:
             return
@@ -313,6 +320,7 @@ def look(it, hours):
         it.add("there is no room", "fileroom-admin room add NAME OWNER GROUP, or room import FILE")
     for room in places.rooms():
         it.part(it.room, room)
+        it.part(it.held, room)
         if it.is_here(room):
             it.part(it.backup, room, hours)
             it.part(it.trial, room)

@@ -4,14 +4,13 @@ import json
 import os
 import re
 import shutil
-import tempfile
 import time
 
-from . import paces, rosters
+from . import paces, rosters, warned
 from .changes import answers
 from .looking import Findings, end_of, look
 from .owned import latest, made_at
-from .places import LISTEN, Fault, read, said_before
+from .places import LISTEN, Fault, read, said_before, write
 
 WINDOW = 600  # seconds of the front's log that are counted
 TAIL = 8 << 20  # bytes of it that are read at most
@@ -25,6 +24,7 @@ ABOUT = {
     "numbers_used": "of the 1,000,000 numbers that the room has for objects, by its latest backup",
     "numbers_left_days": "until they end, as they were used in the last days",
     "users": "users of the roster",
+    "held": "logins that asked for more in a day than their bound",
     "backups": "backups that are kept",
     "backup_age_seconds": "since the latest backup",
     "restore_age_seconds": "since a backup was restored and served, as a trial",
@@ -61,6 +61,7 @@ class Numbers:
         if places.has_standby(room):
             is_whole = not said_before(f"standby-{room}", "fileroom-standby", "check", room)[0]
             self.add("standby_whole", is_whole, room=room)
+        self.add("held", len(warned.held_in(places, room)), room=room)
         self.add("users", len(rosters.users_of(read(places.roster(room)))), room=room)
         if is_here:
             self.add("up", answers(places.socket(room)), room=room)
@@ -134,17 +135,3 @@ def told(places, hours):
         except (Fault, OSError, ValueError):
             continue
     return it.text()
-
-
-def write(text, path, mode=0o644, group=-1):
-    """A reader of the file has the text of before, or this one."""
-    handle, made = tempfile.mkstemp(prefix=".fileroom-", dir=os.path.dirname(os.path.abspath(path)))
-    try:
-        with open(handle, "w", encoding="utf-8") as file:
-            file.write(text)
-            os.fchown(file.fileno(), -1, group)
-            os.fchmod(file.fileno(), mode)  # (its name may be another file's by now, in a folder of somebody's)
-        os.replace(made, path)
-    except BaseException:
-        os.unlink(made)
-        raise

@@ -5,7 +5,7 @@ import secrets
 import sys
 import time
 
-from . import owned, rosters, sheets
+from . import held, owned, rosters, sheets
 from .changes import Change, answers
 from .places import WORKERS, Fault, read, said
 from .trash import Trashes
@@ -253,6 +253,16 @@ class People:
                     groups.setdefault(group, []).append(user)
             for group, users in sorted(groups.items()):
                 self.say(f"{it}  {group}  {','.join(users)}")
+
+    def bound(self, room, bound, user, group):
+        self.need_room(room)
+        bounds = held.Bounds(self.places)
+        if bound and user:
+            self.need_user(room, user)
+        if bound:
+            bounds.put(room, bound, *(("users", user) if user else ("groups", group) if group else ()))
+        for it in bounds.lines(room):
+            self.say(it)
 
     def user_list(self, room=None, is_table=False):
         logins, names = rosters.logins_of(self.passwords()), self.names()

@@ -1,6 +1,7 @@
 """Where everything lies on a machine, below a root, and how its programs are asked."""
 import os
 import subprocess
+import tempfile
 
 HERE = os.path.dirname(os.path.abspath(__file__))
 SEARCHED = os.pathsep.join([os.environ.get("PATH", ""), "/usr/local/bin", "/usr/sbin"])
@@ -142,3 +143,17 @@ def read(path, default=None, encoding="utf-8"):
         return default
     except (OSError, UnicodeDecodeError) as fault:
         raise Fault(f"{path} cannot be read: {fault}") from None
+
+
+def write(text, path, mode=0o644, group=-1):
+    """A reader of the file has the text of before, or this one."""
+    handle, made = tempfile.mkstemp(prefix=".fileroom-", dir=os.path.dirname(os.path.abspath(path)))
+    try:
+        with open(handle, "w", encoding="utf-8") as file:
+            file.write(text)
+            os.fchown(file.fileno(), -1, group)
+            os.fchmod(file.fileno(), mode)  # (its name may be another file's by now, in a folder of somebody's)
+        os.replace(made, path)
+    except BaseException:
+        os.unlink(made)
+        raise
