@@ -18,6 +18,7 @@ EXPIRED = 10
 NO_TLS = ("HTTP_REQUEST", "WRONG_VERSION_NUMBER")
 NO_SUCH_NAME = "its host's name is not found"
 TRY_AGAIN = (408, 429, 500, 502, 503, 504)
+HELD = "room-held"  # a field of a 429, where not the request is too much but the day's
 # Seconds, and tries: so that an address at which nobody is any more does not take all of the patience.
 LONGEST_CONNECT = 5.0
 ASK_WHETHER_ALIVE = {"TCP_KEEPIDLE": 5, "TCP_KEEPINTVL": 5, "TCP_KEEPCNT": 2}
@@ -35,11 +36,12 @@ class Lost(Exception):
 class Answer:
     status: int
     reply: dict | None  # what the room said; None where something else answered
+    is_held: bool = False  # the front lets nothing of this login but looks through, today
 
     @property
     def is_later(self) -> bool:
         """Whether the same request is to be sent again, later."""
-        return self.status in TRY_AGAIN
+        return self.status in TRY_AGAIN and not self.is_held
 
     @property
     def is_done(self) -> bool:
@@ -97,7 +99,7 @@ class Line:
             self.connection = http.client.HTTPSConnection(parts.hostname, port, context=self.context)
         else:
             self.connection = http.client.HTTPConnection(parts.hostname, port)
-        self.fields = {"content-type": "application/json"}
+        self.fields, self.is_held = {"content-type": "application/json"}, False
         if settings.room_user is not None:
             self.fields["room-user"] = settings.room_user
         if settings.login is not None:
@@ -135,7 +137,7 @@ class Line:
     def ask(self, method: str, target: str, body: bytes) -> Answer:
         """What is answered to one request over the open connection."""
         status, text = self._answered(method, target, body)
-        return Answer(status, reply_of(text))
+        return Answer(status, reply_of(text), self.is_held)
 
     def fetch(self, target: str, seconds: float) -> bytes | None:
         """A file there, or None."""
@@ -152,6 +154,7 @@ class Line:
             response = self.connection.getresponse()
             if (response.length or 0) > MOST:
                 raise http.client.HTTPException("an answer that is too long")
+            self.is_held = response.status == 429 and response.getheader(HELD) is not None
             return response.status, response.read()
         except (OSError, http.client.HTTPException) as fault:
             self.close()

@@ -131,7 +131,7 @@ def end(child):
 class Front(http.server.BaseHTTPRequestHandler):
     """As the front of docs/RUNNING.md: it asks for a password, and sets room-user. `server.faults` says what it does
     with the next requests: pass, lose (the answer), cut (the answer), drop (the request), hold (until `server.held` is
-    set, and then pass), or a status of its own."""
+    set, and then pass), held (the login is, for the day), or a status of its own."""
 
     protocol_version = "HTTP/1.1"
 
@@ -143,6 +143,8 @@ class Front(http.server.BaseHTTPRequestHandler):
             self.close_connection = True
         elif user is None or not self.path.startswith(PREFIX):
             self.answer(401 if user is None else 404, b"<html>no</html>")
+        elif fault == "held":
+            self.answer(429, b"held", "room-held")
         elif isinstance(fault, int):
             self.answer(fault, b"<html>busy</html>")
         else:
@@ -179,8 +181,10 @@ class Front(http.server.BaseHTTPRequestHandler):
         if fault == "cut":
             self.wfile.write(b"HTTP/1.1 200 OK\r\ncontent-length: %d\r\n\r\n%s" % (len(text), text[:-1]))
 
-    def answer(self, status, text):
+    def answer(self, status, text, *fields):
         self.send_response(status)
+        for it in fields:
+            self.send_header(it, "1")
         self.send_header("content-length", str(len(text)))
         self.end_headers()
         self.wfile.write(text)

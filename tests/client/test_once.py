@@ -107,6 +107,20 @@ class Lost(Desk):
             self.assertEqual(len(said), 1)
             self.assertIn(f"no answer yet (it answered {fault}): {why}", said[0])
 
+    def test_who_is_held_is_told_so_at_once(self):
+        with self.behind(patience=60) as room:
+            room.children("/")
+            self.front.faults[:] = ["held"]
+            with self.assertRaisesRegex(NoAnswer, "you are held.*nothing was done, and nothing is kept"):
+                room.create("/late", b"")
+        with self.behind() as room:
+            room.create("/late", b"")
+            self.front.faults[:] = ["lose", "held"]
+            with self.assertRaisesRegex(NoAnswer, "you are held.*whether it was done is not known"):
+                room.append("/late", b"piece")
+        with self.behind() as room:
+            self.assertEqual(room.read("/late"), b"piece")
+
     def test_a_name_that_is_not_found_is_told_as_such(self):
         said = []
         with self.assertRaisesRegex(NoAnswer, "its host's name is not found"):
