@@ -1,7 +1,7 @@
 -- What comes into folders, and goes from them, where a caller may not list them.
 use Rattle.std.proofs.Common.{◌≡◌, ◌⊎◌, refl, ap, sym, ◌∙◌, Bool, true, false, not, ◌&&◌, ◌||◌, inl, inr}
 use Rattle.std.proofs.Common.{List, [], ◌∷◌, ◌++◌, append_assoc, length, drop, Option, None, Some, ◌==◌}
-use Rattle.std.proofs.lemmas.Bool.{cases_Bool, and_right}
+use Rattle.std.proofs.lemmas.Bool.{cases_Bool, and_right, or_parts}
 use Rattle.room_acl.specs.declared.subject.Kind.{Kind}
 use Rattle.room_acl.specs.declared.subject.Kind.TheVariants.{File, Folder}
 use Rattle.room_acl.specs.Bits.{list_directory, add_file, add_subdirectory, read_attributes}
@@ -12,10 +12,10 @@ use Rattle.room_records.proofs.RoomsMap.{parent_of_end, ends}
 use Rattle.room_commands.specs.CommandModel.{CommandModel, paths_of}
 use Rattle.room_commands.specs.ReplyModel.{Refusal, Attributes}
 use Rattle.room_commands.specs.Lawful.{IsLawful}
-use Rattle.room_commands.specs.Checks.{walk, is_file, is_at_or_below}
+use Rattle.room_commands.specs.Checks.{walk, is_file, is_at_or_below, is_full, check_folder_full}
 use Rattle.room_commands.specs.Effect.{effect}
-use Rattle.room_commands.specs.Sight.{view, may_remove, depth_in}
-use Rattle.room_commands.specs.Elsewhere.{IsOff, IsUnlisted, NameUnseen, FullUnseen, FoldersFullUnseen}
+use Rattle.room_commands.specs.Sight.{view, may_add, may_remove, may_set, depth_in}
+use Rattle.room_commands.specs.Elsewhere.{IsOff, IsUnlisted, AddsNowhere}
 use Rattle.room_commands.specs.Elsewhere.{but_depth, view_less}
 use Rattle.room_commands.proofs.RoomsRenamed.{rest_below}
 use Rattle.room_commands.proofs.Renaming.{at_behind}
@@ -27,6 +27,21 @@ use Rattle.room_commands.proofs.Staying.{Off, in_folder}
 use Rattle.room_commands.proofs.Elsewhere.{Leaves, by_result, view_off, view_named, by_place, depth_out, depth_stays}
 use Rattle.room_commands.proofs.Shorthands.{if_reached, seen_less}
 use Rattle.std.specs.Bool.{then_some}
+
+-- a path of which the folder shows no names, and each folder above that the caller may remove goes as deep as before
+pub record NameUnseen (caller : SubjectModel) (room later : Room) (path : Path) : Type 0 where
+  pub unlisted : IsUnlisted caller room path
+  pub depth : (front : Path) → is_at_or_below path front ≡ true → walk room caller front ≡ None
+      → may_remove room caller front ≡ true → depth_in front later.objects ≡ depth_in front room.objects
+
+-- the law's premises on the last two rows: a number is left as before, or the caller may add nowhere; and each folder
+-- to which it may add takes one more object as before
+abbrev pub FullUnseen : SubjectModel → Room → Room → Type 0
+FullUnseen caller room later = (is_full later ≡ is_full room) ⊎ AddsNowhere caller room
+
+abbrev pub FoldersFullUnseen : SubjectModel → Room → Room → Type 0
+FoldersFullUnseen caller room later = (folder : Path) → walk room caller folder ≡ None
+    → may_add room caller folder ≡ true → check_folder_full later folder ≡ check_folder_full room folder
 
 same_or_hidden : {X : Type 0} (test : Bool) (x y : X) → (x ≡ y) ⊎ (test ≡ false) → then_some test x ≡ then_some test y
 same_or_hidden test x y (inl same) = ap (then_some test) same
@@ -100,9 +115,9 @@ module _ (room later : Room) (caller : SubjectModel) (p t : Path) (is_room : IsR
     depth_above : Off p t q → walk room caller q ≡ None → may_remove room caller q ≡ true
         → depth_in q later.objects ≡ depth_in q room.objects
     depth_above off walked removes = elim (cases_Bool (is_at_or_below p q)) [
-      | inl above ↦ name_p.depth q (drop (length q) p) (rest_below q p above) walked removes
+      | inl above ↦ name_p.depth q above walked removes
       | inr not_p ↦ elim (cases_Bool (is_at_or_below t q)) [
-        | inl above ↦ name_t.depth q (drop (length q) t) (rest_below q t above) walked removes
+        | inl above ↦ name_t.depth q above walked removes
         | inr not_t ↦ depth_stays room later caller p t is_room s q (not_p, not_t) off
       ]
     ]
@@ -121,7 +136,8 @@ module _ (room later : Room) (caller : SubjectModel) (p t : Path) (is_room : IsR
         → ((later.left == 0) ≡ (room.left == 0)) ⊎ ((not (is_file o.kind) && adds_there) ≡ false)
     full_seen o at walked = elim numbers [
       | inl same ↦ inl same
-      | inr nowhere ↦ inr (by_kind (nowhere q o at) o.kind refl)
+      | inr nowhere ↦ inr (by_kind (λ folder reached.
+          (or_parts adds_there (may_set room caller q) (nowhere q o at folder reached)).0) o.kind refl)
     ]
       where
         by_kind : (o.kind ≡ Folder → walk room caller q ≡ None → adds_there ≡ false) → (kind : Kind) → o.kind ≡ kind

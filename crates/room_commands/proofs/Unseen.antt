@@ -2,7 +2,7 @@
 use Rattle.std.proofs.Common.{◌≡◌, ◌⊎◌, ap, sym, ◌∙◌, Bool, true, false, ◌||◌, inl, inr}
 use Rattle.std.proofs.Common.{◌++◌, length, drop, None, Some, ◌==◌}
 use Rattle.std.specs.Prelude.{is_none}
-use Rattle.std.proofs.lemmas.Bool.{both_ways, or_parts, or_left, or_right, false_from_ne_true}
+use Rattle.std.proofs.lemmas.Bool.{both_ways, or_left, or_right, false_from_ne_true}
 use Rattle.room_acl.specs.declared.subject.Kind.{Kind}
 use Rattle.room_acl.specs.declared.subject.Kind.TheVariants.{File, Folder}
 use Rattle.room_acl.specs.Bits.{add_file, add_subdirectory, write_acl, write_owner}
@@ -15,8 +15,8 @@ use Rattle.room_commands.specs.CommandModel.{CommandModel, paths_of}
 use Rattle.room_commands.specs.Lawful.{IsLawful}
 use Rattle.room_commands.specs.Checks.{walk, is_at_or_below}
 use Rattle.room_commands.specs.Effect.{effect}
-use Rattle.room_commands.specs.Sight.{StayAlike, SameBelow, may, may_add, may_remove, may_set}
-use Rattle.room_commands.specs.Elsewhere.{IsOutOfSight, AddsNowhere, NameUnseen, FullUnseen}
+use Rattle.room_commands.specs.Sight.{StayAlike, SameBelow, may, may_remove}
+use Rattle.room_commands.specs.Elsewhere.{IsOutOfSight, AddsNowhere}
 use Rattle.room_commands.proofs.ChecksTell.{walk_ends_in_folder}
 use Rattle.room_commands.proofs.RoomsRenamed.{rest_below, one_continues}
 use Rattle.room_commands.proofs.Looks.{walk_to_folder}
@@ -24,7 +24,7 @@ use Rattle.room_commands.proofs.Staying.{Off, Below_p, Below_t, Away, place, lis
 use Rattle.room_commands.proofs.Staying.{some_folder}
 use Rattle.room_commands.proofs.Others.{stay_itself}
 use Rattle.room_commands.proofs.Elsewhere.{Leaves, by_result, blocked, fault_on}
-use Rattle.room_commands.proofs.NamesUnseen.{seen_unnamed}
+use Rattle.room_commands.proofs.NamesUnseen.{NameUnseen, FullUnseen, seen_unnamed}
 use Rattle.room_commands.proofs.Shorthands.{or_no_object}
 use Rattle.room_commands.specs.Checks.{right_to_add}
 
@@ -66,15 +66,14 @@ module _ (room later : Room) (caller : SubjectModel) (p t : Path) (is_room : IsR
   unnamed : (top : Path) → IsOutOfSight caller room top → NameUnseen caller room later top
   unnamed top unseen = record {
     unlisted = unseen.1;
-    depth = λ front rest is walked removes.
-        absurd (both_ways (may_remove room caller front) (unseen.2 front rest is walked).0 removes);
+    depth = λ front above walked removes. absurd (both_ways (may_remove room caller front)
+        (unseen.2 front (drop (length front) top) (rest_below front top above) walked).0 removes);
   }
 
   numbers_seen : FullUnseen caller room later
   numbers_seen = elim numbers [
     | inl same ↦ inl (ap (λ n. n == 0) same)
-    | inr nowhere ↦ inr (λ folder o at is_folder walked. (or_parts (may_add room caller folder)
-        (may_set room caller folder) (nowhere folder o at is_folder walked)).0)
+    | inr nowhere ↦ inr nowhere
   ]
 
   -- where the caller may add, no number was taken

@@ -21,13 +21,15 @@ use Rattle.room_commands.specs.Effect.{effect}
 use Rattle.room_commands.specs.Sight.{LooksAlike, StayAlike, HasNoPower, Own, Other, replies_among, may, may_remove}
 use Rattle.room_commands.specs.Sight.{view}
 use Rattle.room_commands.proofs.Shorthands.{replies}
-use Rattle.room_commands.specs.Elsewhere.{IsOutOfSight, AddsNowhere, rights_at, ListUnseen, NameUnseen}
+use Rattle.room_commands.specs.Elsewhere.{IsOutOfSight, AddsNowhere, rights_at, ListUnseen}
 use Rattle.room_commands.specs.Checks.{walk, is_at_or_below}
 use Rattle.room_acl.specs.Bits.{read_acl}
 use Rattle.room_commands.proofs.ListsUnseen.{unseen_setlist}
 use Rattle.room_commands.proofs.EffectIsRoom.{effect_is_room}
 use Rattle.room_commands.proofs.Unseen.{done_unseen}
-use Rattle.room_commands.proofs.NamesUnseen.{shown_unnamed}
+use Rattle.room_commands.proofs.NamesUnseen.{NameUnseen, shown_unnamed}
+use Rattle.room_commands.proofs.RoomsRenamed.{rest_below}
+use Rattle.std.proofs.Common.{length, drop}
 
 abbrev ann : SubjectModel
 ann = record { name = codes "ann"; groups = [] }
@@ -130,8 +132,8 @@ bob_sees_no_list = unseen_setlist locked bob ann h 2 [] None sealed_unseen
 name_unseen : NameUnseen bob locked (effect locked ann (C.Mkdir h_a)).room h_a
 name_unseen = record {
   unlisted = λ walked. (refl, refl);
-  depth = λ front rest is walked removes.
-      absurd (both_ways (may_remove locked bob front) (no_power front rest is walked).0 removes);
+  depth = λ front above walked removes. absurd (both_ways (may_remove locked bob front)
+      (no_power front (drop (length front) h_a) (rest_below front h_a above) walked).0 removes);
 }
 
 bob_sees_no_name : LooksAlike bob locked (effect locked ann (C.Mkdir h_a)).room
@@ -167,8 +169,8 @@ opened_is_room = effect_is_room locked ann
 only_the_name_unseen : NameUnseen bob (opened 32) (later 32) h_a
 only_the_name_unseen = record {
   unlisted = λ walked. (refl, refl);
-  depth = λ front rest is walked removes.
-      absurd (both_ways (may_remove (opened 32) bob front) (removes_none front rest is) removes);
+  depth = λ front above walked removes. absurd (both_ways (may_remove (opened 32) bob front)
+      (removes_none front (drop (length front) h_a) (rest_below front h_a above)) removes);
 }
 
 only_the_name_shows : (q : Path) → is_at_or_below q h_a ≡ false → view (later 32) bob q ≡ view (opened 32) bob q

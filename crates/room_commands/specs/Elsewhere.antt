@@ -1,5 +1,5 @@
 -- What a command of anybody's may change for a caller elsewhere (our own rules).
-use Rattle.std.specs.Prelude.{◌≡◌, ℕ, ◌⊎◌, true, false, ◌||◌, [], ◌∷◌, ◌++◌, Option, None, Some, is_none, Result}
+use Rattle.std.specs.Prelude.{◌≡◌, ℕ, true, false, ◌||◌, [], ◌∷◌, ◌++◌, Option, None, Some, is_none, Result}
 use Rattle.std.specs.Option.{option_map}
 use Rattle.std.specs.Result.{result_map_both}
 use Rattle.room_acl.specs.declared.subject.Kind.TheVariants.{Folder}
@@ -9,16 +9,13 @@ use Rattle.room_acl.specs.Access.{allowed_mask}
 use Rattle.room_records.specs.Names.{Name, Path}
 use Rattle.room_records.specs.Room.{Object, Room, object_at, list_of, standing_of, parent_of}
 use Rattle.room_commands.specs.ReplyModel.{Refusal, Attributes}
-use Rattle.room_commands.specs.Checks.{walk, is_at_or_below, is_full, check_folder_full}
-use Rattle.room_commands.specs.Sight.{Sight, view, may, may_add, may_remove, may_set, depth_in, HasNoPower}
+use Rattle.room_commands.specs.Checks.{walk, is_at_or_below}
+use Rattle.room_commands.specs.Sight.{Sight, view, may, may_add, may_set, HasNoPower}
 
--- a path is not at or below another one, unless the caller cannot reach that one
-abbrev pub IsOffOne : SubjectModel → Room → Path → Path → Type 0
-IsOffOne caller room top path = is_at_or_below path top ≡ true → is_none (walk room caller top) ≡ false
-
--- so it is with both
+-- a path is not at or below either of two, unless the caller cannot reach that one
 abbrev pub IsOff : SubjectModel → Room → Path × Path → Path → Type 0
-IsOff caller room paths path = IsOffOne caller room paths.0 path × IsOffOne caller room paths.1 path
+IsOff caller room paths path = (is_at_or_below path paths.0 ≡ true → is_none (walk room caller paths.0) ≡ false)
+    × (is_at_or_below path paths.1 ≡ true → is_none (walk room caller paths.1) ≡ false)
 
 -- it is the folder of neither
 abbrev pub HoldsNeither : Path × Path → Path → Type 0
@@ -62,23 +59,6 @@ IsOutOfSight caller room path = (is_none (walk room caller path) ≡ false) × I
 abbrev pub AddsNowhere : SubjectModel → Room → Type 0
 AddsNowhere caller room = (folder : Path) (o : Object) → object_at room folder ≡ Some o → o.kind ≡ Folder
     → walk room caller folder ≡ None → (may_add room caller folder || may_set room caller folder) ≡ false
-
--- a path of which the folder shows no names, and each folder above that the caller may remove goes as deep as before
-pub record NameUnseen (caller : SubjectModel) (room later : Room) (path : Path) : Type 0 where
-  pub unlisted : IsUnlisted caller room path
-  pub depth : (front rest : Path) → path ≡ front ++ rest → walk room caller front ≡ None
-      → may_remove room caller front ≡ true → depth_in front later.objects ≡ depth_in front room.objects
-
--- the rooms have both a number left, or neither has, or the caller reaches no folder to which it may add
-abbrev pub FullUnseen : SubjectModel → Room → Room → Type 0
-FullUnseen caller room later = (is_full later ≡ is_full room)
-    ⊎ ((folder : Path) (o : Object) → object_at room folder ≡ Some o → o.kind ≡ Folder
-    → walk room caller folder ≡ None → may_add room caller folder ≡ false)
-
--- each folder to which the caller may add takes one more object in both rooms, or in neither
-abbrev pub FoldersFullUnseen : SubjectModel → Room → Room → Type 0
-FoldersFullUnseen caller room later = (folder : Path) → walk room caller folder ≡ None
-    → may_add room caller folder ≡ true → check_folder_full later folder ≡ check_folder_full room folder
 
 -- which rights the caller has on what is at a path
 abbrev pub rights_at : Room → SubjectModel → Path → Option ℕ

@@ -1,7 +1,7 @@
 //! Laws of rooms and commands. Each function here does nothing: its contract is what the definitions
 //! are meant to say, proved of them.
 ghost use Rattle.std.specs.Prelude.{◌≡◌, ℕ, true, false, List, [], ◌∷◌, ◌++◌, Some, None, map, if◌then◌else◌, ◌↔◌};
-ghost use Rattle.std.specs.Prelude.{Contains, ◌⊎◌, Ok, Err, is_none};
+ghost use Rattle.std.specs.Prelude.{Contains, ◌⊎◌, ◌||◌, Ok, Err, is_none};
 ghost use Rattle.std.specs.List.{AllByRecursion};
 ghost use Rattle.std.specs.List.Sorted.{IsStrictlySortedBy};
 ghost use Rattle.room_acl.specs.declared.subject.Kind.{Kind};
@@ -21,6 +21,7 @@ ghost use Rattle.room_commands.specs.declared.reply.RefusalCode.TheVariants.{NoE
 ghost use Rattle.room_commands.specs.SetList.{own_entries_of_setlist};
 ghost use Rattle.room_commands.specs.Lawful.{IsLawful};
 ghost use Rattle.room_commands.specs.Checks.{bytes_at, is_at_or_below, walk, refusal_without_place};
+ghost use Rattle.room_commands.specs.Checks.{is_full, check_folder_full};
 ghost use Rattle.room_commands.specs.Effect.{effect};
 ghost use Rattle.room_commands.specs.Needs.{NeedsAllowed, IsDenial};
 ghost use Rattle.room_commands.specs.Sight.{LooksAlike, StayAlike, BytesUnseen, HasNoPower, OthersUnseen, Turn};
@@ -28,9 +29,9 @@ ghost use Rattle.room_commands.specs.OtherBytes.{room_with, command_with, reply_
 ghost use Rattle.room_commands.specs.Made.{with_more, IsRoomFull};
 ghost use Rattle.room_commands.specs.Elsewhere.{IsOff, HoldsNeither, IsAboveNeither, but_full, but_depth};
 ghost use Rattle.room_commands.specs.Elsewhere.{but_names, view_less, IsOutOfSight, AddsNowhere, ListUnseen};
-ghost use Rattle.room_commands.specs.Elsewhere.{IsUnlisted, NameUnseen, FullUnseen, FoldersFullUnseen};
-ghost use Rattle.room_commands.specs.Sight.{may, changes_bytes_alone, Own, own_turns, replies_among};
-ghost use Rattle.room_commands.specs.Sight.{Sight, view, IsSightTold};
+ghost use Rattle.room_commands.specs.Elsewhere.{IsUnlisted};
+ghost use Rattle.room_commands.specs.Sight.{may, may_add, may_remove, changes_bytes_alone, Own, own_turns};
+ghost use Rattle.room_commands.specs.Sight.{Sight, view, IsSightTold, depth_in, replies_among};
 
 /// A fresh room is a room.
 pub fn a_fresh_room_is_a_room()
@@ -255,33 +256,29 @@ pub fn a_command_shows_at_its_paths()
 /// What others make, remove or move in folders of which a caller sees neither the names nor how many they are shows
 /// little: but for paths at and below theirs that the caller can reach, only how deep a folder goes, and whether a
 /// number is left (`unlisted`). Where these two do not show, nothing does (`elsewhere`). So if the caller can reach no
-/// path of theirs, the rooms look alike to it (`alike`); and if it can but does not name one, it is answered as before,
-/// FOLDER_FULL aside (`answer`).
+/// path of theirs, the rooms look alike to it; and if it can but does not name one, it is answered as before,
+/// FOLDER_FULL aside.
 pub fn names_unseen_do_not_show()
     ensures unlisted { (room : Room) (caller other : SubjectModel) (command : CommandModel) (path : Path) →
         IsLawful command → IsRoom room → IsUnlisted caller room (paths_of command).0 →
         IsUnlisted caller room (paths_of command).1 → IsOff caller room (paths_of command) path →
         view_less but_depth (effect room other command).room caller path ≡ view_less but_depth room caller path }
-    ensures elsewhere { (room : Room) (caller other : SubjectModel) (command : CommandModel) (path : Path) →
-        IsLawful command → IsRoom room →
-        NameUnseen caller room (effect room other command).room (paths_of command).0 →
-        NameUnseen caller room (effect room other command).room (paths_of command).1 →
-        FullUnseen caller room (effect room other command).room → IsOff caller room (paths_of command) path →
-        view (effect room other command).room caller path ≡ view room caller path }
-    ensures alike { (room : Room) (caller other : SubjectModel) (command : CommandModel) →
-        IsLawful command → IsRoom room →
-        NameUnseen caller room (effect room other command).room (paths_of command).0 →
-        NameUnseen caller room (effect room other command).room (paths_of command).1 →
-        FullUnseen caller room (effect room other command).room →
-        is_none (walk room caller (paths_of command).0) ≡ false →
+    ensures elsewhere { (room : Room) (caller other : SubjectModel) (command : CommandModel) →
+        IsLawful command → IsRoom room → IsUnlisted caller room (paths_of command).0 →
+        IsUnlisted caller room (paths_of command).1 →
+        ((front : Path) →
+        (is_at_or_below (paths_of command).0 front || is_at_or_below (paths_of command).1 front) ≡ true
+        → walk room caller front ≡ None → may_remove room caller front ≡ true →
+        depth_in front (effect room other command).room.objects ≡ depth_in front room.objects) →
+        (is_full (effect room other command).room ≡ is_full room) ⊎ AddsNowhere caller room →
+        ((path : Path) → IsOff caller room (paths_of command) path →
+        view (effect room other command).room caller path ≡ view room caller path)
+        × (is_none (walk room caller (paths_of command).0) ≡ false →
         is_none (walk room caller (paths_of command).1) ≡ false →
-        LooksAlike caller room (effect room other command).room }
-    ensures answer { (room : Room) (caller other : SubjectModel) (command own : CommandModel) →
-        IsLawful command → IsLawful own → IsRoom room →
-        NameUnseen caller room (effect room other command).room (paths_of command).0 →
-        NameUnseen caller room (effect room other command).room (paths_of command).1 →
-        FullUnseen caller room (effect room other command).room →
-        FoldersFullUnseen caller room (effect room other command).room →
+        LooksAlike caller room (effect room other command).room)
+        × ((own : CommandModel) → IsLawful own →
+        ((folder : Path) → walk room caller folder ≡ None → may_add room caller folder ≡ true →
+        check_folder_full (effect room other command).room folder ≡ check_folder_full room folder) →
         IsOff caller room (paths_of command) (paths_of own).0 → IsOff caller room (paths_of command) (paths_of own).1 →
-        (effect (effect room other command).room caller own).reply ≡ (effect room caller own).reply }
+        (effect (effect room other command).room caller own).reply ≡ (effect room caller own).reply) }
 {}
