@@ -252,11 +252,11 @@ def stopped(machine, step, *words, stdin=""):
 
 
 def lost_in(machine, logins):
-    """Who has another login than before, and neither was its password told nor that it may not have been."""
-    said = text_of(os.path.join(machine.folder, "said"))
-    users = [it.partition(":")[0] for it in text_of(machine.at("etc/nginx/fileroom/users")).splitlines()
-             if it not in logins and ":{SSHA}" in it]
-    words = {it: re.search(f"the password of {it}: (.*)", said) for it in users}
+    """Who has another password than anybody before, and neither was it told nor that it may not have been."""
+    said, known = text_of(os.path.join(machine.folder, "said")), {it.partition(":")[2] for it in logins}
+    now = [it.partition(":") for it in text_of(machine.at("etc/nginx/fileroom/users")).splitlines()]
+    users = [user for user, _, its_hash in now if its_hash not in known and its_hash.startswith("{SSHA}")]
+    words = {it: re.search(f"(?m)^(?:the password of {it}: |{it},)(.*)", said) for it in users}
     return [it for it in users if f"fileroom-admin user passwd {it}" not in said
             and not (words[it] and fits(machine, it, words[it][1]))]
 
