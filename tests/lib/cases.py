@@ -8,9 +8,10 @@ import os
 import random
 import re
 import threading
+import time
 import tomllib
 
-from served import HERE, Line, session, slot
+from served import HERE, Line, session, slot, until
 
 TOP, TRASH = "/cases", "/trash/@d/ann"
 NAME, PIECE, MARK = ".room-file", 65536, "0123456789abcdef"
@@ -18,7 +19,9 @@ PRIVATE = [{"flag": flag, "mask": 0x1F07FF, "type": 0, "who": it} for it, flag i
 OPEN = [*PRIVATE, {"flag": 3, "mask": 0x1200A9, "type": 0, "who": "bob"}]
 TRASHES = {"own": (TRASH, 2, PRIVATE), "older": ("/trash/ann", 2, PRIVATE), "open": (TRASH, 2, OPEN),
            "inherits": (TRASH, 1, PRIVATE), "bob's": (TRASH, 2, PRIVATE)}
-PIECES = re.compile(r"\.room-pieces-[0-9a-f]{16}")
+PIECES, GONE = (re.compile(rf"\.room-{it}-[0-9a-f]{{16}}") for it in ("pieces", "gone"))
+COUNTS, BEHIND = {"spare": 0, "extra": 0}, 20  # seconds until all is done that comes behind an answer
+ASKS = re.compile(rb'"cmd":"(CREATE|MKDIR|WRITE)",.*"path":"([^"]*)"', re.DOTALL)
 INHERITED, ENTRY = 0x80, re.compile("([+-])(.+):([0-9A-Fx]+):([0-9]+)")
 STEP = re.compile(r"(\w+) (.*?)(?: ([=!&]) (.*))?")
 with open(os.path.join(HERE, "cases", "cases.toml"), "rb") as file:
@@ -37,7 +40,8 @@ class Marks(dict):
 
 
 NAMES = {"P": f".room-pieces-{MARK}", "OTHER": f".room-pieces-{MARK[::-1]}", "W": f".room-writing-{MARK}",
-         "G": f".room-gone-{MARK}", "new": Marks(begins=".room-new-"), "gone": Marks(begins=".room-gone-"),
+         "G": f".room-gone-{MARK}", "G2": f".room-gone-{MARK[::-1]}", "new": Marks(begins=".room-new-"),
+         "gone": Marks(begins=".room-gone-"),
          "deep": ["/".join("d" * it) for it in range(15)], **TABLE["names"]}
 
 
@@ -171,6 +175,9 @@ class Laid:
         elif kind == "large":
             self.need_folder(path)
             self.write(path, some(words[0]), NAMES["P"])
+            for it in range(counts(words)["spare"]):
+                self.need_folder(f"{path}/{NAMES['G']}")
+                self.room.put("CREATE", f"{path}/{NAMES['G']}/{it:03}", b"")
         else:
             self.room.put("CREATE", path, some(kind))
 
@@ -196,17 +203,26 @@ class Laid:
         return found
 
     def version(self, path, names):
-        """The bytes of a large file that is whole, by the form that docs/FILES.md has, and where its pieces are."""
+        """The bytes of a large file that is whole, by the form that docs/FILES.md has, where its pieces are, and how
+        many empty documents lie behind these."""
         text = self.room.bytes(f"{path}/{NAME}") if NAME in names else None
         folder = next((it for it in names if text and it.encode() in text), None)
         if not folder or not PIECES.fullmatch(folder):
-            return None, None
+            return None, None, 0
         pieces = sorted(self.room.names(f"{path}/{folder}"))
         parts = [self.room.bytes(f"{path}/{folder}/{it}") for it in pieces]
         data = b"".join(it or b"" for it in parts)
         its = manifest_of(data, folder)
-        is_it = text == compact(its) and pieces == its["pieces"] and parts == pieces_of(data)
-        return (data, folder) if is_it else (None, None)
+        extra = len(pieces) - len(its["pieces"])
+        is_it = text == compact(its) and pieces == numbered(len(pieces)) and parts == pieces_of(data) + extra * [b""]
+        return (data, folder, extra) if is_it else (None, None, 0)
+
+    def spare(self, path, names):
+        """The folder of empty documents that a large file has besides, and how many they are."""
+        gone = [it for it in names if GONE.fullmatch(it)]
+        inside = sorted(self.room.names(f"{path}/{gone[0]}")) if len(gone) == 1 else []
+        is_it = inside == numbered(len(inside)) and not any(self.room.bytes(f"{path}/{gone[0]}/{it}") for it in inside)
+        return (gone[0], len(inside)) if inside and is_it else (None, 0)
 
     def held(self, path):
         """The bytes of a file, or None where there is none."""
@@ -228,21 +244,27 @@ class Laid:
             found[name] = "document", data, *self.how(path, [])
             return
         names = self.room.names(path)
-        data, folder = self.version(path, names)
-        parts = [f"{path}/{NAME}", *self.kinds(f"{path}/{folder}")] if folder and self.looks else []
-        found[name] = "large" if folder else "folder", data, *self.how(path, parts)
+        data, folder, extra = self.version(path, names)
+        spare, many = self.spare(path, names) if folder else (None, 0)
+        seen = [it for it in (NAME, folder, spare) if folder and it]
+        parts = [part for it in seen for part in self.kinds(f"{path}/{it}", names[it])] if self.looks else []
+        found[name] = large(many, extra) if folder else "folder", data, *self.how(path, parts)
         for it, its in names.items():
-            if not folder or it not in (NAME, folder):
+            if it not in seen:
                 self.look(found, f"{name}/{it}", f"{path}/{it}", its)
 
     def how(self, path, parts):
-        """Whose all of it is, and its list."""
+        """Whose all of it is, and its list, which the parts follow."""
         if not self.looks:
             return read_how([])
         owners = {"{owner}:{group}".format(**self.room.tells("STAT", it)) for it in [path, *parts]}
+        own = self.own(path)
+        odd = [it for it in parts if self.own(it) != (1, [])]
+        return " ".join(sorted(owners) + odd), *own
+
+    def own(self, path):
         its = self.room.tells("GETLIST", path)
-        own = [it for it in its["entries"] if not it["flag"] & INHERITED]
-        return " ".join(sorted(owners)), its["aclflag"], own
+        return its["aclflag"], [it for it in its["entries"] if not it["flag"] & INHERITED]
 
     def wanted(self, lines):
         found = {}
@@ -260,8 +282,22 @@ class Laid:
                 found[name] = "document", odd_manifest(words), *how
             else:
                 data = None if kind == "folder" else some(words[0] if kind == "large" else kind)
-                found[name] = kind if kind in ("folder", "large") else "document", data, *how
+                told = large(**counts(words)) if kind == "large" else kind
+                found[name] = told if kind in ("folder", "large") else "document", data, *how
         return found
+
+
+def numbered(count):
+    return [f"{it:03}" for it in range(count)]
+
+
+def counts(words):
+    """Of the empty documents that a large file has besides."""
+    return COUNTS | {it.partition("=")[0]: int(it.partition("=")[2]) for it in words if it.startswith((*COUNTS,))}
+
+
+def large(spare, extra):
+    return " ".join(["large", *[f"{name}={it}" for name, it in (("spare", spare), ("extra", extra)) if it]])
 
 
 def read_how(words):
@@ -291,6 +327,8 @@ class Played:
         self.number, self.case, self.player, self.judge = number, case, player, judge
         self.differs = lambda name, got, want: differs(f"{player.name}: {case['name']}: {name}", got, want)
         self.lock, self.seen, self.is_due = threading.Lock(), [], True
+        self.asked, self.heard_at = set(), 0  # what was made or written, and when something was asked last
+        self.quiet = getattr(player, "quiet", 0)
 
     def play(self):
         case = self.case
@@ -302,25 +340,37 @@ class Played:
             for line in case.get("before", []):
                 laid.lay(line)
             before = laid.found()
-        if {"reader", "meanwhile"} & case.keys():
-            self.player.watch(self.request)
+        self.player.watch(self.request)
         try:
             for step in case["does"]:
                 self.step(laid, laid.named(step))
+            want = laid.wanted(case["after"]) if "after" in case else before
+            until(lambda: self.is_quiet() and self.found(laid) == want, BEHIND if self.quiet else 0)
         finally:
             self.player.watch(None)
-        self.look(laid, before)
-
-    def look(self, laid, before):
-        case = self.case
-        with self.lock, self.judge:  # (a request may still be under way)
-            found, want = laid.found(), laid.wanted(case["after"]) if "after" in case else before
-            if found != want:
-                is_same = brief(found) == brief(want)
-                self.differs("what is there", brief(found), "other bytes" if is_same else brief(want))
-            self.differs("all is as it is to be", found == want, True)
-            if "trash" in case:
+        self.look(laid, want)
+        if "trash" in case:
+            with self.lock, self.judge:
                 laid.remove_all("/trash")
+
+    def is_quiet(self):
+        """Whether the player has asked for nothing for as long as it says, if it goes on behind its answers."""
+        return time.monotonic() - self.heard_at >= self.quiet
+
+    def found(self, laid):
+        with self.lock, self.judge:  # (a request may still be under way)
+            return laid.found()
+
+    def look(self, laid, want):
+        case, found = self.case, self.found(laid)
+        if found != want:
+            is_same = brief(found) == brief(want)
+            self.differs("what is there", brief(found), "other bytes" if is_same else brief(want))
+        self.differs("all is as it is to be", found == want, True)
+        made = sum(cmd != b"WRITE" and b"/.room-writing-" in path for cmd, path in self.asked)
+        self.differs("what is made", made, case.get("makes", made))
+        wrote = sum(cmd != b"MKDIR" for cmd, _ in self.asked)
+        self.differs("what is written", wrote, case.get("writes", wrote))
         if "reader" in case:
             wanted = [None if it == "nothing" else some(it) for it in case["reader"][1:]]
             sizes = [None if it is None else len(it) for it in self.seen]
@@ -330,6 +380,11 @@ class Played:
 
     def request(self, body):
         """What happens before a request of the player comes to the room."""
+        asks = ASKS.search(body)
+        self.heard_at = time.monotonic()
+        self.asked |= {asks.groups()} if asks else set()
+        if not {"reader", "meanwhile"} & self.case.keys():
+            return
         with self.lock, self.judge as room:
             laid = Laid(room, self.number, self.case)
             if "reader" in self.case:
