@@ -40,7 +40,7 @@ class Marks(dict):
 
 
 NAMES = {"P": f".room-pieces-{MARK}", "OTHER": f".room-pieces-{MARK[::-1]}", "W": f".room-writing-{MARK}",
-         "G": f".room-gone-{MARK}", "G2": f".room-gone-{MARK[::-1]}", "new": Marks(begins=".room-new-"),
+         "G": f".room-gone-{MARK[8:]}{MARK[:8]}", "G2": f".room-gone-{MARK[::-1]}", "new": Marks(begins=".room-new-"),
          "gone": Marks(begins=".room-gone-"),
          "deep": ["/".join("d" * it) for it in range(15)], **TABLE["names"]}
 
@@ -219,10 +219,10 @@ class Laid:
 
     def spare(self, path, names):
         """The folder of empty documents that a large file has besides, and how many they are."""
-        gone = [it for it in names if GONE.fullmatch(it)]
-        inside = sorted(self.room.names(f"{path}/{gone[0]}")) if len(gone) == 1 else []
-        is_it = inside == numbered(len(inside)) and not any(self.room.bytes(f"{path}/{gone[0]}/{it}") for it in inside)
-        return (gone[0], len(inside)) if inside and is_it else (None, 0)
+        inside = {it: sorted(self.room.names(f"{path}/{it}")) for it in names if GONE.fullmatch(it)}
+        fits = {it: len(found) for it, found in inside.items() if found and found == numbered(len(found)) and not any(
+            self.room.bytes(f"{path}/{it}/{one}") for one in found)}
+        return fits.popitem() if len(fits) == 1 else (None, 0)
 
     def held(self, path):
         """The bytes of a file, or None where there is none."""
