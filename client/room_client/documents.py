@@ -388,6 +388,6 @@ def trash_can(room: Room, asked) -> None:
             raise BadWords("room trash restore NAME [TO]")
         print(f"{shown(trash.restore(room, *asked.names, *[None] * (2 - len(asked.names))))}: restored")
     else:
-        for name in room.children(trash.need_trash(room)):
+        for name in trash.shown_in(room, trash.need_trash(room)):
             its = trash.told_by(name)
             print(f"{shown(its.name)}  ({its.words()})" if its else shown(name))

@@ -1,12 +1,13 @@
 """Files of up to 16 MiB: a small one is a document, and a large one a folder with pieces and a manifest."""
 import base64
-from collections.abc import Callable, Sequence
+from collections.abc import Callable, Iterable, Sequence
 from dataclasses import dataclass
 
-from . import manifest as form
+from . import manifest as form, spares
 from .faults import ACCESS, Fault, NotWhole, OtherVersion, Refused, refused
 from .manifest import MOST, Manifest, read_manifest
 from .room import MOST_BYTES, Room, unheard
+from .spares import has_own_list
 from .words import FILE, FOLDER, INHERITED, TO_FILES, TO_FOLDERS, shown
 
 TRIES = 5  # of a reader that meets one new version after another
@@ -17,6 +18,7 @@ WRITE, APPEND = 0x2, 0x4
 TOO_LARGE = "a file has at most 16 MiB (16,777,216 bytes): split it; nothing was sent"
 DEEPEST = 14  # names of the path of a large file
 MOST_KEPT = 50  # bytes of a name that a mark follows
+MOST_TRIED = 2  # spares
 
 
 def folder_of(path: str) -> tuple[str, str]:
@@ -169,11 +171,6 @@ def put(room: Room, path: str, data: bytes, *, is_new: bool = False, fills: bool
     return True
 
 
-def has_own_list(its: dict) -> bool:
-    """Whether a list is another than what was handed down."""
-    return its["aclflag"] != 1 or not all(it["flag"] & INHERITED for it in its["entries"])
-
-
 def other_owner(room: Room, path: str) -> str | None:
     """Who else owns it, as far as one may see."""
     reply, = room.ask_all([{"cmd": "STAT", "path": path}])
@@ -184,18 +181,19 @@ def takes_versions(room: Room, path: str) -> bool:
     return form.is_unfinished(room.children(path)) or manifest_in(room, path) is not None
 
 
-class Creates(Sequence):
-    """The requests that make the pieces of a version, each of which is made when it is its turn."""
+class Puts(Sequence):
+    """The requests that make the pieces of a version, or write them where a document is, each of which is made when it
+    is its turn."""
 
-    def __init__(self, folder: str, data: bytes, its: Manifest):
-        self.folder, self.data, self.its = folder, data, its
+    def __init__(self, folder: str, data: bytes, its: Manifest, there: frozenset[str]):
+        self.folder, self.data, self.its, self.there = folder, data, its, there
 
     def __len__(self) -> int:
         return len(self.its.pieces)
 
     def __getitem__(self, at: int) -> dict:
-        name, piece = self.its.pieces[at], form.piece(self.data, at)
-        return {"cmd": "CREATE", "data": base64.b64encode(piece).decode(), "path": f"{self.folder}/{name}"}
+        name, data = self.its.pieces[at], base64.b64encode(form.piece(self.data, at)).decode()
+        return {"cmd": "WRITE" if name in self.there else "CREATE", "data": data, "path": f"{self.folder}/{name}"}
 
 
 @dataclass
@@ -211,34 +209,42 @@ class Upload:
         self.its = Manifest.of(self.data)
         self.names: dict[str, str] = {}  # what was in the folder as it began
         self.before: bytes | None = None  # the manifest's text then
+        self.whole: dict | None = None  # the folder then, as STAT tells it
+        self.there: frozenset[str] = frozenset()  # documents of the spare that was taken
 
     def run(self, is_new: bool, fills: bool) -> bool:
-        """Whether something was there before."""
+        """Whether something was there before. What was before the version is cleared behind the answer."""
         if self.path.count("/") > DEEPEST:
             raise Refused({"code": 10, "error": "TOO_DEEP"}, {"path": self.path})
+        self.room.settle()
         made, its_document = self.begin(is_new, fills)
         if its_document is not None:
             Replacement(self, its_document).run()
-            return True
+        elif self.is_there():
+            self.behind(self.tidy_same)
+        else:
+            self.put_version(made)
+        return not made
+
+    def put_version(self, made: bool) -> None:
         try:
-            self.put_pieces(self.path)
+            self.put_pieces(self.path, self.spares())
         except Refused:
             if made:
                 remove_one(self.room, self.path)
             raise
         if not made:
-            self.share(pieces_at(self.path, self.its))
+            self.share(self.made_pieces())
             if text_at(self.room, self.path) != self.before:
                 self.give_way("")
         self.put_manifest(self.path, self.before is None)
         if self.before is None and not made:
             self.share([[f"{self.path}/{form.NAME}"]])
         try:
-            self.look_after()
-            clear_beside(self.room, self.path)
+            names = self.look_after()
         except Refused as fault:
-            self.room.say(f"{shown(self.path)}: it is there, and what was before it is not cleared: {fault}")
-        return not made
+            return self.tell_left(fault)
+        self.behind(lambda: self.tidy(names))
 
     def begin(self, is_new: bool, fills: bool) -> tuple[bool, dict | None]:
         """Whether the file's folder was made, and the document (as STAT has it) that is there instead."""
@@ -248,7 +254,7 @@ class Upload:
         except Refused as fault:
             if is_new or not refused_as(fault, "EXIST"):
                 raise
-        its = self.room.stat(self.path)
+        its = self.whole = self.room.stat(self.path)
         if its["kind"] == FILE:
             return False, its
         self.names = self.room.children(self.path)
@@ -258,9 +264,19 @@ class Upload:
             self.need_own(its)
         elif not (self.before and read_manifest(self.before)):
             raise Refused({"code": 3, "error": "ISDIR"}, {"path": self.path})
-        if is_left or any(it.startswith((form.WRITING, form.GONE)) for it in self.names):
+        if is_left or any(it.startswith(form.WRITING) for it in self.names):
             self.room.say(f"{shown(self.path)}: an upload was stopped here, or is under way: what it left is cleared")
         return False, None
+
+    def is_there(self) -> bool:
+        """Whether the file has these very bytes. (What is damaged is written anew.)"""
+        its = read_manifest(self.before) if self.before else None
+        if its is None or (its.sha256, its.size) != (self.its.sha256, self.its.size):
+            return False
+        try:
+            return pieces_of(self.room, self.path, its, self.heard) is not None
+        except Refused:
+            return False
 
     def need_own(self, its: dict) -> None:
         """That this folder is as the user would have made it. (Anyone who may add could make one under a name that
@@ -274,11 +290,31 @@ class Upload:
             return
         raise Refused({"code": 3, "error": "ISDIR"}, {"path": self.path}, f"{why}: take another name")
 
-    def put_pieces(self, at: str) -> None:
+    def spares(self) -> list[str]:
+        return [it for it in self.names if it.startswith(form.GONE)]
+
+    def take(self, spare: str) -> str | None:
+        """The folder's path, once it is this upload's and nobody else's, and fits."""
+        before, writing = f"{self.path}/{spare}", f"{self.path}/{form.other_name(form.WRITING)}"
+        try:
+            self.room.rename(before, writing)
+            there = spares.documents_of(self.room, writing, self.whole)
+            if there is not None:
+                self.there = there
+                return writing
+            self.room.rename(writing, before)  # (there it is cleared, or told and left)
+        except Refused:
+            pass  # (somebody else took it)
+        return None
+
+    def put_pieces(self, at: str, from_spares: Sequence[str] = ()) -> None:
         """All pieces in a folder of that name, which is there once they are."""
-        writing = f"{at}/{form.other_name(form.WRITING)}"
-        self.room.ask({"cmd": "MKDIR", "path": writing}, is_step=True)
-        commands = Creates(writing, self.data, self.its)
+        self.there = frozenset()
+        writing = next(filter(None, map(self.take, from_spares[:MOST_TRIED])), None)
+        if writing is None:
+            writing = f"{at}/{form.other_name(form.WRITING)}"
+            self.room.ask({"cmd": "MKDIR", "path": writing}, is_step=True)
+        commands = Puts(writing, self.data, self.its, self.there)
         replies = self.room.ask_all(commands, self.heard)
         failed = next((at for at, it in enumerate(replies) if it["code"] != 0), None)
         try:
@@ -289,11 +325,21 @@ class Upload:
             if refused_as(fault, "NOENT"):
                 self.give_way("")
             clear(self.room, at, writing.rpartition("/")[2])
-            raise
+            if not self.there:
+                raise
+            self.put_pieces(at)
+
+    def made_pieces(self) -> list[list[str]]:
+        """What was made, and not taken from before."""
+        pieces, folder = pieces_at(self.path, self.its)
+        return [[it for it in pieces if it.rpartition("/")[2] not in self.there], [] if self.there else folder]
 
     def share(self, levels: list[list[str]]) -> None:
         """What was made belongs to whom the file belongs, who may have no rights on what is somebody else's."""
-        its, ours = self.room.stat(self.path), self.room.stat(levels[-1][0])
+        made = [it for paths in levels for it in paths]
+        if not made:
+            return
+        its, ours = self.whole or self.room.stat(self.path), self.room.stat(made[-1])
         whose = its["owner"], its["group"]
         if whose != (ours["owner"], ours["group"]):
             refusal = give_each(self.room, levels, *whose)
@@ -317,18 +363,87 @@ class Upload:
             clear(self.room, at, self.its.folder)
             raise
 
-    def look_after(self) -> None:
-        """Whether the new version is whole, and then clears what was before it."""
+    def look_after(self) -> dict[str, str]:
+        """Whether the new version is whole. What is in the file beside it."""
         now = text_at(self.room, self.path)
         if now != self.its.text():
-            return self.give_way(", and came right behind yours")
+            self.give_way(", and came right behind yours")
         names = self.room.children(self.path)
         if self.its.folder not in names:  # (another writer, who began before, took it for left over)
             self.put_pieces(self.path)
+            self.share(self.made_pieces())
+        return names
+
+    # Behind the answer
+
+    def behind(self, tidies: Callable[[], None]) -> None:
+        def tidy() -> None:
+            try:
+                tidies()
+                clear_beside(self.room, self.path)
+            except Fault as fault:
+                self.tell_left(fault)
+        self.room.behind(tidy)
+
+    def tell_left(self, fault: Fault) -> None:
+        self.room.say(f"{shown(self.path)}: it is there, and what was before it is not cleared: {fault}")
+
+    def tidy(self, names: dict[str, str]) -> None:
+        """What was the version until now is the spare of the next one."""
         old = read_manifest(self.before) if self.before else None
-        for name in names:
-            is_old = name.startswith(form.PIECES) and name != self.its.folder and (
-                name in self.names or old and name == old.folder)
+        gone = old and form.GONE + old.folder.removeprefix(form.PIECES)
+        kept = {old.folder, gone} if old and self.empty(old.folder, gone) else set()
+        self.look_at_taken()
+        self.clear_others({*names, gone} - {None}, {self.its.folder, *kept})
+
+    def tidy_same(self) -> None:
+        spare = next((it for it in self.spares() if spares.is_empty(self.room, f"{self.path}/{it}") or
+                      self.empty(it, it)), None)
+        self.clear_others(self.names, {read_manifest(self.before).folder, spare})
+
+    def empty(self, name: str, gone: str) -> bool:
+        """Whether these pieces lie there without bytes, under the other name."""
+        try:
+            found = pieces_in(self.room, f"{self.path}/{name}")
+            if found and name != gone:
+                self.room.rename(f"{self.path}/{name}", f"{self.path}/{gone}")
+            if found:
+                spares.empty(self.room, [f"{self.path}/{gone}{it}" for it in found[0]])
+            return found is not None
+        except Refused as fault:
+            return refused_as(fault, "NOENT")
+
+    def look_at_taken(self) -> None:
+        """Whether each document that took a piece is as a new one is. Of the others none keeps bytes."""
+        folder = f"{self.path}/{self.its.folder}"
+        taken, over = ([f"{folder}/{it}" for it in sorted(some)] for some in (
+            self.there & {*self.its.pieces}, self.there - {*self.its.pieces}))
+        if not spares.are_as_new(self.room, taken, self.whole):
+            return self.put_anew()
+        try:
+            if len(over) <= len(self.its.pieces):
+                return spares.empty(self.room, over)
+        except Refused:
+            pass
+        remove_levels(self.room, [over])
+
+    def put_anew(self) -> None:
+        """The version once more, where it stands, in pieces that are made for it."""
+        bad, self.before = self.its.folder, self.its.text()
+        if text_at(self.room, self.path) != self.before:
+            return
+        self.its = Manifest.of(self.data)
+        self.put_pieces(self.path)
+        self.share(self.made_pieces())
+        if text_at(self.room, self.path) != self.before:
+            return clear(self.room, self.path, self.its.folder)
+        self.put_manifest(self.path, False)
+        clear(self.room, self.path, bad)
+        self.room.say(f"{shown(self.path)}: somebody had prepared a piece of it: it was written anew")
+
+    def clear_others(self, names: Iterable[str], kept: set) -> None:
+        for name in {*names} - kept:
+            is_old = name.startswith(form.PIECES) and name in self.names
             if is_old or name.startswith((form.WRITING, form.GONE)):
                 clear(self.room, self.path, name)
 
@@ -474,8 +589,7 @@ def pieces_in(room: Room, path: str) -> list[list[str]] | None:
     if room.stat(path)["kind"] == FILE:
         return None
     names = room.children(path)
-    fits = all(kind == FILE and form.OUR_PIECE.fullmatch(it) for it, kind in names.items())
-    return [[f"/{it}" for it in names], [""]] if fits else None
+    return [[f"/{it}" for it in names], [""]] if spares.are_pieces(names) else None
 
 
 def file_at(room: Room, path: str) -> list[list[str]] | None:

@@ -10,7 +10,7 @@ from .line import Line
 from .settings import Settings
 from .slots import Crew, Pace, Slot, compact, told
 from .state import SLOTS, State
-from .words import is_part, shown, whole_of
+from .words import is_behind, is_part, shown, whole_of
 
 MOST_BYTES = 65536  # of a document
 SAME = "that was this very request, done once: give it again to do it a second time"
@@ -40,6 +40,7 @@ class Room:
         self.state: State | None = None
         self.finished: list[tuple[dict, dict]] = []  # what was pending, and its reply
         self.was_pending = False
+        self.left: list[Callable[[], None]] = []  # what comes behind an answer
         self.slots: dict[int, Slot] = {}
         self.pace = Pace(is_free=settings.login is None)
 
@@ -58,6 +59,7 @@ class Room:
         """Where all that was answered has been told, it is no longer pending."""
         with self.opened:
             if fault is None or isinstance(fault, Fault):
+                self.settle()
                 for slot in self.slots.values():
                     if slot.is_answered:
                         self.state.told(slot.number)
@@ -65,6 +67,14 @@ class Room:
     def _hang_up(self) -> None:
         for slot in self.slots.values():
             slot.line.close()
+
+    def behind(self, does: Callable[[], None]) -> None:
+        """Has it done once the user was told what is done already: at the end, or as the next one is begun."""
+        self.left.append(does)
+
+    def settle(self) -> None:
+        while self.left:
+            self.left.pop(0)()
 
     def slot(self, number: int = 0) -> Slot:
         if number not in self.slots:
@@ -112,7 +122,7 @@ class Room:
 
     def _tell_parts(self, whole: str, found: list[tuple[dict, dict | None]]) -> None:
         """Of what many requests do together, only those are done that were done when it was stopped."""
-        if any(command["cmd"] in CHANGES for command, _ in found):
+        if any(command["cmd"] in CHANGES and not is_behind(command) for command, _ in found):
             self.say(f"what was under way at {shown(whole)} was stopped: give it again")
 
     def ask(self, command: dict, is_step: bool = False) -> dict:

@@ -6,7 +6,7 @@ import time
 from collections.abc import Callable
 from dataclasses import dataclass
 
-from . import files
+from . import files, manifest as form
 from .faults import ACCESS, BadWords, Fault, Refused
 from .room import Room
 from .words import FOLDER, GROUP, LIST_FLAGS, neat, shown
@@ -210,11 +210,16 @@ def restore(room: Room, called: str, to: str | None) -> str:
     return place
 
 
+def shown_in(room: Room, trash: str) -> list[str]:
+    """(The gateway keeps pieces of removed files there, without bytes.)"""
+    return [it for it in room.children(trash) if not form.is_hidden(it)]
+
+
 def empty(room: Room, take: Callable[[Fault], None]) -> int:
     """Removes what is in the trash for good, and tells how many things that were. `take` hears of each that stays: one
     that somebody else locked is not to keep the rest."""
     trash, count = need_trash(room), 0
-    for name in room.children(trash):
+    for name in shown_in(room, trash):
         try:
             files.remove_all(room, f"{trash}/{name}")
             count += 1

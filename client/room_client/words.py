@@ -94,6 +94,13 @@ def is_part(command: dict) -> bool:
     return not gives_back and any(f"/{PART}" in it for it in (path, to))
 
 
+def is_behind(command: dict) -> bool:
+    """Whether a request empties what was before a version that is there."""
+    path, to = command["path"], command.get("to", "")
+    is_rest = command["cmd"] == "WRITE" and f"/{PART}writing-" not in path and not path.endswith(f"/{PART}file")
+    return is_rest or f"/{PART}pieces-" in path and f"/{PART}gone-" in to
+
+
 def whole_of(command: dict) -> str:
     """What such a request is a step of: the file, or the folder that it is in."""
     path, to = command["path"], command.get("to", "")

@@ -45,6 +45,15 @@ class Behind(Desk):
         settings = {"url": self.front_url, "room_user": None, "login": "ann", "password": PASSWORDS["ann"]}
         return self.room(say=say, **settings | {"state": self.path("behind.json")} | how)
 
+    def need_tidy(self, room, path, why):
+        """That a file has its pieces and its manifest, and besides one spare at most, without bytes."""
+        names = room.children(path)
+        gone = [it for it in names if it.startswith(manifest.GONE)]
+        self.assertEqual(self.parts(room, path), [".room-gone"] * len(gone[:1]) + [".room-pieces"], why)
+        for it in gone:
+            sizes = {room.stat(f"{path}/{it}/{one}")["size"] for one in room.children(f"{path}/{it}")}
+            self.assertLessEqual(sizes, {0}, why)
+
     def parts(self, room, path):
         """What a file's folder has in it but its manifest, by kind."""
         return sorted(it.rpartition("-")[0] for it in room.children(path) if it != manifest.NAME)
@@ -105,7 +114,8 @@ class Writers(Behind):
                     with self.assertRaisesRegex(OtherVersion, "somebody else wrote another version meanwhile"):
                         files.write(room, "/a", mine)
                 self.assertEqual(files.read(room, "/a"), theirs)
-                self.assertEqual(self.parts(room, "/a"), [".room-pieces"])
+                room.settle()
+                self.assertEqual(self.parts(room, "/a"), [".room-gone"] * is_there + [".room-pieces"])
                 files.remove_all(room, "/a")
 
     def test_another_version_came_right_before_the_manifest(self):
@@ -125,7 +135,7 @@ class Writers(Behind):
                 with self.assertRaisesRegex(OtherVersion, "came right behind yours"):
                     files.write(room, "/a", mine)
             self.assertEqual(files.read(room, "/a"), theirs)
-            self.assertEqual(self.parts(room, "/a"), [".room-pieces"])
+            self.assertEqual(self.parts(room, "/a"), [".room-gone", ".room-pieces"])
 
     def test_pieces_that_were_taken_for_left_over(self):
         """The folder of a writer who is slow is cleared: it says so, and the other's version stands."""
@@ -201,7 +211,7 @@ class Stopped(Behind):
                 self.assertEqual([*other.children("/d")], ["a", *left], stop_at)
                 self.assertEqual([files.read(other, f"/d/{it}") for it in left], [data] * len(left[:1]), stop_at)
                 self.assertTrue(not left or before == b"small")
-                self.assertEqual(self.parts(other, "/d/a"), [".room-pieces"], stop_at)
+                self.need_tidy(other, "/d/a", stop_at)
                 files.remove_all(other, "/d")
             stop_at += 1
         self.assertGreater(stop_at, 16)
@@ -242,7 +252,8 @@ class Stopped(Behind):
         with self.behind(said.append, state=self.path("mine")) as room:
             files.write(room, "/d/a", data)
             self.assertEqual(files.read(room, "/d/a"), data)
-            self.assertEqual(self.parts(room, "/d/a"), [".room-pieces"])
+            room.settle()
+            self.need_tidy(room, "/d/a", "at random")
         self.assertIn("what was under way at /d/a was stopped: give it again", said)
 
     def test_a_manifest_that_is_late_does_not_come(self):
@@ -324,6 +335,7 @@ class Slots(Behind):
         self.assertEqual(child.wait(120), 130)
         os.kill(self.served.server.pid, signal.SIGCONT)
         self.assertEqual(self.does("put", "in", "/d/a")[0], 0)
+        self.file("in", some(40 * PIECE, 2))
         self.front.faults[:] = 25 * ["pass"] + 99 * ["hold"]  # (it is at its pieces by then)
         child = self.start("put", "in", "/d/a")
         self.wait_for("front.json.3", "CREATE")
