@@ -188,15 +188,15 @@ class Stopped(Behind):
             os._exit(status)
         return os.waitstatus_to_exitcode(os.waitpid(pid, 0)[1])
 
-    def stop_at_each_step(self, before, data):
+    def stop_at_each_step(self, before, data, earlier=()):
         """Of three in a row a reader sees the old file or the new one, and the next writer leaves nothing else: but for
         a whole new version that was to take a document's place, under a name that is seen."""
         stop_at, ends = 0, set()
         while True:
             with self.room(state=self.path("other")) as other:
                 other.mkdir("/d")
-                if before is not None:
-                    files.write(other, "/d/a", before)
+                for it in [*earlier, before] if before is not None else ():
+                    files.write(other, "/d/a", it)
             status = self.put_in_child(data, stop_at, self.room(state=self.path("mine")))
             self.assertIn(status, (0, STOPPED))
             with self.room(state=self.path("other")) as other:
@@ -232,6 +232,10 @@ class Stopped(Behind):
 
     def test_a_new_version(self):
         self.assertEqual(self.stop_at_each_step(some(2 * PIECE, 2), some(PIECE + 1, 1)), {"old", "new"})
+
+    def test_a_new_version_in_a_spare(self):
+        old, more, new = some(2 * PIECE, 2), some(2 * PIECE + 1, 3), some(PIECE + 1, 1)
+        self.assertEqual(self.stop_at_each_step(old, new, [more]), {"old", "new"})
 
     def test_in_the_place_of_a_document(self):
         """(Between two of its requests nothing has the name.)"""
