@@ -267,7 +267,7 @@ class Stopped(Behind):
             room.mkdir("/d")
             files.write(room, "/d/a", old)
         stop_at = 0
-        while self.manifest_is_pending() is None:
+        while not self.is_pending('"WRITE"', manifest.NAME):
             self.put_in_child(mine, stop_at, self.room(state=self.path("mine")))
             stop_at += 1
         with self.behind() as room:
@@ -277,10 +277,25 @@ class Stopped(Behind):
             self.assertEqual(files.read(room, "/d/a"), theirs)
         self.assertEqual(said, ["what was under way at /d/a was stopped: give it again"])
 
-    def manifest_is_pending(self):
+    def test_as_what_was_before_is_emptied(self):
+        """Then the version is there, and is not to be given again."""
+        mine, said, stop_at = some(PIECE + 1, 1), [], 20
+        with self.behind() as room:
+            room.mkdir("/d")
+        while not self.is_pending('"WRITE"', manifest.GONE):
+            with self.behind() as room:
+                files.write(room, "/d/a", some(PIECE + 1, stop_at))
+            self.put_in_child(mine, stop_at, self.room(state=self.path("mine")))
+            stop_at += 1
+        with self.room(state=self.path("mine"), say=said.append) as room:
+            self.assertEqual(files.read(room, "/d/a"), mine)
+        self.assertEqual(said, [])
+
+    def is_pending(self, *signs):
+        """Whether such a request of the child is on record."""
         with contextlib.suppress(FileNotFoundError), open(self.path("mine")) as file:
             pending = json.load(file)["pending"]
-            return pending if pending and '"WRITE"' in pending and manifest.NAME in pending else None
+            return pending is not None and all(it in pending for it in signs)
 
 
 class Slots(Behind):
