@@ -63,14 +63,21 @@ def moved(gate, visit: Visit, asked: Asked, source: str, target: str) -> bool:
     awaited(gate, visit, asked.room, target)  # (somebody else's may have come meanwhile)
     need_overwrite(asked)
     its, there = thing_at(visit, source), thing_at(visit, target, is_shown=True)
-    is_fresh = gate.asides.is_fresh(asked.room, asked.user, source)
-    is_aside = is_backup(target, source, is_fresh) and not is_temporary(source)
+    is_aside = gets_backup(gate, visit, asked.room, source, target) and not is_temporary(source)
     if not its.is_folder and not there.is_folder and not is_aside:
         put_over(gate, visit, asked.room, source, target)
     else:
         with out_of_the_way(gate, visit, asked.room, target, source):
             renamed(gate, visit, asked.room, source, target)
     return False
+
+
+def gets_backup(gate, visit: Visit, room: str, path: str, to: str) -> bool:
+    """Whether a document gets a backup's name. (What was made a moment ago, and is closed, is a document too.)"""
+    if not is_backup(to, path):
+        return False
+    is_fresh = gate.asides.is_fresh(room, visit.settings.user, path)
+    return is_backup(to, path, is_fresh) or is_closed(visit, path)
 
 
 def put_over(gate, visit: Visit, room: str, source: str, target: str) -> None:
@@ -119,27 +126,29 @@ def copied(gate, visit: Visit, asked: Asked, its: Thing, target: str) -> bool:
     if there:
         need_overwrite(asked)
         awaited(gate, visit, asked.room, target)
-    is_away = there and (its.is_folder or there.is_folder or is_other_backup(visit, its.path, target))
+    is_backed_up = not its.is_folder and gets_backup(gate, visit, asked.room, its.path, target)
+    is_away = there is not None and (
+        its.is_folder or there.is_folder or is_backed_up and is_other(visit, its.path, target))
+    is_new = is_away or not asked.may_overwrite or is_backed_up and there is None
     with out_of_the_way(gate, visit, asked.room, target, its.path) if is_away else contextlib.nullcontext():
-        copy_whole(gate, visit, asked, its, target)
+        copy_whole(gate, visit, asked, its, target, is_new)
     return there is None
 
 
-def is_other_backup(visit: Visit, path: str, to: str) -> bool:
-    """Whether a document is copied to a backup by which others could read it: one of the two has a list of its own, or
-    what is there is not the caller's."""
-    return is_backup(to, path, True) and (
-        is_closed(visit, path) or is_closed(visit, to) or files.other_owner(visit, to) is not None)
+def is_other(visit: Visit, path: str, to: str) -> bool:
+    """Whether others could read a backup there: one of the two has a list of its own, or what is there is not the
+    caller's."""
+    return is_closed(visit, path) or is_closed(visit, to) or files.other_owner(visit, to) is not None
 
 
-def copy_whole(gate, visit: Visit, asked: Asked, its: Thing, target: str) -> None:
+def copy_whole(gate, visit: Visit, asked: Asked, its: Thing, target: str, is_new: bool) -> None:
     """It is there whole, or nothing of it."""
     made: list[str] = []
     try:
         if its.is_folder:
             copy_folder(gate, visit, asked.room, its.path, target, made, MOST_DEEP if asked.depth != "0" else 0)
         else:
-            copy_file(gate, visit, asked.room, its, target, not asked.may_overwrite)
+            copy_file(gate, visit, asked.room, its, target, is_new)
     except (Refused, Answered) as fault:
         remove_each(visit, made)
         if isinstance(fault, Refused) and is_refused(fault, "EXIST"):  # (made by somebody else meanwhile)

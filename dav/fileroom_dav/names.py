@@ -22,6 +22,7 @@ SHORT_LIVED = re.compile(r"\.~lock\..*#|~\$.*|.*\.tmp|~WRL.*|\.~.*|.*~|\..*\.sw[
 TELLS_OTHERS = re.compile(r"\.~lock\..*#|~\$.*", re.DOTALL | re.IGNORECASE)  # who has a document open
 EXCEL = re.compile("(?=.*[A-F])[0-9A-F]{8}")  # a name that Excel gives a new version
 BACKUPS = (".bak", ".old", ".orig")
+COPY_OF = re.compile("(?:copy|backup) of .*", re.DOTALL | re.IGNORECASE)
 
 
 def split_target(raw: bytes) -> tuple[str | None, str]:
@@ -125,5 +126,6 @@ def is_temporary(path: str) -> bool:
 def is_backup(path: str, source: str, is_fresh: bool = False) -> bool:
     """Whether it is a name that a program gives to what has been at `source`. (One that has only letters in common with
     the name of what was made a moment ago may be the document that this is to be a version of.)"""
-    return (is_short_lived(path) or last(path).lower().endswith(BACKUPS)
-            or not is_fresh and last(source) in last(path))
+    name = last(path)
+    return (is_short_lived(path) or name.lower().endswith(BACKUPS) or COPY_OF.fullmatch(name) is not None
+            or not is_fresh and last(source) in name)

@@ -1,5 +1,6 @@
 """What somebody else lays where a program saves, and gives away or opens: no version goes into it that they, or others,
 could read there."""
+import base64
 import os
 
 from test_refusals import EXCLUSIVE
@@ -83,15 +84,47 @@ class Given(SavesCounter):
 
     def test_a_backup(self):
         """Of a document that has its folder's list, where others may add."""
-        for name in "r.odt.bak", "r.old":
+        for name in "r.odt.bak", "r.old", "Copy of r.odt":
             for entries, owner in (OPEN, "bob"), (OPEN, "ann"), (None, "bob"):
                 self.made(b"", entries=[HERS, HERS | {"who": "ann"}, MAY_ADD])
                 self.does("ann", "PUT", f"{self.top}/r.odt", 201, SECRET)
-                self.does("bob", "GET", f"{self.top}/r.odt", 403)
-                self.lays(f"{self.top}/{name}", entries, owner)
-                self.does("ann", "COPY", f"{self.top}/r.odt", 204, Destination=f"{self.top}/{name}")
-                self.does("bob", "GET", f"{self.top}/{name}", 403)
-                self.assertEqual(self.does("ann", "GET", f"{self.top}/{name}", 200).body, SECRET)
+                self.need_backed_up("r.odt", name, entries, owner)
+
+    def need_backed_up(self, source, name, entries, owner):
+        self.does("bob", "GET", f"{self.top}/{source}", 403)
+        self.lays(f"{self.top}/{name}", entries, owner)
+        self.does("ann", "COPY", f"{self.top}/{source}", 204, Destination=f"{self.top}/{name}")
+        self.does("bob", "GET", f"{self.top}/{name}", 403)
+        self.assertEqual(self.does("ann", "GET", f"{self.top}/{name}", 200).body, SECRET)
+
+    def test_a_backup_of_any_name_that_has_the_documents(self):
+        """Of one that was not made a moment ago, or is closed."""
+        for by_webdav in True, False:
+            self.made(b"", entries=[HERS, HERS | {"who": "ann"}, MAY_ADD])
+            if by_webdav:
+                self.does("ann", "PUT", f"{self.top}/r.odt", 201, SECRET)
+                self.set_list(f"{self.top}/r.odt", 2, [ALL | {"who": "ann"}])
+            else:
+                self.told_by(self.ann, "CREATE", f"{self.top}/r.odt", data=base64.b64encode(SECRET).decode())
+            self.need_backed_up("r.odt", "1 r.odt x", OPEN, "bob")
+            if by_webdav:
+                self.lays(f"{self.top}/2 r.odt x", OPEN)
+                self.does("ann", "MOVE", f"{self.top}/r.odt", 204, Destination=f"{self.top}/2 r.odt x")
+                self.does("bob", "GET", f"{self.top}/2 r.odt x", 403)
+
+    def test_a_backup_that_comes_meanwhile(self):
+        """As the document is about to be copied there."""
+        for list_ in None, [ALL | {"who": "ann"}]:
+            for name in "r.odt.bak", "Copy of r.odt":
+                self.made(b"old")
+                self.does("ann", "PUT", f"{self.top}/r.odt", 201, SECRET)
+                if list_:
+                    self.set_list(f"{self.top}/r.odt", 2, list_)
+                self.loser.meanwhile = (lambda message: b'"CREATE"' in message,
+                                        lambda name=name: self.lays(f"{self.top}/{name}", OPEN))
+                self.does("ann", "COPY", f"{self.top}/r.odt", 412, Destination=f"{self.top}/{name}")
+                self.assertIsNone(self.loser.meanwhile)
+                self.assertEqual(self.shown([SECRET]), [f"{self.top}/r.odt"] if list_ is None else [])
 
     def test_its_name_is_given_back(self):
         """And taken again: by WebDAV it is followed, else it is not there."""
