@@ -9,7 +9,7 @@ from .asked import Asked, Reply
 from .faults import Answered, is_refused, is_sure
 from .names import above, below, beside, is_backup, is_below, is_passing, is_short_lived, is_temporary, last
 from .rules import Rules
-from .saving import awaited, exchange, is_closed, need_private, put_backup, put_bytes, put_in_place, renamed
+from .saving import awaited, exchange, is_closed, put_as_named, put_backup, put_in_place, renamed
 from .steps import Aside, Step
 from .tree import Thing, bytes_of, standing, thing_at
 from .visit import Visit
@@ -82,11 +82,9 @@ def gets_backup(gate, visit: Visit, room: str, path: str, to: str) -> bool:
 
 def put_over(gate, visit: Visit, room: str, source: str, target: str) -> None:
     """(What goes is what was read: under another name nobody writes to it meanwhile.)"""
-    if is_temporary(target):
-        need_private(gate, visit, room, target)
     with set_aside(gate, visit, room, source) as aside:
         its = thing_at(visit, aside)
-        put_bytes(visit, target, bytes_of(visit, its))
+        put_as_named(gate, visit, room, target, bytes_of(visit, its))
         files.remove_file(visit, aside) if its.large else visit.remove(aside)
     gate.asides.gone(room, visit.settings.user, source)
 

@@ -15,6 +15,7 @@ from room_client.room import MOST_BYTES
 from room_client.trash import is_private
 from room_client.words import ALL, FOLDER, GROUP, INHERITED, LIST_FLAGS, TO_FILES, TO_FOLDERS
 
+from . import apart
 from .asked import Asked
 from .faults import Answered, is_refused, is_sure, making
 from .kept import say
@@ -37,50 +38,59 @@ def put_in_place(gate, visit: Visit, room: str, path: str, data: bytes, is_new: 
     if found:
         exchange(gate, visit, *found, data=data)
         return True
-    if is_temporary(path):
-        need_private(gate, visit, room, path)
-    is_made = put_bytes(visit, path, data, is_new)
+    is_made = put_as_named(gate, visit, room, path, data, is_new)
     if is_made:
         gate.asides.made(room, visit.settings.user, path)
     return is_made
 
 
-def need_private(gate, visit: Visit, room: str, path: str) -> None:
+def put_as_named(gate, visit: Visit, room: str, path: str, data: bytes, is_new: bool = False) -> bool:
+    """Under a program's name it is for nobody else."""
+    if not is_temporary(path):
+        return put_bytes(visit, path, data, is_new)
+    is_large = len(data) > MOST_BYTES
+    is_kept = need_private(gate, visit, room, path)
+    if is_kept and is_large and is_left_veiled(visit, path):
+        files.remove_all(visit, path)
+    elif is_kept:
+        return put_bytes(visit, path, data, is_new)
+    if not put_closed(visit, path, data, lambda at: veil(visit, at, is_large)):
+        raise Answered(412, f"{path} was made by somebody else meanwhile, who could read there what your program saves")
+    return True
+
+
+def need_private(gate, visit: Visit, room: str, path: str) -> bool:
     """Where something has a program's name already, that it is the caller's, and closed to others or moved there by
     themselves. (Anyone who may add could make a file there, and give it to them, to read what is to become a version
-    of something that they are denied.)"""
+    of something that they are denied.) Whether something has it."""
     user = visit.settings.user
     try:
         its = visit.stat(path)
     except Refused as fault:
         if is_refused(fault, "NOENT", "NOTDIR"):
-            return
+            return False
         its = {}
     if its.get("owner") != user:
         raise Answered(403, f"{path} is somebody else's, who could read there what your program saves")
     one = gate.asides.is_aside(room, user, path)
     if one and known_by(visit, path) == one.known:
-        return
+        return True
     told = visit.get_list(path)
     if not files.has_own_list(told):
         if its["kind"] != FOLDER or not is_folder(visit, path):
             veil(visit, path, its["kind"] == FOLDER)
     elif not is_private(told, user):
-        raise Answered(403, f"the list of {path} lets others read there what your program saves")
+        raise Answered(403, f"the list of {path} names others, and does not tell whether you set it: they could read "
+                            "there what your program saves. Save under another name, or write it by page or command")
+    return True
 
 
 def put_bytes(visit: Visit, path: str, data: bytes, is_new: bool = False) -> bool:
     """Makes a file or a new version of it. Whether it was not there before."""
     try:
-        if is_temporary(path) and put_veiled(visit, path, data):
-            return True
         return not files.put(visit, path, data, is_new=is_new)
     except Refused as fault:
         raise making(fault) from None
-
-
-def put_veiled(visit: Visit, path: str, data: bytes) -> bool:
-    return put_closed(visit, path, data, lambda is_large: veil(visit, path, is_large))
 
 
 def veil(visit: Visit, path: str, is_large: bool) -> None:
@@ -89,11 +99,9 @@ def veil(visit: Visit, path: str, is_large: bool) -> None:
 
 def put_backup(visit: Visit, source: str, path: str, data: bytes) -> bool:
     """A copy of a document with a list of its own, by a name that programs give a backup."""
-    try:
-        return is_closed(visit, source) and put_closed(
-            visit, path, data, lambda is_large: close_like(visit, source, path, is_large))
-    except Refused as fault:
-        raise making(fault) from None
+    is_large = len(data) > MOST_BYTES
+    return is_closed(visit, source) and put_closed(
+        visit, path, data, lambda at: close_like(visit, source, at, is_large))
 
 
 def is_closed(visit: Visit, path: str) -> bool:
@@ -106,37 +114,33 @@ def is_closed(visit: Visit, path: str) -> bool:
         return True
 
 
-def put_closed(visit: Visit, path: str, data: bytes, close: Callable[[bool], object]) -> bool:
+def put_closed(visit: Visit, path: str, data: bytes, close: Callable[[str], object]) -> bool:
     """Makes a file whose list is set before its bytes are there. Whether nothing was there."""
     is_large = len(data) > MOST_BYTES
-    if not make_empty(visit, path, is_large):
-        if not (is_large and is_left_veiled(visit, path)):
+    try:
+        place = apart.place_for(visit, path, is_large)
+        if not apart.make_empty(visit, place, is_large):
             return False
-        files.remove_all(visit, path)
-        make_empty(visit, path, is_large)
-    try:
-        close(is_large)
-        if is_large:
-            upload = files.Upload(visit, path, data, files.unheard)
-            upload.put_pieces(path)
-            upload.put_manifest(path, True)
-        elif data:
-            visit.write(path, data)
-    except Refused:
-        with contextlib.suppress(Fault):
-            files.remove_all(visit, path)
-        raise
-    return True
-
-
-def make_empty(visit: Visit, path: str, is_folder: bool) -> bool:
-    try:
-        visit.mkdir(path) if is_folder else visit.create(path, b"")
-        return True
+        try:
+            close(place.path)
+            fill(visit, place.path, data)
+            return apart.name(visit, place, path)
+        except Refused:
+            with contextlib.suppress(Fault):
+                files.remove_all(visit, place.path)
+            raise
     except Refused as fault:
-        if is_refused(fault, "EXIST"):
-            return False
-        raise
+        raise making(fault) from None
+
+
+def fill(visit: Visit, path: str, data: bytes) -> None:
+    """What is empty so far."""
+    if len(data) > MOST_BYTES:
+        upload = files.Upload(visit, path, data, files.unheard)
+        upload.put_pieces(path)
+        upload.put_manifest(path, True)
+    elif data:
+        visit.write(path, data)
 
 
 def is_left_veiled(visit: Visit, path: str) -> bool:
@@ -269,12 +273,12 @@ def exchange(gate, visit: Visit, one: Aside, old: Thing, *, data: bytes = b"", s
         data = bytes_of(visit, its)
     version = its.large if takes else Manifest.of(data)
     text = files.text_at(visit, one.aside).decode("ascii") if old.large else ""
-    copy = below(above(one.aside), last(beside(one.path)))
-    step = Step("exchange", one.room, one.user, one.path, one.aside, copy, source or "", version.folder, text,
+    copy = apart.place_for(visit, below(above(one.aside), last(beside(one.path))), bool(old.large))
+    step = Step("exchange", one.room, one.user, one.path, one.aside, copy.path, source or "", version.folder, text,
                 takes)
     done: list[dict] = []
     with gate.changing(one.room, one.aside), gate.steps.under_way(step, undone(visit, done)) as step:
-        make_copy(visit, step, old)
+        make_copy(visit, step, copy, old)
         done.append(give_name(visit, one))
         if known_by(visit, one.path) != one.known:  # (somebody laid it there meanwhile)
             raise not_found(one)
@@ -307,15 +311,16 @@ def undone(visit: Visit, done: list[dict]):
     return lambda step, why: isinstance(why, (Refused, OtherVersion, Answered)) and undo(visit, step, bool(done))
 
 
-def make_copy(visit: Visit, step: Step, old: Thing) -> None:
+def make_copy(visit: Visit, step: Step, place: apart.Place, old: Thing) -> None:
     """A place for the bytes of before, which is no more open than where they are."""
-    make_empty(visit, step.copy, bool(old.large))
+    if not apart.make_empty(visit, place, bool(old.large)):
+        raise taken(step.copy, "is another's", Aside(step.room, step.user, step.path, step.aside, "", 0.0))
     close_like(visit, step.aside, step.copy, bool(old.large))
     if old.data:
         visit.write(step.copy, old.data)
 
 
-def close_like(visit: Visit, path: str, copy: str, is_folder: bool) -> None:
+def close_like(visit: Visit, path: str, copy: str, is_folder: bool, is_again: bool = False) -> None:
     """By the same list, where owner and group are the same; else by one with their names; or for the caller alone."""
     its, ours = visit.stat(path), visit.stat(copy)
     try:
@@ -325,7 +330,7 @@ def close_like(visit: Visit, path: str, copy: str, is_folder: bool) -> None:
             raise
         return visit.set_list(copy, PROTECTED, [of_one(visit.settings.user, is_folder)])
     if (its["owner"], its["group"]) == (ours["owner"], ours["group"]):
-        if files.has_own_list(told):
+        if is_again or files.has_own_list(told):
             visit.set_list(copy, told["aclflag"], own_entries(told))
         return None
     entries = [named(it, its) for it in told["entries"]]
@@ -363,6 +368,8 @@ def finish(visit: Visit, step: Step) -> None:
     try:
         if step.text and is_there(visit, step.copy):
             before = read_manifest(step.text.encode())
+            if above(step.copy) == above(step.aside):  # (where somebody else may have laid another one since)
+                close_like(visit, step.path, step.copy, True, True)
             back(visit, f"{step.path}/{before.folder}", f"{step.copy}/{before.folder}")
             visit.put(f"{step.copy}/{NAME}", step.text.encode())
         back(visit, step.copy, step.aside)

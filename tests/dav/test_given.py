@@ -4,7 +4,7 @@ import base64
 import os
 
 from test_refusals import EXCLUSIVE
-from test_saves import HERS, SIZES, SavesCounter, Wire
+from test_saves import CHANGES, HERS, SIZES, SavesCounter, Wire
 
 SECRET = b"new secret"
 ALL = {"flag": 0, "mask": 0x1F07FF, "type": 0}
@@ -212,3 +212,36 @@ class Given(SavesCounter):
         self.assertEqual(self.shown([SECRET]), [])
         names = sorted(dict(self.told_by(self.ann, "LIST", self.top)["names"]))
         self.assertEqual(names, ["x.bak", "y"])
+
+    # What somebody lays between two of the gateway's requests
+
+    def at_each_change(self, name, does):
+        """Before each change of a save in turn, what has the name is taken away, and an open one lies there."""
+        last, came = 0, True
+        while came:
+            last, came, self.count = last + 1, False, 0
+            doc = self.made(b"old secret")
+
+            def is_it(message):
+                self.count += b".room-writing-" not in message and any(it in message for it in CHANGES)
+                return self.count == last
+
+            def lays():
+                nonlocal came
+                came = True
+                self.bob.ask({"cmd": "RENAME", "path": f"{self.top}/{name}", "to": f"{self.top}/away"})
+                self.lays(f"{self.top}/{name}", OPEN)
+            self.loser.meanwhile = is_it, lays
+            does(doc)
+            self.loser.meanwhile = None
+            self.assertEqual(self.shown([SECRET, b"old secret"]), [], last)
+        self.assertGreater(last, 3)
+
+    def test_a_programs_name_that_is_taken_meanwhile(self):
+        for data in SECRET, SECRET + bytes(70_000):
+            self.at_each_change("n.tmp", lambda _, data=data: self.assertIn(
+                self.ask("ann", "PUT", f"{self.top}/n.tmp", data).status, (201, 204, 412)))
+
+    def test_a_backup_that_is_taken_meanwhile(self):
+        self.at_each_change("a.odt.bak", lambda doc: self.assertIn(
+            self.ask("ann", "COPY", f"{self.top}/{doc}", Destination=f"{self.top}/a.odt.bak").status, (201, 412)))
