@@ -26,7 +26,7 @@ class Place:
 
 def place_for(visit: Visit, path: str, is_folder: bool) -> Place:
     """At its name itself, where the caller has no trash or may not add there: then the room says so."""
-    bin_, right = bin_of(visit), ADD_FOLDER if is_folder else ADD_FILE
+    bin_, right = visit.bin, ADD_FOLDER if is_folder else ADD_FILE
     if bin_ is None or is_below(path, trash.TOP):
         return Place(path)
     ours, its, may = visit.ask_all([{"cmd": "STAT", "keep": False, "path": bin_},
@@ -37,13 +37,6 @@ def place_for(visit: Visit, path: str, is_folder: bool) -> Place:
     path = below(above(path), f"{secrets.token_hex(4)} {last(path)}")  # (nothing there has that name)
     name = trash.name_in_trash(path, time.strftime(trash.STAMP, time.gmtime()))
     return Place(below(bin_, name), None if ours["group"] == its["group"] else its["group"])
-
-
-def bin_of(visit: Visit) -> str | None:
-    try:
-        return trash.trash_of(visit)
-    except trash.NotYours:
-        return None
 
 
 def make_empty(visit: Visit, place: Place, is_folder: bool) -> bool:

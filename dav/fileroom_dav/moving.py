@@ -5,6 +5,7 @@ from room_client import files, trash
 from room_client.faults import Fault, Refused
 from room_client.manifest import is_hidden
 
+from . import pool
 from .asked import Asked, Reply
 from .faults import Answered, is_refused, is_sure
 from .names import above, below, beside, is_backup, is_below, is_passing, is_short_lived, is_temporary, last
@@ -85,7 +86,7 @@ def put_over(gate, visit: Visit, room: str, source: str, target: str) -> None:
     with set_aside(gate, visit, room, source) as aside:
         its = thing_at(visit, aside)
         put_as_named(gate, visit, room, target, bytes_of(visit, its))
-        files.remove_file(visit, aside) if its.large else visit.remove(aside)
+        pool.remove_file(visit, aside)
     gate.asides.gone(room, visit.settings.user, source)
 
 
@@ -201,7 +202,7 @@ def out_of_the_way(gate, visit: Visit, room: str, path: str, source: str):
         raise Answered(412, f"{path} had the name {source} before that was another's, and would be gone for good")
     with set_aside(gate, visit, room, path) as aside:
         yield
-        trash.remove(visit, aside, True)
+        pool.remove(visit, aside)
 
 
 @contextlib.contextmanager

@@ -15,7 +15,7 @@ from room_client.room import MOST_BYTES
 from room_client.trash import is_private
 from room_client.words import ALL, FOLDER, GROUP, INHERITED, LIST_FLAGS, TO_FILES, TO_FOLDERS
 
-from . import apart
+from . import apart, pool
 from .asked import Asked
 from .faults import Answered, is_refused, is_sure, making
 from .kept import say
@@ -88,6 +88,8 @@ def need_private(gate, visit: Visit, room: str, path: str) -> bool:
 def put_bytes(visit: Visit, path: str, data: bytes, is_new: bool = False) -> bool:
     """Makes a file or a new version of it. Whether it was not there before."""
     try:
+        if len(data) > MOST_BYTES:
+            return not pool.Upload(visit, path, data, files.unheard).run(is_new, False)
         return not files.put(visit, path, data, is_new=is_new)
     except Refused as fault:
         raise making(fault) from None
@@ -134,10 +136,10 @@ def put_closed(visit: Visit, path: str, data: bytes, close: Callable[[str], obje
 
 
 def fill(visit: Visit, path: str, data: bytes) -> None:
-    """What is empty so far."""
+    """What is empty so far. (What comes from the pool was looked at there.)"""
     if len(data) > MOST_BYTES:
-        upload = files.Upload(visit, path, data, files.unheard)
-        upload.put_pieces(path)
+        upload = pool.Upload(visit, path, data, files.unheard)
+        upload.put_pieces(path, upload.spares())
         upload.put_manifest(path, True)
     elif data:
         visit.write(path, data)
@@ -278,7 +280,8 @@ def exchange(gate, visit: Visit, one: Aside, old: Thing, *, data: bytes = b"", s
                 takes)
     done: list[dict] = []
     with gate.changing(one.room, one.aside), gate.steps.under_way(step, undone(visit, done)) as step:
-        make_copy(visit, step, copy, old)
+        if not takes:
+            make_copy(visit, step, copy, old)
         done.append(give_name(visit, one))
         if known_by(visit, one.path) != one.known:  # (somebody laid it there meanwhile)
             raise not_found(one)
@@ -350,35 +353,55 @@ def named(entry: dict, its: dict) -> dict:
 
 
 def put_large(visit: Visit, step: Step, version: Manifest, data: bytes) -> None:
-    """As every new version of a large file, but what was before it is not cleared."""
-    upload = files.Upload(visit, step.path, data, files.unheard)
-    upload.its = version
+    """As every new version of a large file, but what was before it lies aside."""
+    upload = pool.Upload(visit, step.path, data, files.unheard)
+    upload.its, upload.before = version, step.text.encode()
+    upload.names = visit.children(step.path)
     if step.takes:
         visit.rename(f"{step.source}/{step.folder}", f"{step.path}/{step.folder}")
     else:
-        upload.put_pieces(step.path)
-    upload.share(files.pieces_at(step.path, version))
-    if files.text_at(visit, step.path) != step.text.encode():
+        upload.put_pieces(step.path, upload.spares() or upload.from_pool())
+    upload.share(upload.made_pieces())
+    if files.text_at(visit, step.path) != upload.before:
         raise OtherVersion(files.overtaken(step.path))
     visit.write(f"{step.path}/{NAME}", version.text())
+    upload.tidy_behind(lambda: upload.tidy(upload.names))
 
 
 def finish(visit: Visit, step: Step) -> None:
     """The new version has the name: what was before it lies aside, as far as the room lets it."""
     try:
+        if step.takes:
+            back(visit, step.source, step.copy)
         if step.text and is_there(visit, step.copy):
-            before = read_manifest(step.text.encode())
-            if above(step.copy) == above(step.aside):  # (where somebody else may have laid another one since)
-                close_like(visit, step.path, step.copy, True, True)
-            back(visit, f"{step.path}/{before.folder}", f"{step.copy}/{before.folder}")
-            visit.put(f"{step.copy}/{NAME}", step.text.encode())
+            keep_large(visit, step)
         back(visit, step.copy, step.aside)
-        if step.source:
-            files.remove_all(visit, step.source)
+        if step.source and not step.takes:
+            pool.remove(visit, step.source)
     except Refused as fault:
         if not is_sure(fault):
             raise
         say(f"room {step.room}: {of_what(step)}: {fault}")
+
+
+def keep_large(visit: Visit, step: Step) -> None:
+    """The copy gets the pieces of before: where it is the caller's, and closed. (In its folder somebody else may have
+    laid another one since. What had the new bytes is for nobody else, until it has those of before.)"""
+    before = read_manifest(step.text.encode())
+    if before.folder in visit.children(step.path):
+        if step.takes:
+            need_veiled(visit, step)
+        elif above(step.copy) == above(step.aside):
+            close_like(visit, step.path, step.copy, True, True)
+        back(visit, f"{step.path}/{before.folder}", f"{step.copy}/{before.folder}")
+    visit.put(f"{step.copy}/{NAME}", step.text.encode())
+    if step.takes:
+        close_like(visit, step.path, step.copy, True, True)
+
+
+def need_veiled(visit: Visit, step: Step) -> None:
+    if visit.stat(step.copy)["owner"] != visit.settings.user or not is_veil(visit.get_list(step.copy)):
+        raise Refused({"code": 5, "error": "ACCESS"}, {"path": step.copy}, f"{step.copy} is somebody else's by now")
 
 
 def undo(visit: Visit, step: Step, is_named: bool) -> bool:

@@ -1,15 +1,19 @@
 """Who visits a room at once: each user has some seats in it, each a session of its own, kept in a file."""
+import contextlib
+import functools
 import os
 import threading
+from dataclasses import replace
 
 from room_client import Settings
 from room_client.faults import Fault, SessionLost
 
+from .behind import Behind
 from .faults import Busy, as_answered
 from .turns import Floor, MOST_AT_WORK, TOO_MANY
 from .visit import UserPace, Visit, file_of_front
 
-SEATS = MOST_AT_WORK  # of a user in a room
+SEATS = MOST_AT_WORK  # of a user in a room, and one more for what comes behind answers
 MOST_PACES = 2000
 
 
@@ -18,7 +22,7 @@ class Seats:
         self.front, self.folder, self.patience = front, folder, patience
         self.taken: set[tuple[str, str, int]] = set()
         self.paces: dict[str, UserPace] = {}
-        self.mutex, self.floor = threading.Lock(), Floor()
+        self.mutex, self.floor, self.behind = threading.Lock(), Floor(), Behind()
 
     def take(self, room: str, user: str) -> int:
         with self.mutex:
@@ -46,7 +50,8 @@ class Seats:
             for is_last in False, True:
                 visit = self.visit(room, user, password, number)
                 try:
-                    with visit:
+                    with visit, contextlib.ExitStack() as then:
+                        then.callback(self.settle, visit)
                         return does(visit)
                 except SessionLost as fault:
                     visit.begin_anew()
@@ -54,15 +59,45 @@ class Seats:
                         raise as_answered(fault) from None
                 except Fault as fault:
                     raise as_answered(fault, visit.front_status) from None
+                finally:
+                    self.hand_on(visit, room)
         finally:
             self.leave(room, user, number)
 
+    def settle(self, visit: Visit) -> None:
+        """What comes behind the answer comes before it, where too much waits."""
+        if not self.behind.has_room(visit.settings.user):
+            visit.settle_now()
+
+    def hand_on(self, visit: Visit, room: str) -> None:
+        if visit.left:
+            self.behind.add(visit.settings.user, functools.partial(self.later, visit, room))
+
+    def later(self, visit: Visit, room: str) -> None:
+        """(What it leaves, because the room or the front says no, the next writer clears.)"""
+        user, left = visit.settings.user, list(visit.left)
+        visit.move_to(replace(visit.settings, state=self.state(room, user, SEATS)))
+        for _ in range(2):
+            try:
+                with visit:
+                    visit.settle_now()
+                if not visit.is_lost:
+                    return
+            except SessionLost:
+                pass
+            except Fault:
+                return
+            visit.begin_anew()
+            visit.left, visit.slots = list(left), {}
+
     def visit(self, room: str, user: str, password: str, number: int) -> Visit:
-        folder = os.path.join(self.folder, "sessions", room)
-        # (no user's name has an @: the files beside this one, .lock or .1, are no other user's)
-        state = os.path.join(folder, f"{user}@{number}")
+        state = self.state(room, user, number)
         settings = self.settings(user, password, url=f"http://localhost/rooms/{room}", state=state)
         return Visit(settings, self.front, self.pace(user))
+
+    def state(self, room: str, user: str, number: int) -> str:
+        """(No user's name has an @: the files beside this one, .lock or .1, are no other user's.)"""
+        return os.path.join(self.folder, "sessions", room, f"{user}@{number}")
 
     def settings(self, user: str, password: str, **how) -> Settings:
         return Settings(login=user, password=password, patience=self.patience, **how)

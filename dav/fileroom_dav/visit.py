@@ -22,6 +22,7 @@ from room_client.room import CHANGES, counted, unheard
 from room_client.slots import Pace, Slot
 from room_client.state import Session, State
 
+from .pool import bin_of
 from .turns import Floor
 
 RATE = 240.0  # requests a second of one user, below what the front's socket takes of one (front/fileroom.conf)
@@ -84,14 +85,15 @@ class KeptState(State):
     """As a desk has it, and no flush: it lasts over a kill of this program, and a start of the machine is seen."""
 
     away = contextlib.nullcontext  # (the floor's, once a seat has it)
+    width = WIDTH
 
     def __init__(self, *how):
         super().__init__(*how)
         if not self.session.is_open:
-            self.session = replace(self.session, slots=WIDTH)
+            self.session = replace(self.session, slots=self.width)
 
     def begin_anew(self) -> None:
-        self.save(replace(Session.fresh(self.session.url, self.session.user), slots=WIDTH))
+        self.save(replace(Session.fresh(self.session.url, self.session.user), slots=self.width))
 
     def _read(self, path: str, kind: type):
         """(What a halt of the machine cut is as if it was not there: another session begins.)"""
@@ -121,6 +123,10 @@ class KeptState(State):
     def note_start(self) -> None:
         with open(self.boot_path, "w", encoding="ascii") as file:
             file.write(boot_id())
+
+
+class LaterState(KeptState):
+    width = 1
 
 
 def put(path: str, text: bytes, how: int) -> None:
@@ -196,6 +202,25 @@ class Visit(Room):
     def _heard(self, text: str) -> None:
         """(What a desk would print: of uploads that were stopped, and what is left of them.)"""
         self.told.append(text)
+
+    def settle(self) -> None:
+        """(What comes behind an answer has threads of its own: no request waits for it.)"""
+
+    def settle_now(self) -> None:
+        super().settle()
+
+    def move_to(self, settings: Settings) -> None:
+        """Another session, in which it asks one thing at a time, so that its user's next request goes on beside it."""
+        self.settings, self.state_kind, self.slots = settings, LaterState, {}
+
+    @functools.cached_property
+    def bin(self) -> str | None:
+        return bin_of(self)
+
+    @property
+    def is_lost(self) -> bool:
+        """Whether the room knows the session no more."""
+        return any(isinstance(it.left, SessionLost) for it in self.slots.values())
 
     @property
     def front_status(self) -> int:

@@ -3,9 +3,10 @@ from room_client import files, trash
 from room_client.faults import Refused
 from room_client.words import FILE
 
+from . import pool
 from .asked import Asked, Reply
 from .faults import Answered, is_refused, making
-from .names import above, below, for_making, has_blanks, is_short_lived, last
+from .names import above, below, for_making, has_blanks, is_below, is_short_lived, last
 from .rules import Rules
 from .saving import put_in_place
 from .steps import Aside
@@ -91,16 +92,17 @@ def discard(gate, visit: Visit, room: str, path: str) -> None:
     bin_ = None if is_short_lived(path) and not one else trash.trash_of(visit)
     if bin_ and one:
         trash.put_in_trash(Kept(gate, visit, one), path, bin_)
+    elif bin_ is None or path == trash.TOP or is_below(path, trash.TOP):
+        pool.remove(visit, path)
     else:
         remove_empty(visit, bin_, trash.discard(visit, path, bin_, True))
     gate.asides.gone(room, visit.settings.user, path)
 
 
-def remove_empty(visit: Visit, bin_: str | None, name: str | None) -> None:
-    if name:
-        its, = visit.ask_all([{"cmd": "STAT", "keep": False, "path": below(bin_, name)}])  # (another's may refuse)
-        if its.get("kind") == FILE and not its["size"]:
-            visit.remove(below(bin_, name))
+def remove_empty(visit: Visit, bin_: str, name: str) -> None:
+    its, = visit.ask_all([{"cmd": "STAT", "keep": False, "path": below(bin_, name)}])  # (another's may refuse)
+    if its.get("kind") == FILE and not its["size"]:
+        visit.remove(below(bin_, name))
 
 
 class Kept:

@@ -389,7 +389,7 @@ class Alone(unittest.TestCase):
         """Where the room does not know the session any more, what was done by it is not done a second time."""
         its, count = seats.Seats("/none", self.folder, 1.0), []
         for has_changed, times in (False, 2), (True, 1):
-            visit = mock.MagicMock(has_changed=has_changed, front_status=0)
+            visit = mock.MagicMock(has_changed=has_changed, front_status=0, left=[])
             visit.__exit__.return_value = False
 
             def does(_):

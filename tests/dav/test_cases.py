@@ -11,6 +11,7 @@ RESPONSE = re.compile(r"<D:response>(.*?)</D:response>", re.DOTALL)
 
 class Gateway:
     name = "gateway"
+    quiet = 0.3  # seconds without a request, behind which none comes
     size_words = staticmethod(str)
 
     def __init__(self, counter):

@@ -5,7 +5,7 @@ import time
 
 from room_client import Room, Settings, files
 from counter import Counter, stop
-from served import run
+from served import run, until
 from test_refusals import EXCLUSIVE, tag_of
 
 SHARE = 0.3  # of requests to the room that something happens to
@@ -42,7 +42,7 @@ class Lossy(Counter):
                 self.assertEqual(room.children(f"/d{it}"), {"b": "file"})
                 self.assertEqual(room.read(f"/d{it}/b"), b"second %d" % it)
             names = room.children("/large")
-        self.assertEqual(sorted(it.partition("-")[2].partition("-")[0] for it in names), ["file", "pieces"])
+        self.assertEqual(sorted(it.partition("-")[2].partition("-")[0] for it in names), ["file", "gone", "pieces"])
         print(f"dav: lost on the way: {self.loser.lost}", flush=True)
 
 
@@ -83,8 +83,7 @@ class Kills(Counter):
             self.does("ann", "PUT", "/kill", 204, old)
             self.assertEqual(self.does("ann", "GET", "/kill", 200).body, old)
         with self.room("ann") as room:
-            names = room.children("/kill")
-        self.assertEqual(len(names), 2, names)
+            self.assertTrue(until(lambda: len(room.children("/kill")) == 3), room.children("/kill"))  # (with a spare)
 
     def put_until_killed(self, path, data, done):
         try:

@@ -175,13 +175,16 @@ class SavesCounter(Counter):
 
     def number(self, doc):
         """Which no request tells."""
+        return self.looked("SELECT a.id FROM node a, node b WHERE a.parent = b.id AND a.name = ? AND b.name = ?",
+                           doc, self.top[1:])
+
+    def looked(self, words, *values):
         copy = self.path("look.db")
         for end in "", "-wal":
             with contextlib.suppress(FileNotFoundError):
                 shutil.copy(self.served.db + end, copy + end)
         with contextlib.closing(sqlite3.connect(copy)) as table:
-            return table.execute("SELECT a.id FROM node a, node b WHERE a.parent = b.id AND a.name = ? AND b.name = ?",
-                                 (doc, self.top[1:])).fetchone()[0]
+            return table.execute(words, values).fetchone()[0]
 
     def said(self):
         with open(self.path(self.log)) as file:

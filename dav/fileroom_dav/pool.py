@@ -1,0 +1,130 @@
+"""The pool (docs/FILES.md): pieces of large files that their owner removed for good lie, without bytes, in the owner's
+trash, for that user's next new file. A program that saves by a temporary file makes and removes one each time.
+"""
+import contextlib
+import functools
+import re
+from collections.abc import Callable, Iterator
+
+from room_client import files, spares, trash
+from room_client.faults import Fault, Refused
+from room_client.manifest import GONE, NAME, read_manifest
+from room_client.room import Room
+
+from .faults import is_refused
+from .names import below, last
+
+MOST = 3
+POOLED = re.compile(re.escape(GONE) + "[0-9a-f]{16}")
+
+
+def bin_of(room: Room) -> str | None:
+    """The caller's trash, if nobody else reads it."""
+    try:
+        return trash.trash_of(room)
+    except trash.NotYours:
+        return None
+
+
+def pooled(room: Room, bin_: str | None) -> list[str]:
+    return [below(bin_, it) for it in room.children(bin_) if POOLED.fullmatch(it)] if bin_ else []
+
+
+def settled(room: Room, bin_: str | None) -> Iterator[str]:
+    """Those that have no bytes any more: they were looked at before, where nobody else comes. (Of one that a stop left
+    that comes behind the answer.)"""
+    for it in pooled(room, bin_):
+        if spares.is_empty(room, it):
+            yield it
+        else:
+            room.behind(functools.partial(settle, room, it))
+
+
+class Upload(files.Upload):
+    """As page and client make a version; but a new file takes pieces from the pool, and the spare of the next version
+    has its name before the answer, since a program may save again at once."""
+
+    def behind(self, tidies: Callable[[], None]) -> None:
+        its = read_manifest(self.before) if self.before else None
+        if its and tidies != self.tidy_same:
+            with contextlib.suppress(Refused):
+                self.room.rename(f"{self.path}/{its.folder}", f"{self.path}/{GONE}{its.folder[-16:]}")
+        self.tidy_behind(tidies)
+
+    def tidy_behind(self, tidies: Callable[[], None]) -> None:
+        super().behind(tidies)
+
+    def empty(self, name: str, gone: str) -> bool:
+        return super().empty(gone, gone)
+
+    def spares(self) -> list[str]:
+        return super().spares() or ([] if self.names else self.from_pool())
+
+    def from_pool(self) -> list[str]:
+        """Into a file of the caller's own."""
+        one = next(settled(self.room, self.room.bin), None)
+        if one is None:
+            return []
+        try:
+            self.whole = self.room.stat(self.path)
+            if self.whole["owner"] != self.room.settings.user:
+                return []
+            self.room.rename(one, below(self.path, last(one)))
+            return [last(one)]
+        except Refused:  # (another request has it)
+            return []
+
+
+def remove(room: Room, path: str) -> None:
+    """For good, with all that is in it."""
+    try:
+        room.remove(path)
+    except Refused as fault:
+        if not is_refused(fault, "NOTEMPTY"):
+            raise
+        give(room, path)
+        files.remove_all(room, path)
+
+
+def remove_file(room: Room, path: str) -> None:
+    """For good, and nothing that is in it and no part of it."""
+    try:
+        room.remove(path)
+    except Refused as fault:
+        if not is_refused(fault, "NOTEMPTY"):
+            raise
+        give(room, path)
+        files.remove_file(room, path)
+
+
+def give(room: Room, path: str) -> None:
+    """What is removed for good: the pieces of a large file of the caller's own go to the pool, where that has room. It
+    is no file any more before."""
+    its, bin_ = files.large_at(room, path), room.bin
+    if its is None or bin_ is None or len(pooled(room, bin_)) >= MOST:
+        return
+    folder, to = f"{path}/{its.folder}", below(bin_, GONE + its.folder[-16:])
+    names, whole, ours = room.ask_all([{"cmd": cmd, "keep": False, "path": at} for cmd, at in (
+        ("LIST", folder), ("STAT", path), ("STAT", folder))])
+    user = room.settings.user
+    if names["code"] or not spares.are_pieces(dict(names["names"])) or whole.get("owner") != user or (
+            ours.get("owner") != user):
+        return
+    try:
+        room.remove(f"{path}/{NAME}")
+        room.rename(folder, to)
+    except Refused:  # (what is removed next is refused too, and told)
+        return
+    room.behind(functools.partial(settle, room, to))
+
+
+def settle(room: Room, path: str) -> None:
+    """Nobody else comes there any more: what is there is looked at, and loses its bytes."""
+    try:
+        names, whole = list(room.children(path)), room.stat(path)
+        if spares.are_as_new(room, [path, *(below(path, it) for it in names)], whole):
+            spares.empty(room, [below(path, it) for it in names])
+        else:
+            files.clear(room, path.rpartition("/")[0], last(path))
+    except Fault:  # (it is taken by now, or the next one looks at it)
+        pass
