@@ -57,22 +57,26 @@ function withShorter(chosen) {
 const aboutOf = (room, ...paths) => `upload ${room.name} ${paths.join(" ")}`;
 const goalOf = (folder, names) => inFolder(folder, ...names.map(clean));
 
+const calledBy = ({ names }) => shown(names.join("/"));
+
 async function fitting(app, folder, chosen) {
   const faults = chosen.map((it) => faultOf(it, folder));
   const fit = chosen.filter((_, at) => faults[at] === "");
-  const told = faults.filter(Boolean);
-  if (!told.length) return fit;
-  const isLong = chosen.some(({ names }) => names.some((it) => isTooLong(clean(it))));
-  if (chosen.length === 1 && !isLong) {
+  if (fit.length === chosen.length) return fit;
+  const shorter = withShorter(chosen);
+  const isLong = chosen.map((it, at) => calledBy(it) !== calledBy(shorter[at]));
+  const told = faults.map((it, at) => (isLong[at] ? t.couldBe(it, calledBy(shorter[at])) : it)).filter(Boolean);
+  const count = isLong.filter(Boolean).length;
+  if (chosen.length === 1 && !count) {
     tellFault(t.nothingSent(told[0]), aboutOf(app.room, goalOf(folder, chosen[0].names)));
     return [];
   }
-  const [first, ...others] = [...isLong ? [{ words: t.uploadShorter, value: "shorter" }] : [],
+  const [first, ...others] = [...count ? [{ words: t.uploadShorter(count), value: "shorter" }] : [],
     ...fit.length ? [{ words: t.uploadOthers(fit.length), value: "fit" }] : []];
   const answer = await ask({ title: t.cannotUpload(told.length, chosen.length), words: listed(told), others,
     does: first?.words, stays: first ? t.cancel : t.close });
   if (!answer || !first) return [];
-  return (answer === true ? first.value : answer) === "fit" ? fit : fitting(app, folder, withShorter(chosen));
+  return (answer === true ? first.value : answer) === "fit" ? fit : fitting(app, folder, shorter);
 }
 
 const listed = (words) => [listOf(words.slice(0, MOST_TOLD)),

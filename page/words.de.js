@@ -197,7 +197,8 @@ export const t = {
   isShut: "{0} ist darin leer: Sie dürfen nicht hineinsehen.",
   // uploads and large files
   tooLarge: "hat {0} MiB, und {1} MiB sind das meiste", nothingSent: "{0} Nichts wurde gesendet.",
-  cannotUpload: "{0} von {1} lassen sich nicht hochladen", uploadShorter: "Unter kürzeren Namen hochladen",
+  cannotUpload: "{0} von {1} lassen sich nicht hochladen", couldBe: "{0} Ein kürzerer Name ist {1}.",
+  uploadShorter: "Unter {0|einem kürzeren|kürzeren} Namen hochladen",
   uploadOthers: "Die anderen {0} hochladen", andMore: "und {0} mehr.", thereAlready: "{0|Das ist|Diese sind} schon da",
   keepBoth: "Beide behalten", leaveOut: "Diese auslassen", tooMany: "Zu viele für einen Ordner",
   wouldHave: "In {0} wären {1} Dinge; {2} sind das meiste.",

@@ -191,7 +191,8 @@ export const t = {
   isShut: "{0} is empty in it: you may not look into it.",
   // uploads and large files
   tooLarge: "has {0} MiB, and {1} MiB is the most", nothingSent: "{0} Nothing was sent.",
-  cannotUpload: "{0} of {1} cannot be uploaded", uploadShorter: "Upload them by shorter names",
+  cannotUpload: "{0} of {1} cannot be uploaded", couldBe: "{0} A shorter name is {1}.",
+  uploadShorter: "Upload {0|it by a shorter name|them by shorter names}",
   uploadOthers: "Upload the other {0}", andMore: "and {0} more.", thereAlready: "{0|This is|These are} there already",
   keepBoth: "Keep both", leaveOut: "Leave these out", tooMany: "Too many for one folder",
   wouldHave: "{0} would have {1} things in it; {2} are the most.",

@@ -38,13 +38,23 @@ def full(club, browser, differs):
 def long_names(club, browser, differs):
     """A name that is too long is offered shorter as it is typed, and in an upload."""
     club.go("#open/club/limits")
-    make_new(browser, "New document")
-    browser.fill("Name", LONG)
-    browser.sees("This counts as 81 letters, and 64 are the most", "dialog")
-    browser.press(f"Shorten it to {SHORT}", "//dialog[@open]")
-    browser.until("it is told no more", lambda: "counts as" not in browser.shown())
-    browser.press("Make", "//dialog[@open]")
-    browser.sees(f"{SHORT} is made.", "#notices")
+    for words, end in ("New folder", ".old"), ("New document", ".txt"):
+        make_new(browser, words)
+        browser.fill("Name", LONG[:-4] + end)
+        browser.sees("This counts as 81 letters, and 64 are the most", "dialog")
+        browser.press(f"Shorten it to {SHORT[:-4]}{end}", "//dialog[@open]")
+        browser.until("it is told no more", lambda: "counts as" not in browser.shown())
+        browser.press("Make", "//dialog[@open]")
+        browser.sees(f"{SHORT[:-4]}{end} is made.", "#notices")
+        club.go("#open/club")
+        club.go("#open/club/limits")
+    put(club, "/limits", on_disk(club, f"long/{LONG[:-4]}.pdf", b"%PDF-"))
+    browser.sees(f"64 are the most: letters with accents count double or more. A shorter name is {SHORT[:-4]}.pdf.",
+                 "dialog")
+    differs("nothing was sent", f"{SHORT[:-4]}.pdf" in names_at(club, "/limits"), False)
+    browser.press("Upload it by a shorter name", "//dialog[@open]")
+    browser.sees("1 file uploaded", "#notices")
+    differs("by the name that was told", club.text(f"/limits/{SHORT[:-4]}.pdf"), "%PDF-")
     files = [on_disk(club, f"long/{name}", name.encode()) for name in (LONG, f"{LONG[:-4]} again.txt", "short.txt")]
     put(club, "/limits", *files)
     browser.sees("2 of 3 cannot be uploaded", "dialog")

@@ -77,8 +77,16 @@ export class Element {
     return all.map((it) => (it instanceof Element ? it : String(it)));
   }
 
-  append(...all) { this.childNodes.push(...this.#taken(all)); }
-  prepend(...all) { this.childNodes.unshift(...this.#taken(all)); }
+  append(...all) {
+    const taken = this.#taken(all); // (first: what was in here already leaves its old place)
+    this.childNodes.push(...taken);
+  }
+
+  prepend(...all) {
+    const taken = this.#taken(all);
+    this.childNodes.unshift(...taken);
+  }
+
   replaceChildren(...all) { this.childNodes = this.#taken(all); }
   insertBefore(it) { this.append(it); }
   after(it) { this.parentNode.append(it); }
