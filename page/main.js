@@ -14,6 +14,7 @@ import { isPart } from "./manifest.js";
 import { showMatrix } from "./matrix.js";
 import { logOut, sessionOfTab, userNow } from "./session.js";
 import { arrive, leave, standing } from "./stand.js";
+import { warn } from "./warned.js";
 import { fileOfFront } from "./wire.js";
 
 const VIEWS = new Map([["open", showContents], ["access", showAccess], ["who", showMatrix], ["find", showFind]]);
@@ -141,6 +142,7 @@ class App {
       part("rooms").textContent = shown(place.room);
       part("rooms").ariaLabel = t.about(t.room, shown(place.room));
       document.title = `${shown(place.path)} – ${place.room}`;
+      warn(this.user, place.room);
     });
     if (turn === this.turn) then();
   }

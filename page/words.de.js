@@ -38,7 +38,7 @@ export const t = {
     9: "Das Dokument hätte mehr als 65.536 Bytes. Teilen Sie es in zwei.",
     10: "Etwas hätte mehr als 16 Namen in seinem Pfad. Legen Sie es weiter oben ab.",
     11: "Der Ordner ist voll: 256 Dinge. Machen Sie in einem anderen daneben weiter.",
-    12: "Der Raum ist voll: eine Million Dinge wurden angelegt. Bitten Sie, wer ihn betreibt, um einen neuen.",
+    12: "Der Raum ist voll: eine Million Dinge wurden angelegt. Bitten Sie, wer ihn betreibt, ihn zu erneuern.",
     41: "Der Raum kennt diese Anfrage nicht. Fragen Sie, wer ihn betreibt: die Seite passt wohl nicht dazu.",
     42: "Sie sind kein Benutzer dieses Raums. Bitten Sie, wer ihn betreibt, Sie einzutragen.",
     43: "Der Raum nimmt diese Anfrage nicht an: ein Name oder Pfad darin ist nicht richtig gebildet.",
@@ -49,6 +49,12 @@ export const t = {
   askOwner: "Fragen Sie {0}, dem es gehört, oder wer sonst die Liste ändern darf.",
   askAbove: "Fragen Sie, wem es gehört, oder {0}, dem der Ordner darüber gehört.",
   askAnyOwner: "Fragen Sie, wem es gehört, oder wer sonst die Liste ändern darf.",
+  // warnings
+  endsIn: "Dieser Raum kann noch etwa {0} {0|Tag|Tage} lang neue Dateien aufnehmen. Bitten Sie, wer ihn betreibt, " +
+    "ihn zu erneuern.",
+  endsToday: "Dieser Raum kann nur noch weniger als einen Tag lang neue Dateien aufnehmen. Bitten Sie, wer ihn " +
+    "betreibt, ihn zu erneuern.",
+  untilTomorrow: "Bis morgen ausblenden",
   // names
   blank: "leer", notComposed: "nicht zusammengesetzt", nameWanted: "Es fehlt ein Name; . und .. sind keine.",
   nameLetters: "Ein Name hat kein / und kein Steuerzeichen.", shorten: "Kürzen zu {0}",

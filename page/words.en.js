@@ -38,7 +38,7 @@ export const t = {
     9: "The document would have more than 65,536 bytes. Split it into two.",
     10: "Something would have more than 16 names in its path. Move it higher.",
     11: "The folder is full: it has 256 things. Go on in another one, beside it.",
-    12: "The room is full: a million things were made. Ask who runs it for a new one.",
+    12: "The room is full: a million things were made. Ask who runs it to renew it.",
     41: "The room knows no such request. Ask who runs it: this page may not fit.",
     42: "You are no user of this room. Ask who runs it to put you in its roster.",
     43: "The room does not take this request: a name or path in it is malformed.",
@@ -48,6 +48,10 @@ export const t = {
   askOwner: "Ask its owner, {0}, or whoever may change its list.",
   askAbove: "Ask its owner, or {0}, who owns the folder above.",
   askAnyOwner: "Ask its owner, or whoever may change its list.",
+  // warnings
+  endsIn: "This room can take new files for about {0} more {0|day|days}. Ask your administrator to renew it.",
+  endsToday: "This room can take new files for less than a day. Ask your administrator to renew it.",
+  untilTomorrow: "Hide until tomorrow",
   // names
   blank: "blank", notComposed: "not composed", nameWanted: "A name is wanted, other than . and ..",
   nameLetters: "A name has no / and no control character.", shorten: "Shorten it to {0}",

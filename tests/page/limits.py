@@ -1,4 +1,5 @@
 """Scenes of the page: the limits of a room are told before anything is sent, each with a way on."""
+import json
 import os
 
 from carried import names_at, on_disk, put
@@ -106,4 +107,27 @@ def many_names(club, browser, differs):
     go(club, "#open/club")
 
 
-SCENES = [full, long_names, deep, many_names]
+def ending(club, browser, differs):
+    """The owner of a room whose numbers end soon is warned above whatever is shown, and nobody else, until they close
+    it for the day."""
+    told = "This room can take new files for about 7 more days. Ask your administrator to renew it."
+    folder = os.path.join(club.folder, "front", "warnings")
+    os.makedirs(folder)
+    with open(os.path.join(folder, "ann.json"), "w", encoding="utf-8") as file:
+        json.dump({"club": {"numbers_days": 7}, "office": {"numbers_days": 3}}, file)
+    club.log_in("eve")
+    club.go("#open/club")
+    differs("somebody else", browser.text_of("#warned"), "")
+    club.log_in("ann")
+    for place in "#open/club", "#who/club/limits":
+        club.go(place)
+        differs(place, browser.sees(told, "#warned"), True)
+    browser.press("Hide until tomorrow")
+    for place in "#open/club/limits", "#open/club":
+        club.log_in("ann")
+        club.go(place)
+        differs(f"closed, in {place}", browser.text_of("#warned"), "")
+    os.remove(os.path.join(folder, "ann.json"))
+
+
+SCENES = [full, long_names, deep, many_names, ending]
