@@ -13,7 +13,8 @@ async function turn() {
   if (ready > now) await new Promise((goOn) => setTimeout(goOn, ready - now));
 }
 
-/** Whether it acted is not known. `isShut`: sent again only after a login, since each wrong one counts as a guess. */
+/** Whether it acted is not known. `isShut`: not sent again by itself, since each wrong login counts as a guess, and one
+ * that the front holds till tomorrow asks in vain. */
 class NoAnswer extends Error {
   constructor(words, isShut = false) {
     super(words);
@@ -38,7 +39,7 @@ async function fetchText(url, how) {
     const whole = new URL(url, location.origin); // (not of the page's address, which may hold a password)
     const rules = { cache: "no-store", credentials: "same-origin", redirect: "error" };
     const answer = await fetch(whole, { ...rules, ...how, signal: AbortSignal.timeout(WAIT) });
-    return { status: answer.status, text: await answer.text() };
+    return { status: answer.status, isHeld: answer.headers.has("room-held"), text: await answer.text() };
   } catch {
     throw new NoAnswer(t.unreachable);
   }
@@ -46,9 +47,9 @@ async function fetchText(url, how) {
 
 async function exchange(url, body) {
   const headers = { "content-type": "application/json" };
-  const { status, text } = await fetchText(url, { method: "POST", headers, body });
+  const { status, isHeld, text } = await fetchText(url, { method: "POST", headers, body });
   const reply = readReply(text);
-  if (reply === null) throw new NoAnswer(whyNoReply(status), status === 401);
+  if (reply === null) throw new NoAnswer(isHeld ? t.held : whyNoReply(status), status === 401 || isHeld);
   if (reply.code === DELAY) throw new NoAnswer(t.restarting);
   return reply;
 }

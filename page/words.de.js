@@ -20,6 +20,8 @@ export const t = {
   unknown: "{0} Ob es getan wurde, ist nicht bekannt: sehen Sie nach, bevor Sie es wiederholen.",
   noSpace: "Dieser Browser kann nicht mehr Anfragen aufbewahren: schließen Sie andere Fenster. ({0})",
   loginGone: "Die Anmeldung gilt nicht mehr. Melden Sie sich in einem anderen Fenster an.",
+  held: "Sie haben an einem Tag mehr von diesem Raum verlangt, als eine Anmeldung darf. Sie können lesen, und morgen " +
+    "wieder ändern, oder sobald Sie freigegeben sind.",
   roomGone: "Der Server kennt diesen Raum nicht mehr.", tooMuch: "Das ist mehr, als der Server auf einmal durchlässt.",
   restarting: "Der Raum ist beschäftigt oder startet neu.", status: "Der Server antwortet mit {0}.",
   unreachable: "Der Raum ist nicht zu erreichen.", sentBefore: "Eine Anfrage von vorher, {0} von {1}: {2}",
@@ -50,11 +52,13 @@ export const t = {
   askAbove: "Fragen Sie, wem es gehört, oder {0}, dem der Ordner darüber gehört.",
   askAnyOwner: "Fragen Sie, wem es gehört, oder wer sonst die Liste ändern darf.",
   // warnings
-  endsIn: "Dieser Raum kann noch etwa {0} {0|Tag|Tage} lang neue Dateien aufnehmen. Bitten Sie, wer ihn betreibt, " +
-    "ihn zu erneuern.",
-  endsToday: "Dieser Raum kann nur noch weniger als einen Tag lang neue Dateien aufnehmen. Bitten Sie, wer ihn " +
-    "betreibt, ihn zu erneuern.",
-  untilTomorrow: "Bis morgen ausblenden",
+  someDays: "noch etwa {0} {0|Tag|Tage}", lessThanADay: "weniger als einen Tag", untilTomorrow: "Bis morgen ausblenden",
+  numbersEnd: "Dieser Raum kann {0} lang neue Dateien aufnehmen. Bitten Sie, wer ihn betreibt, ihn zu erneuern.",
+  memoryEnds: "Dieser Raum passt {0} lang in den Speicher seiner Maschine, und startet danach nicht mehr. Bitten " +
+    "Sie, wer ihn betreibt, um Platz.",
+  diskEnds: "Dieser Raum hat {0} lang Platz auf seinem Datenträger. Bitten Sie, wer ihn betreibt, um mehr.",
+  areHeld: "{0} {1|hat|haben} so viel von diesem Raum verlangt, dass {1|diese Anmeldung|diese Anmeldungen} bis " +
+    "morgen nur lesen {1|kann|können}, wenn niemand sie vorher freigibt.",
   // names
   blank: "leer", notComposed: "nicht zusammengesetzt", nameWanted: "Es fehlt ein Name; . und .. sind keine.",
   nameLetters: "Ein Name hat kein / und kein Steuerzeichen.", shorten: "Kürzen zu {0}",

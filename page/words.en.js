@@ -19,6 +19,8 @@ export const t = {
   unknown: "{0} Whether it was done is not known: look before you do it again.",
   noSpace: "This browser can keep no more requests: close other tabs. ({0})",
   loginGone: "The login is not accepted any more. Log in again in another tab.",
+  held: "You asked more of this room in a day than one login may. You can read, and change things again tomorrow, or " +
+    "once your administrator lets you.",
   roomGone: "The front knows this room no more.", tooMuch: "That is more than the front lets through at once.",
   restarting: "The room is busy, or is being started again.", status: "The front answers with status {0}.",
   unreachable: "The room cannot be reached.", sentBefore: "A request from before, {0} of {1}: {2}",
@@ -49,9 +51,13 @@ export const t = {
   askAbove: "Ask its owner, or {0}, who owns the folder above.",
   askAnyOwner: "Ask its owner, or whoever may change its list.",
   // warnings
-  endsIn: "This room can take new files for about {0} more {0|day|days}. Ask your administrator to renew it.",
-  endsToday: "This room can take new files for less than a day. Ask your administrator to renew it.",
-  untilTomorrow: "Hide until tomorrow",
+  someDays: "about {0} more {0|day|days}", lessThanADay: "less than a day", untilTomorrow: "Hide until tomorrow",
+  numbersEnd: "This room can take new files for {0}. Ask your administrator to renew it.",
+  memoryEnds: "This room fits into the memory of its machine for {0}, and will not start again then. Ask your " +
+    "administrator to make room.",
+  diskEnds: "This room has space on its disk for {0}. Ask your administrator for more.",
+  areHeld: "{0} asked so much of this room that {1|this login|these logins} can only read till tomorrow, unless your " +
+    "administrator lets {1|it|them} go.",
   // names
   blank: "blank", notComposed: "not composed", nameWanted: "A name is wanted, other than . and ..",
   nameLetters: "A name has no / and no control character.", shorten: "Shorten it to {0}",

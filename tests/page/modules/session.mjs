@@ -78,6 +78,14 @@ test("a login that is refused is told as one, since each try counts as a guess",
   assert.deepEqual([front.how.redirect, front.how.credentials, front.how.cache], ["error", "same-origin", "no-store"]);
 });
 
+test("a login that the front holds is told so, and asks no more by itself", async () => {
+  const its = await begun();
+  front.faults.push("held", 429);
+  assert.equal((await its.session.ask(append("x"))).code, 0);
+  assert.deepEqual(patience.waits.map((it) => [it.why, it.isShut]), [[t.held, true], [t.tooMuch, false]]);
+  assert.equal(await logged(its), "x");
+});
+
 test("what is under way is kept before it goes out, and no longer than that", async () => {
   const [its, before] = [await begun(), globalThis.fetch];
   let held = null;

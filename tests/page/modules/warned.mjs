@@ -29,17 +29,27 @@ beforeEach(() => {
 });
 
 test("it is told of the room that is shown, as the days are", async () => {
-  for (const [days, words] of [[9, t.endsIn(9)], [1, t.endsIn(1)], [0, t.endsToday]]) {
+  for (const [days, words] of [[9, t.someDays(9)], [1, t.someDays(1)], [0, t.lessThanADay]]) {
     front.answer = JSON.stringify({ club: { numbers_days: days } });
     const warned = await warnings();
-    assert.deepEqual([await warned("ann", "club"), await warned("ann", "office")], [[words], []]);
+    assert.deepEqual([await warned("ann", "club"), await warned("ann", "office")], [[t.numbersEnd(words)], []]);
   }
-  assert.match(t.endsIn(9), /for about 9 more days\. Ask your administrator to renew it\.$/);
-  assert.match(t.endsIn(1), /for about 1 more day\./);
+  assert.match(t.numbersEnd(t.someDays(9)), /for about 9 more days\. Ask your administrator to renew it\.$/);
+  assert.match(t.numbersEnd(t.someDays(1)), /for about 1 more day\./);
+});
+
+test("memory, disk and logins that are held are told too, each till it is closed", async () => {
+  front.answer = JSON.stringify({ club: { memory_days: 3, disk_days: 0, held: ["bob", "eve"] } });
+  const warned = await warnings();
+  const all = [t.memoryEnds(t.someDays(3)), t.diskEnds(t.lessThanADay), t.areHeld(["bob", "eve"], 2)];
+  assert.deepEqual(await warned("ann", "club"), all);
+  buttonOf(t.untilTomorrow).click(); // (the first of them)
+  assert.deepEqual(await warned("ann", "club"), all.slice(1));
 });
 
 test("who is told nothing by the front, or by something else, sees none", async () => {
-  const odd = ["", "[", "null", '{"club":null}', '{"club":{"numbers_days":"<b>"}}', new TypeError("no connection")];
+  const odd = ["", "[", "null", '{"club":null}', '{"club":{"numbers_days":"<b>","held":"bob"}}',
+    '{"club":{"held":[]}}', new TypeError("no connection")];
   for (const answer of [null, "{}", ...odd]) {
     front.answer = answer;
     assert.deepEqual(await (await warnings())("ann", "club"), [], answer);
