@@ -1,9 +1,9 @@
 /** What uploads made is removed; whatever else has such a name stays. */
+import { takeOver } from "./behind.js";
 import { FOLDER, ISDIR, NOENT, NOTDIR, folderOf, forEach, fromBase64, fromText, inFolder, isRefused, lastName, orElse,
   shown, t } from "./common.js";
 import * as form from "./manifest.js";
 
-const OUR_PIECE = /^[0-9]{3}$/; // as a version names them that is made here
 const MOST_KEPT = 50; // bytes of a name that a mark follows
 const isFolder = async (room, path) => (await room.aside("STAT", path)).kind === FOLDER;
 
@@ -11,11 +11,10 @@ const isFolder = async (room, path) => (await room.aside("STAT", path)).kind ===
 
 const documentAt = async (room, path) => (await isFolder(room, path) ? null : [[path]]);
 
-async function piecesIn(room, path) {
+export async function piecesIn(room, path) {
   if (!await isFolder(room, path)) return null;
   const names = await room.list(path);
-  const fits = names.every(([name, kind]) => kind !== FOLDER && OUR_PIECE.test(name));
-  return fits ? [names.map(([name]) => inFolder(path, name)), [path]] : null;
+  return names.every(form.isOurPiece) ? [names.map(([name]) => inFolder(path, name)), [path]] : null;
 }
 
 export async function fileAt(room, path) {
@@ -44,7 +43,7 @@ export async function clear(room, at, name, transfer, looks = piecesIn) {
     if (!found) return void transfer.fail(t.noPart(shown(path)));
     if (gone !== path) await room.step("RENAME", path, { to: gone });
     for (const level of found) {
-      await forEach(level, (it) => orElse(room.step("REMOVE", gone + it.slice(path.length)), null, NOENT));
+      await forEach(level, (it) => orElse(room.step("REMOVE", gone + it.slice(path.length)), null, NOENT), room.width);
     }
   } catch (fault) {
     if (!isRefused(fault, NOENT)) transfer.fail(t.about(t.isLeft(shown(at)), fault.message));
@@ -72,6 +71,7 @@ export async function clearBeside(room, path, transfer) {
 }
 
 export async function removeAll(room, path) {
+  await takeOver(room, path);
   const names = await orElse(room.list(path), [], NOTDIR);
   const remove = (it) => orElse(room.step("REMOVE", it), null, NOENT);
   if (names.some(([name]) => name === form.NAME)) await remove(inFolder(path, form.NAME));

@@ -4,11 +4,11 @@ import { ACCESS, ADD_FILE, ADD_FOLDER, FILE, FOLDER, LARGE, READ, ROOT, Refusal,
   faultLine, folderOf, fromBase64, inFolder, lastName, link, make, menuButton, openMenu, orFault, personText, pointOf,
   shown, t, toText } from "./common.js";
 import { takeFiles } from "./drag.js";
-import { manifestAt, readFile } from "./files.js";
 import { head } from "./heads.js";
 import { NAME, beside, isPart } from "./manifest.js";
 import { emptyTrash } from "./moving.js";
 import { canShow, isPdf, isPicture, nothing, preview } from "./preview.js";
+import { manifestAt, readFile } from "./reading.js";
 import { Things } from "./things.js";
 import { sizeWords } from "./transfers.js";
 import { beforeWords, isOwnTrash, isTrash, ownTrash } from "./trash.js";

@@ -1,6 +1,6 @@
 /** Files go to the user's disk, folders and several things as a zip. */
 import { FOLDER, ROOT, forDisk, namesOf, save, shown, t } from "./common.js";
-import { readFile } from "./files.js";
+import { readFile } from "./reading.js";
 import { sizeWords, transferring } from "./transfers.js";
 import { nameAt } from "./trash.js";
 import { lookInto, whole } from "./trees.js";

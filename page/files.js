@@ -1,58 +1,12 @@
-/** Files: a small one is a document, a large one a folder with pieces (docs/FILES.md). */
+/** Files are written: a large one in pieces, beside the version before, whose place one request gives it
+ * (docs/FILES.md). */
+import { goOnBehind, takeOver, takeTurn } from "./behind.js";
 import { clear, clearBeside, fileAt } from "./clearing.js";
-import { EXIST, FILE, ISDIR, MOST_BYTES, NOENT, NOTDIR, NOTEMPTY, Refusal, carried, folderOf, forDocument, forEach,
-  fromBase64, inFolder, isRefused, lastName, namesOf, orElse, ownList, shown, t, toBase64 } from "./common.js";
+import { EXIST, FILE, ISDIR, MOST_BYTES, NOENT, NOTEMPTY, Refusal, carried, folderOf, forDocument, forEach, inFolder,
+  isRefused, lastName, namesOf, orElse, ownList, shown, t, toBase64 } from "./common.js";
 import * as form from "./manifest.js";
-
-const TRIES = 5; // of a reader that meets one new version after another
-
-export const NOBODY = { add() {}, check() {}, note() {}, fail() {}, overtaken: () => null };
-const bytesAt = async (room, path, more) => fromBase64((await room.aside("READ", path, more)).data);
-const manifestBytes = (room, path) => orElse(bytesAt(room, inFolder(path, form.NAME)), null, NOENT, ISDIR, NOTDIR);
-
-export async function manifestAt(room, path) {
-  const bytes = await manifestBytes(room, path);
-  return bytes && form.readManifest(bytes);
-}
-
-const isSame = (one, other) => (one === null || other === null ? one === other : toBase64(one) === toBase64(other));
-
-export async function readFile(room, path, transfer = NOBODY) {
-  const small = await orElse(bytesAt(room, path, { keep: false }), null, ISDIR);
-  if (small) transfer.add(small.length);
-  return small ?? readLarge(room, path, transfer);
-}
-
-async function readLarge(room, path, transfer) {
-  let text = await manifestBytes(room, path);
-  for (let times = 0; times < TRIES && text; times += 1) {
-    const bytes = await wholeOf(room, path, form.readManifest(text), transfer);
-    if (bytes) return bytes;
-    const before = text;
-    text = await manifestBytes(room, path);
-    if (isSame(before, text)) throw new Error(t.damaged(shown(path)));
-  }
-  throw new Error(t.notWhole(shown(path)));
-}
-
-/** Null where it is not whole. */
-async function wholeOf(room, path, its, transfer) {
-  if (!its) return null;
-  const [bytes, ends] = [new Uint8Array(its.size), []];
-  try {
-    await forEach([...its.pieces.keys()], async (at) => {
-      transfer.check();
-      const piece = await bytesAt(room, inFolder(path, its.folder, its.pieces[at]), { keep: false });
-      bytes.set(piece, at * form.PIECE); // (a piece that does not fit is a fault of range)
-      ends[at] = piece.length;
-      transfer.add(piece.length);
-    });
-  } catch (fault) {
-    if (isRefused(fault, NOENT, ISDIR, NOTDIR) || fault instanceof RangeError) return null;
-    throw fault;
-  }
-  return ends.reduce((sum, it) => sum + it, 0) === its.size && await form.sumOf(bytes) === its.sha256 ? bytes : null;
-}
+import { NOBODY, bytesAt, isSame, isWhole, manifestAt, manifestBytes } from "./reading.js";
+import { areAsNew, clearOver, emptySpare, keepSpare, leaveSpare, takeSpare } from "./spares.js";
 
 /** Gives where it is: it may be kept as a copy. With `isNew` only where nothing is. */
 export async function writeFile(room, path, bytes, transfer = NOBODY, isNew = false) {
@@ -81,7 +35,8 @@ export async function writeCopy(room, of, path, bytes, transfer = NOBODY) {
 /** One new version of a file that is a folder, or becomes one. A new file gets the list. */
 class Upload {
   constructor(room, path, bytes, transfer, list = null) {
-    Object.assign(this, { room, path, bytes, transfer, list, names: [], before: null, called: shown(lastName(path)) });
+    Object.assign(this, { room, path, bytes, transfer, list, names: [], before: null, spare: null,
+      called: shown(lastName(path)) });
   }
 
   clear(at, name, looks) {
@@ -91,20 +46,52 @@ class Upload {
   async run(isNew) {
     if (namesOf(this.path).length > form.DEEPEST) throw new Error(t.tooDeep);
     this.its = await form.manifestOf(this.bytes);
+    await takeOver(this.room, this.path);
+    await takeTurn(this.room);
     if (await this.begin(isNew)) return this.replaceDocument();
+    if (await this.isThere()) return this.goOn(() => this.keep());
     try {
       if (this.list) await this.room.step("SETLIST", this.path, this.list);
-      await this.putPieces(this.path);
+      const spare = this.isMade ? null : await takeSpare(this.room, this.path, this.stat, this.names);
+      await this.putPieces(this.path, spare);
     } catch (fault) {
       if (this.isMade) await orElse(this.room.step("REMOVE", this.path), null, NOENT, NOTEMPTY);
       throw fault;
     }
-    if (!this.isMade) await this.share(piecesAt(this.path, this.its));
+    if (!this.isMade) await this.share(this.made());
     return await this.needFirst() ?? this.finish();
+  }
+
+  /** Whether the file has these very bytes. (What is damaged, or may not be read, is written anew.) */
+  async isThere() {
+    const its = this.before && form.readManifest(this.before);
+    const isOfThese = its && its.sha256 === this.its.sha256 && its.size === this.its.size;
+    return isOfThese && isWhole(this.room, this.path, its, this.transfer);
+  }
+
+  /** The file is saved, and the rest comes behind that. Gives where it is. */
+  goOn(task) {
+    if (this.clears) this.transfer.note(t.leftCleared(this.called));
+    [this.room, this.transfer] = [this.room.behind(), this.transfer.behind()];
+    goOnBehind(this.room, this.path, this.transfer, task);
+    return this.path;
+  }
+
+  /** What was made for this version: pieces, and their folder. (What was taken is the file's owner's already.) */
+  made() {
+    const { folder, pieces } = this.its;
+    const isTheirs = this.spare?.owner === this.stat.owner;
+    return [this.piecesOf(pieces.filter((it) => !this.spare?.names.has(it))),
+      isTheirs ? [] : [inFolder(this.path, folder)]].filter((it) => it.length);
+  }
+
+  piecesOf(names) {
+    return names.map((it) => inFolder(this.path, this.its.folder, it));
   }
 
   /** What this user made belongs to whom the file belongs, who may have no rights on what is somebody else's. */
   async share(levels) {
+    if (!levels.length) return;
     const { owner, group } = this.stat;
     const ours = await this.room.asideIfAllowed("STAT", levels.at(-1)[0]);
     if (!ours || ours.owner === owner && ours.group === group) return;
@@ -117,10 +104,8 @@ class Upload {
   async finish() {
     await this.putManifest(this.path, this.before === null);
     if (this.before === null && !this.isMade) await this.share([[inFolder(this.path, form.NAME)]]);
-    await this.lookAfter();
-    if (this.clears) this.transfer.note(t.leftCleared(this.called));
-    await clearBeside(this.room, this.path, this.transfer);
-    return this.path;
+    const names = await this.needPieces();
+    return this.goOn(() => this.tidy(names));
   }
 
   /** Whether a document is there instead. */
@@ -147,22 +132,29 @@ class Upload {
     if (isOpen) throw new Error(t.notYourUpload(this.called, t.ownListed));
   }
 
-  async putPieces(at) {
-    const writing = form.otherName(form.WRITING);
-    await this.room.step("MKDIR", inFolder(at, writing));
+  /** All pieces, in documents of a spare as far as it has them. */
+  async putPieces(at, spare = null) {
+    const writing = spare?.folder ?? form.otherName(form.WRITING);
+    if (!spare) await this.room.step("MKDIR", inFolder(at, writing));
+    let sent = 0;
     try {
-      await forEach([...this.its.pieces.keys()], async (number) => {
+      await forEach([...this.its.pieces.entries()], async ([number, name]) => {
         this.transfer.check();
         const piece = this.bytes.subarray(number * form.PIECE, (number + 1) * form.PIECE);
-        await this.room.step("CREATE", inFolder(at, writing, this.its.pieces[number]), { data: toBase64(piece) });
+        const does = spare?.names.has(name) ? "WRITE" : "CREATE";
+        await this.room.step(does, inFolder(at, writing, name), { data: toBase64(piece) });
         this.transfer.add(piece.length);
-      });
+        sent += piece.length;
+      }, this.room.width);
       this.transfer.check();
       await this.room.step("RENAME", inFolder(at, writing), { to: inFolder(at, this.its.folder) });
+      this.spare = spare;
     } catch (fault) {
       await this.clear(at, writing);
       if (isRefused(fault, NOENT)) throw new Error(t.otherStands(shown(this.path)));
-      throw fault;
+      if (!spare || !(fault instanceof Refusal)) throw fault;
+      this.transfer.add(-sent);
+      await this.putPieces(at);
     }
   }
 
@@ -192,21 +184,66 @@ class Upload {
     }
   }
 
-  async lookAfter() {
+  /** That the pieces are there, which another writer who began before may have taken for left over. Gives what is in
+   * the file. */
+  async needPieces() {
     const now = await manifestAt(this.room, this.path);
     if (now?.folder !== this.its.folder) {
       await this.clear(this.path, this.its.folder);
       throw new Error(t.otherStands(shown(this.path)));
     }
     const names = await this.room.list(this.path);
-    // (another writer, who began before, may have taken the pieces for left over)
     if (!names.some(([name]) => name === this.its.folder)) await this.putPieces(this.path);
-    const there = new Set(this.names.map(([name]) => name));
+    return names;
+  }
+
+  /** Behind a new version: what was before is the next spare, what was taken is looked at, and the rest is cleared. */
+  async tidy(names) {
+    const { room, path, transfer } = this;
     const old = this.before && form.readManifest(this.before)?.folder;
+    const isThere = names.some(([name]) => name === old);
+    const spare = isThere ? await leaveSpare(room, path, old, transfer) : null;
+    if (spare) await emptySpare(room, path, spare, transfer);
+    if (this.spare) await this.lookAtTaken(this.spare.names);
+    await this.clearOthers(names, this.its.folder, old, spare?.name);
+  }
+
+  /** Behind a version that stays. */
+  async keep() {
+    const now = await manifestAt(this.room, this.path);
+    const spare = await keepSpare(this.room, this.path, this.names, this.transfer);
+    if (now) await this.clearOthers(this.names, now.folder, spare);
+  }
+
+  async lookAtTaken(names) {
+    const { room, transfer, its: { pieces } } = this;
+    const taken = pieces.filter((it) => names.has(it));
+    const over = [...names].filter((it) => !pieces.includes(it));
+    if (!await areAsNew(room, this.piecesOf(taken), this.stat, transfer)) return this.writeAnew();
+    await clearOver(room, this.piecesOf(over), pieces.length, transfer);
+  }
+
+  /** Somebody prepared what was taken: as long as this version stands its bytes go into pieces that are made for it. */
+  async writeAnew() {
+    const { folder } = this.its;
+    const stands = async () => (await manifestAt(this.room, this.path))?.folder === folder;
+    if (!await stands()) return;
+    this.its = { ...this.its, folder: form.otherName(form.PIECES) };
+    await this.putPieces(this.path);
+    await this.share(this.made());
+    if (!await stands()) return this.clear(this.path, this.its.folder);
+    await this.putManifest(this.path, false);
+    await this.clear(this.path, folder);
+  }
+
+  async clearOthers(names, ...staying) {
+    const there = new Set(this.names.map(([name]) => name));
+    const isOld = (name) => name.startsWith(form.PIECES) && there.has(name);
     for (const [name] of names) {
-      const isOld = name.startsWith(form.PIECES) && name !== this.its.folder && (there.has(name) || name === old);
-      if (isOld || form.isLeft(name)) await this.clear(this.path, name);
+      const isOver = isOld(name) || form.isLeft(name) || name.startsWith(form.GONE);
+      if (isOver && !staying.includes(name)) await this.clear(this.path, name);
     }
+    await clearBeside(this.room, this.path, this.transfer);
   }
 
   /** The document gives its name to a large file, which keeps its owner and its list. */
@@ -255,5 +292,5 @@ const piecesAt = (at, { folder, pieces }) => [pieces.map((it) => inFolder(at, fo
 
 /** Gives these paths to somebody, level by level: whoever gave a folder may not pass through it any more. */
 async function give(room, levels, whose) {
-  for (const paths of levels) await forEach(paths, (it) => room.step("CHOWN", it, whose));
+  for (const paths of levels) await forEach(paths, (it) => room.step("CHOWN", it, whose), room.width);
 }

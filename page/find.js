@@ -1,7 +1,7 @@
 /** The view that looks for names below a folder. */
 import { FOLDER, addressOf, button, clean, inOrder, input, labelled, lastName, link, make, nameText, onSubmit, once,
   shown, t } from "./common.js";
-import { NOBODY } from "./files.js";
+import { NOBODY } from "./reading.js";
 import { head } from "./heads.js";
 import { walk } from "./trees.js";
 

@@ -1,6 +1,6 @@
 /** Entries of a list in words, and back (docs/LISTS.md); and what people mostly give. */
-import { ALL, CHANGE, DELETE, EDIT, FILE, FOLDER, LARGE, OF_OWNERS, RIGHTS, VIEW, bothWords, rightsIn,
-  setOf } from "./rights.js";
+import { ALL, CHANGE, DELETE, EDIT, FILE, FOLDER, LARGE, OF_OWNERS, PASS_THROUGH, READ, RIGHTS, VIEW, bothWords,
+  rightsIn, setOf } from "./rights.js";
 import { joined, t } from "./words.js";
 
 export const MOST_ENTRIES = 32; // of an object's own
@@ -63,6 +63,14 @@ export const isPrivate = ({ aclflag, entries }, user) => !follows(aclflag) &&
   entries.every(({ who, flag }) => who === "OWNER@" || (who === user && !(flag & GROUP_FLAG)));
 
 export const ownOf = ({ entries }) => entries.filter((it) => !isInherited(it));
+
+/** Whether all whom a folder's list lets pass may read a new document in it: entry by entry, and no where that takes
+ * more thought. */
+export const passersRead = ({ entries }) => entries.every((it) => {
+  const mayPass = !(it.flag & NOT_HERE) && (it.mask & PASS_THROUGH);
+  const isOnFiles = it.flag & TO_FILES && it.mask & READ;
+  return isDeny(it) ? !isOnFiles || mayPass : !mayPass || isOnFiles;
+});
 
 /** The list without what is handed down; null where that is all of it. */
 export function ownList({ aclflag, entries }) {

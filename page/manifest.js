@@ -16,7 +16,11 @@ export const sumOf = async (bytes) => hexOf(new Uint8Array(await crypto.subtle.d
 export const otherName = (kind) => kind + randomHex(8);
 
 /** Of an upload that was stopped, or is under way. */
-export const isLeft = (name) => name.startsWith(WRITING) || name.startsWith(GONE);
+export const isLeft = (name) => name.startsWith(WRITING);
+
+export const FIRST = "000"; // of a version's pieces
+export const isOurPiece = ([name, kind]) => kind !== "folder" && /^[0-9]{3}$/.test(name); // as they are made here
+export const isSpare = ([name, kind]) => kind === "folder" && /^\.room-gone-[0-9a-f]{16}$/.test(name);
 
 export const isPart = (name) => /^\.room-(file|(writing|pieces|gone|new)-[0-9a-f]{16})$/.test(name);
 

@@ -4,7 +4,7 @@ import { removeAll } from "./clearing.js";
 import { ACCESS, ADD_FILE, ADD_FOLDER, EXIST, FILE, FOLDER, NOENT, NOTDIR, ROOT, ask, checkbox, clean, faultLine,
   folderOf, forEach, inFolder, isRefused, isWithin, lastName, nameFault, nameInput, shown, t,
   tellFaults } from "./common.js";
-import { NOBODY } from "./files.js";
+import { NOBODY } from "./reading.js";
 import { transferring } from "./transfers.js";
 import { calledAt, isInTrash, nameAt, toTrash, toldBy, trashOf } from "./trash.js";
 import { FolderTree, keepRecent } from "./tree.js";

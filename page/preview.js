@@ -1,6 +1,6 @@
 /** What is shown of a document; and small pictures in rows. */
 import { button, link, make, shown, t, toBase64, toText } from "./common.js";
-import { readFile } from "./files.js";
+import { readFile } from "./reading.js";
 
 const MOST_TEXT = 2 ** 20; // letters
 const MOST_PIXELS = 100e6; // of a picture, and of the small ones of a folder

@@ -2,6 +2,9 @@
 import { ACCESS, ALL, FILE, FOLDER, NOTDIR, ROOT, Refusal, folderOf } from "./common.js";
 import { fileOfFront, untilAnswered } from "./wire.js";
 
+const [WIDTH, WIDTH_BEHIND] = [6, 2]; // requests beside each other
+export const BEHIND = "behind"; // of a step that goes on behind an answer
+
 /** What the map has there, which the task makes first. */
 export function once(map, key, task) {
   if (!map.has(key)) map.set(key, task());
@@ -9,7 +12,7 @@ export function once(map, key, task) {
 }
 
 /** Does the task for each, some beside each other. The first fault ends it. */
-export async function forEach(items, task, width = 6) {
+export async function forEach(items, task, width = WIDTH) {
   const left = items.values();
   let fault = null;
   async function go() {
@@ -24,7 +27,13 @@ export async function forEach(items, task, width = 6) {
 
 export class Room {
   constructor(name, base, session, patience, user) {
-    Object.assign(this, { name, base, session, patience, user });
+    Object.assign(this, { name, base, session, patience, user, stepKind: true, width: WIDTH });
+  }
+
+  /** The same room, for what goes on behind an answer: beside what the user does then, and told to nobody. */
+  behind() {
+    const { name, base, session, patience, user } = this;
+    return Object.assign(new Room(name, base, session, patience, user), { stepKind: BEHIND, width: WIDTH_BEHIND });
   }
 
   async #need(reply, command) {
@@ -54,7 +63,7 @@ export class Room {
   }
 
   step(cmd, path, more) {
-    return this.aside(cmd, path, more, true);
+    return this.aside(cmd, path, more, this.stepKind);
   }
 
   async asideIfAllowed(cmd, path, more) {

@@ -2,7 +2,7 @@
  *
  * Each tab has one of its own in each room, under 'fileroom/USER/ROOM/COUNT', and holds a lock of that name. A new tab
  * takes the first one that nobody holds, so the session of a closed tab is used again. */
-import { end, randomHex, t } from "./common.js";
+import { BEHIND, end, randomHex, t } from "./common.js";
 import { fileOfFront, untilAnswered } from "./wire.js";
 
 const NUMBERS = 2 ** 32;
@@ -244,7 +244,8 @@ async function firstFree(prefix) {
 
 const finish = (session, tell) => Promise.all(session.pending.map((lane) => {
   const command = lane.pending;
-  return lane.finish().then((reply) => tell(command, reply), (fault) => tell(command, null, fault));
+  const tells = lane.kept.pending.isStep === BEHIND ? () => {} : tell; // (nothing is lost with it)
+  return lane.finish().then((reply) => tells(command, reply), (fault) => tells(command, null, fault));
 }));
 
 /** What was under way when a tab ended is sent again first, and its end told. */

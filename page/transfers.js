@@ -1,6 +1,6 @@
 /** What goes on beside the page: how far it is, and an end to it. */
 import { ask, besideIt, button, lastName, make, part, say, settle, shown, t, tellFaults, watchEnd } from "./common.js";
-import { NOBODY } from "./files.js";
+import { NOBODY } from "./reading.js";
 
 class Cancelled extends Error {}
 
@@ -28,6 +28,13 @@ class Transfer {
 
   quiet() {
     return { ...NOBODY, check: () => this.check() };
+  }
+
+  /** Of what goes on behind the answer faults alone are told, once it has ended. */
+  behind() {
+    const [title, faults] = [this.title, []];
+    return { ...NOBODY, fail: (words) => faults.push({ words, about: this.about }),
+      tell: () => tellFaults(title, faults) };
   }
 
   cancel() {

@@ -1,8 +1,9 @@
 /** Folders with all that is in them, and copies of them. */
 import { ACCESS, FILE, FOLDER, LARGE, MAX_NAMES, TOO_DEEP, UNFINISHED, forEach, inFolder, namesOf, orElse, shown,
   t } from "./common.js";
-import { manifestAt, readFile, writeFile } from "./files.js";
+import { writeFile } from "./files.js";
 import { isLarge, isPart, isUnfinished } from "./manifest.js";
+import { manifestAt, readFile } from "./reading.js";
 
 export const kindBy = (names) => (isLarge(names) ? LARGE : isUnfinished(names) ? UNFINISHED : FOLDER);
 

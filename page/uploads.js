@@ -2,9 +2,10 @@
 import { EXIST, MAX_NAMES, MOST_BYTES, MOST_THINGS, ask, besideIt, button, clean, folderOf, forEach, inFolder,
   isTooLong, lastName, listOf, make, nameFault, namesOf, numbered, once, orElse, pathOf, pickFiles, settle, shortened,
   shown, t, tellFault } from "./common.js";
-import { readFile, writeCopy, writeFile } from "./files.js";
+import { writeCopy, writeFile } from "./files.js";
 import { DEEPEST, sizeFault } from "./manifest.js";
 import { makeLike, mayOverflow } from "./overflow.js";
+import { readFile } from "./reading.js";
 import { sizeWords, transferring } from "./transfers.js";
 
 const MOST_TOLD = 10; // of many names or faults

@@ -86,16 +86,18 @@ class Judge:
     """A slot of ann's, past front and player: open while it is used, as a room serves one connection at a time."""
 
     def __init__(self, port):
-        self.port, self.seq, self.line = port, 0, None
+        self.port, self.seq, self.line, self.lock = port, 0, None, threading.Lock()
         self.sid = os.urandom(16).hex()
 
     def __enter__(self):
+        self.lock.acquire()  # (a request of the case before may still be under way)
         self.line = Line(self.port)
         self.line.ask(session(1, self.sid))
         return self
 
     def __exit__(self, *_):
         self.line.close()
+        self.lock.release()
 
     def tells(self, cmd, path, **more):
         """What the room says to a command, or {} where it refuses."""

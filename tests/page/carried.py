@@ -1,12 +1,15 @@
 """Scenes of the page: files up to 16 MiB, there and back, whole whatever comes in between (docs/FILES.md)."""
+import contextlib
 import hashlib
 import json
 import os
 import random
 import re
+import shutil
+import sqlite3
 
 import cases
-from club import choose
+from club import BEHIND, choose, make_new
 from typed import ASKED
 
 NAME, PIECE, MIB = ".room-file", 65536, 1 << 20
@@ -135,6 +138,51 @@ def versions(club, browser, differs):
     browser.press("Keep both")
     browser.sees("1 file uploaded", "#notices")
     differs("both are there", [held(club, f"/big/{it}") for it in ("of 65537 (2)", "of 65537")], [b"both", new])
+
+
+def numbers_used(club):
+    """How many objects the room has made, by a copy of its file, which nothing writes to meanwhile."""
+    club.room.kill()
+    copy = os.path.join(club.folder, "copy.db")
+    for end in "", "-wal":
+        if os.path.exists(club.room.db + end):
+            shutil.copy(club.room.db + end, copy + end)
+    club.room.start()
+    with contextlib.closing(sqlite3.connect(copy)) as rows:
+        return rows.execute("SELECT next FROM room").fetchone()[0]
+
+
+def saved_again(club, browser, differs):
+    """A large file is uploaded over, three times: the page says so while the version before is emptied behind that, the
+    user goes on, another program finds the new bytes, and from the third version on no numbers are used."""
+    lossy, path = club.lossy, "/big/again"
+    versions = [dice.randbytes(9 * PIECE + 7) for _ in range(3)]
+    used = []
+    for at, data in enumerate([*versions, versions[2]]):
+        lossy.hold('"cmd":"WRITE","data":"","path":"/big/again/.room-gone-')
+        sent = len(lossy.bodies)
+        put(club, "/big", on_disk(club, "again", data))
+        if at:
+            browser.press("Replace", "//dialog[@open]")
+        browser.sees("1 file uploaded", "#notices")
+        if at in (1, 2):
+            browser.until("the version before is emptied", lambda: lossy.held)
+            make_new(browser, "New folder")
+            browser.fill("Name", f"made beside {at}")
+            browser.press("Make")
+            differs("the user goes on", browser.sees(f"made beside {at} is made.", "#notices"), True)
+            club.holds({"cmd": "REMOVE", "path": f"/big/made beside {at}"})
+        differs(f"version {at}", held(club, path) == data, True)
+        lossy.go_on()
+        browser.until("the rest", lambda: browser.script(BEHIND))
+        wrote = sum(b'"cmd":"WRITE"' in it or b'"cmd":"CREATE"' in it for it in lossy.bodies[sent:])
+        used.append((numbers_used(club), wrote > 0))
+    first = used[0][0]
+    differs("numbers used, and whether anything was written", used,
+            [(first, True), (first + 12, True), (first + 13, True), (first + 13, False)])  # (and a folder each)
+    spare = next(it for it in names_at(club, path) if it.startswith(".room-gone-"))
+    found = {it: club.bytes(f"{path}/{spare}/{it}") for it in names_at(club, f"{path}/{spare}")}
+    differs("what lies beside it", found, {f"{it:03}": b"" for it in range(10)})
 
 
 def overtaken(club, browser, differs):
@@ -300,4 +348,4 @@ def too_many(club, browser, differs):
                          if not it["flag"] & 0x80], own)
 
 
-SCENES = [sizes, largest, versions, overtaken, stopped, late, left_beside, drops, too_many]
+SCENES = [sizes, largest, versions, saved_again, overtaken, stopped, late, left_beside, drops, too_many]

@@ -12,6 +12,7 @@ from served import HERE, Line, Room, session, slot
 PAGE = os.path.join(HERE, "..", "page")
 A_MINUTE = 60  # seconds
 BUTTONS = "return [...document.querySelectorAll('main > .tools button')].map((it) => it.textContent)"
+BEHIND = "return (document.querySelector('main').dataset.behind ?? '0') === '0'"  # whether nothing goes on behind
 USERS = {"ann": ["eng"], "bob": ["eng", "staff"], "eve": []}
 
 

@@ -5,7 +5,7 @@ from urllib.parse import quote
 import cases
 from cases import No
 from carried import on_disk, saved
-from club import BUTTONS, by_menu, choose
+from club import BEHIND, BUTTONS, by_menu, choose
 
 TOLD = ("const it = document.querySelector('dialog[open] form'); return [it && !it.inert ? it.innerText : '', "
         "...['notices', 'transfers'].map((its) => document.getElementById(its).innerText)]")
@@ -84,7 +84,9 @@ class Page:
     def put(self, path, data):
         name = self.at(path)
         choose(self.browser, "Upload", on_disk(self.club, f"cases/{name}", data))
-        return self.told([("there already", "Replace")], "1 file uploaded|0 files uploaded|failed")
+        told = self.told([("there already", "Replace")], "1 file uploaded|0 files uploaded|failed")
+        self.browser.until("what goes on behind it", lambda: self.browser.script(BEHIND))
+        return told + self.browser.script(TOLD)[1]
 
     def get(self, path):
         self.see(path)

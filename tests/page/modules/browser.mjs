@@ -51,7 +51,8 @@ export class Element {
 
   constructor(tag) {
     Object.assign(this, { tagName: tag.toUpperCase(), childNodes: [], attributes: new Map(), style: {} });
-    this.dataset = new Proxy({}, { get: (_, key) => this.attributes.get(`data-${key}`) });
+    this.dataset = new Proxy({}, { get: (_, key) => this.attributes.get(`data-${key}`),
+      set: (_, key, value) => Boolean(this.attributes.set(`data-${key}`, String(value))) });
   }
 
   setAttribute(key, value) { this.attributes.set(key, String(value)); }

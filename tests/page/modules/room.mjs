@@ -2,9 +2,10 @@
 import { page, tabs } from "./browser.mjs";
 
 /** `faults` says what becomes of the next requests to the room: pass, lose (the answer), drop (the request), hang
- * (until it is given up), a status in place of the room's, or a reply in place of it. `asked` is what went out, `how`
- * the rules of the newest; `user` who is logged in at the front. */
-export const front = { faults: [], asked: [], how: null, user: "ann" };
+ * (until it is given up), held (by the front, till tomorrow), a status in place of the room's, or a reply in place of
+ * it. `asked` is what went out, with the room's answer (more than `most` has no end), `how` the rules of the newest;
+ * `user` who is logged in. */
+export const front = { faults: [], asked: [], most: 300, how: null, user: "ann" };
 const plain = globalThis.fetch;
 const ROSTER = { ann: ["eng"], bob: ["eng"], eve: [] };
 const MOST = 50; // waits of a test: more have no end
@@ -18,14 +19,17 @@ function reached(url, how) {
   const { pathname } = new URL(url);
   const [, user, target] = /^\/as\/([^/]+)(\/.*)$/.exec(pathname) ?? [];
   if (!user) return new Response(JSON.stringify(pathname.endsWith(".users.json") ? ROSTER : front.user));
-  if (front.asked.push({ target, body: how.body }) > 6 * MOST) throw new Error("it asks without end");
+  const its = { target, body: how.body };
+  if (front.asked.push(its) > front.most) throw new Error("it asks without end");
   front.how = how;
   const fault = front.faults.shift() ?? "pass";
   if (fault === "drop") throw new TypeError("no connection");
   if (fault === "hang") return new Promise((_, fail) => { how.signal.onabort = () => fail(how.signal.reason); });
+  if (fault === "held") return new Response("held: ..", { status: 429, headers: { "room-held": "1" } });
   if (Number.isInteger(fault)) return new Response("<html>busy</html>", { status: fault });
   if (typeof fault === "object") return new Response(JSON.stringify(fault));
-  return answered(user, target, how).then((it) => {
+  return answered(user, target, how).then(async (it) => {
+    Object.defineProperty(its, "reply", { value: await it.clone().json() });
     if (fault === "lose") throw new TypeError("the answer is lost");
     return it;
   });
