@@ -193,6 +193,7 @@ def overtaken(club, browser, differs):
     for words, is_mine in ("Replace", True), ("Keep mine as a copy", False):
         club.go(f"#open/club{path.replace(' ', '%20')}")
         browser.sees("Upload a new version")
+        browser.until("the rest of before", lambda: browser.script(BEHIND))
         lossy.hold(".room-pieces-", '"RENAME"')
         replace(browser, on_disk(club, "mine", data))
         browser.until("it waits", lambda: lossy.held)
@@ -238,6 +239,7 @@ def stopped(club, browser, differs):
     choose(browser, "Upload a new version", file)
     browser.sees("What a stopped upload of stopped left is cleared.", "#notices")
     differs("whole", held(club, "/big/stopped") == data, True)
+    browser.until("the rest", lambda: browser.script(BEHIND))
     differs("and nothing else", len(names_at(club, "/big/stopped")), 2)
     lossy.hold(".room-writing-", '"CREATE"')
     put(club, "/big", on_disk(club, "cancelled", data))
@@ -287,6 +289,7 @@ def left_beside(club, browser, differs):
     put(club, "/big", on_disk(club, "between", data))
     browser.sees("1 file uploaded", "#notices")
     differs("it is there", held(club, "/big/between") == data, True)
+    browser.until("the rest", lambda: browser.script(BEHIND))
     differs("nothing is left", [it for it in names_at(club, "/big") if it.startswith(".room")], [])
 
 
