@@ -86,7 +86,7 @@ crash: $(BUILT)
 # A million random questions about lists, to the program and to Samba's own check of access (`make test` asks 100,000).
 # Needs python3-samba.
 decisions: $(BUILT)
-	tests/decisions/run --count 1000000
+	QUESTIONS=1000000 pytest-3 tests/program/test_decisions.py
 
 # Loses the machine's power after each system call of a served room, of `init` and of the upgrade: 4,000 states of each
 # (`make test` tries 150). Needs strace.

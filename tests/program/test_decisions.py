@@ -1,41 +1,24 @@
-#!/usr/bin/env python3
-"""Asks the program and Samba's own check of access the same random questions about lists.
+"""Random questions about lists: the program answers them as Samba's own check of access does.
 
 Samba decides as Windows does (`samba.security.access_check`, of Debian's python3-samba): the same rights at the same
 bits, the first entry that names a right decides it, and the owner may read and change the list whatever it says. So an
 entry of OWNER@ is one of the owner's SID there, GROUP@ one of the owning group's, EVERYONE@ one of Everyone, and users
 and groups have SIDs of their own, which never meet. Compared are the rights allowed of those wanted, asked at once and
 one by one, and the lowest that is not.
-
-That the comparison can fail is shown by other readings of the same lists, which Samba must answer in another way often
-enough: without INHERIT_ONLY, from the last entry on, with deny entries first, and with the owner's entries for
-everybody. Needs python3-samba.
 """
-import json
-import os
 import random
 import re
-import sys
 
-PYTHON = "/usr/bin/python3"  # what Debian's packages are for
-try:
-    from samba.dcerpc import security
-    from samba.security import access_check
-except ImportError:
-    if os.path.realpath(sys.executable) == os.path.realpath(PYTHON) or not os.access(PYTHON, os.X_OK):
-        print("skipped: there is no python3-samba")
-        sys.exit(0)
-    os.execv(PYTHON, [PYTHON, *sys.argv])
+import pytest
+from given import each, number
+from served import message, run
 
-sys.path.insert(0, os.path.join(os.path.dirname(os.path.abspath(__file__)), "..", "lib"))
-sys.dont_write_bytecode = True
-from options import options
-from served import Tally, message, need_program, run
+security = pytest.importorskip("samba.dcerpc.security", reason="there is no python3-samba")
+from samba.security import access_check
 
-ASKED = options(count=100_000, seed=1)
-dice = random.Random(ASKED.seed)
-tally = Tally()
+QUESTIONS, SEED = number("QUESTIONS", 100_000), number("SEED", 1)
 AT_ONCE = 2000
+pytestmark = pytest.mark.timeout(900 + QUESTIONS // 300)  # seconds
 RIGHTS = [1 << place for place in (*range(11), *range(16, 21))]
 INHERIT_ONLY, GROUP_FLAG = 8, 64
 USERS, GROUPS = ["ann", "bob", "eng"], ["eng", "staff", "ann"]  # (two names are a user's and a group's)
@@ -44,13 +27,12 @@ SIDS = {kind: {name: security.dom_sid(f"S-1-5-21-1-2-3-{first + place}") for pla
         for kind, names, first in (("user", USERS, 1000), ("group", GROUPS, 2000))}
 
 
-def mask():
+def mask(dice):
     """One right, a few, all, or any."""
-    some = dice.sample(RIGHTS, dice.choice((1, 1, 1, 2, 3, 6, 16)))
-    return sum(some)
+    return sum(dice.sample(RIGHTS, dice.choice((1, 1, 1, 2, 3, 6, 16))))
 
 
-def entry():
+def entry(dice):
     kind = dice.choice(("OWNER@", "GROUP@", "EVERYONE@", "user", "user", "group", "group"))
     flag = dice.choice((0, 0, 0, 1, 2, 3, 3 | INHERIT_ONLY, 2 | INHERIT_ONLY, 1 | INHERIT_ONLY, 0x80, 0x83))
     who = kind
@@ -59,15 +41,15 @@ def entry():
     elif kind in ("group", "GROUP@"):
         flag |= GROUP_FLAG
         who = kind if kind == "GROUP@" else dice.choice(GROUPS)
-    return {"flag": flag, "mask": mask(), "type": dice.choice((0, 0, 1)), "who": who}
+    return {"flag": flag, "mask": mask(dice), "type": dice.choice((0, 0, 1)), "who": who}
 
 
-def question():
+def question(dice):
     return {
-        "entries": [entry() for _ in range(dice.choice((0, 1, 2, 3, 4, 6, 9)))],
+        "entries": [entry(dice) for _ in range(dice.choice((0, 1, 2, 3, 4, 6, 9)))],
         "group": dice.choice(GROUPS),
         "groups": dice.sample(GROUPS, dice.randrange(len(GROUPS) + 1)),
-        "mask": mask(),
+        "mask": mask(dice),
         "owner": dice.choice(USERS),
         "user": dice.choice(USERS),
     }
@@ -116,51 +98,44 @@ def is_allowed(made, token, wanted):
         return False
 
 
-def samba_says(asked, entries):
+def samba_says(asked, entries=None):
     """The rights allowed of those wanted, one by one; the lowest that is not; whether all are, asked at once."""
-    made, token = described(asked, entries), token_of(asked)
+    made, token = described(asked, asked["entries"] if entries is None else entries), token_of(asked)
     wanted = [it for it in RIGHTS if it & asked["mask"]]
     allowed = [it for it in wanted if is_allowed(made, token, it)]
     lowest = next((it for it in wanted if it not in allowed), 0)
     return sum(allowed), lowest, is_allowed(made, token, asked["mask"])
 
 
-# Other readings, by which the comparison must fail.
+# Whether they differ.
 
-READINGS = {
-    "without INHERIT_ONLY": lambda asked: [{**it, "flag": it["flag"] & ~INHERIT_ONLY} for it in asked["entries"]],
-    "the last entry first": lambda asked: asked["entries"][::-1],
-    "deny first": lambda asked: sorted(asked["entries"], key=lambda it: -it["type"]),
-    "the owner's for everybody": lambda asked: [
-        {**it, "who": "EVERYONE@" if it["who"] == "OWNER@" else it["who"]} for it in asked["entries"]],
-}
+def some_questions():
+    dice = random.Random(SEED)
+    for first in range(0, QUESTIONS, AT_ONCE):
+        yield [question(dice) for _ in range(min(AT_ONCE, QUESTIONS - first))]
 
 
-def answers_of(questions):
-    """What `fileroom check` says: allowed rights and the lowest that is not, of each."""
-    status, output, faults = run("check", stdin=b"".join(message(None, "POST", "/v1/check", it) for it in questions))
-    found = re.findall(rb'\{"allowed":(\d+),"bit":(\d+),"code":0\}', output)
-    is_whole = status == 0 and len(found) == len(questions)
-    tally.need(is_whole, f"check ended with {status}, {len(found)} answers: {faults}")
-    return [(int(allowed), int(bit)) for allowed, bit in found]
+def test_the_program_answers_as_samba():
+    for some in some_questions():
+        told = run("check", stdin=b"".join(message(None, "POST", "/v1/check", it) for it in some))
+        found = re.findall(rb'\{"allowed":(\d+),"bit":(\d+),"code":0\}', told[1])
+        assert (told[0], len(found), told[2]) == (0, len(some), b"")
+        answers = [(int(allowed), int(bit), int(bit) == 0) for allowed, bit in found]
+        assert [it for it in zip(some, answers, map(samba_says, some)) if it[1] != it[2]] == []
 
 
-def main():
-    need_program(3600)
-    told = dict.fromkeys(READINGS, 0)
-    for first in range(0, ASKED.count, AT_ONCE):
-        questions = [question() for _ in range(min(AT_ONCE, ASKED.count - first))]
-        for asked, (allowed, bit) in zip(questions, answers_of(questions)):
-            due = samba_says(asked, asked["entries"])
-            tally.need((allowed, bit, bit == 0) == due, f"{json.dumps(asked)}: {(allowed, bit)} and not {due}")
-            if first == 0:
-                for name, reading in READINGS.items():
-                    told[name] += samba_says(asked, reading(asked)) != due
-    for name, count in told.items():
-        tally.need(count * 100 > min(AT_ONCE, ASKED.count), f"{name}: Samba tells {count} questions alone")
-    others = ", ".join(f"{name} {count}" for name, count in told.items())
-    print(f"decisions: {ASKED.count} questions, answered as by Samba; of the first it tells other readings: {others}")
-    tally.end()
+@pytest.fixture(scope="module")
+def first():
+    """Some questions, and what Samba says."""
+    return [(it, samba_says(it)) for it in next(some_questions())]
 
 
-main()
+@each("reading", [
+    ("without INHERIT_ONLY", lambda asked: [{**it, "flag": it["flag"] & ~INHERIT_ONLY} for it in asked["entries"]]),
+    ("the last entry first", lambda asked: asked["entries"][::-1]),
+    ("deny first", lambda asked: sorted(asked["entries"], key=lambda it: -it["type"])),
+    ("the owner's for everybody", lambda asked: [
+        {**it, "who": "EVERYONE@" if it["who"] == "OWNER@" else it["who"]} for it in asked["entries"]])])
+def test_the_questions_tell_another_reading(first, reading):
+    """In one of a hundred, so that the comparison can fail."""
+    assert sum(samba_says(asked, reading(asked)) != due for asked, due in first) * 100 > len(first)
