@@ -1,13 +1,12 @@
 """Rooms that stay alike to a caller: what MEANING says of them, sequences of commands, and pasts with others' events.
 
-It is written anew from docs/MEANING.md ("What a caller is told"). Rooms and single commands are those of `run`.
+It is written anew from docs/MEANING.md ("What a caller is told"). Rooms and single commands are those of sight.py.
 """
 import plain
-from plain import Refused
+from plain import Refused, Thing
+from sight import BOB, CHAIN, DEEP, FULL, copy, differences, done, entry, room_of
 
 NEW = "n"  # a name that no room has
-FULL = [str(n) for n in range(256)]  # names in a full folder
-DEEP = [("d",) + ("e",) * deep for deep in range(1, 4)]  # to these what is 14 folders deep can be moved too deep
 SIDS = {"bob": "b" * 32, "ann": "a" * 32}
 SLOTS = 2
 ANN = plain.Caller("ann", ["others"])
@@ -15,9 +14,9 @@ LONGEST = 10  # commands in a sequence
 TURNS = 14  # events in a past
 
 
-def reaches(room, caller, at):
+def reaches(room, at):
     try:
-        room.walk(caller, at)
+        room.walk(BOB, at)
     except Refused:
         return False
     return True
@@ -28,8 +27,8 @@ def stands(room, at):
     return {it: vars(thing) for it, thing in room.things.items() if it[:len(at)] == at}
 
 
-def may_remove(room, caller, at, rights):
-    return at and bool(rights & 0x10000 or room.allowed_at(caller, at[:-1]) & 0x40)
+def may_remove(room, at, rights):
+    return at and bool(rights & 0x10000 or room.allowed_at(BOB, at[:-1]) & 0x40)
 
 
 def handed_to(room, at):
@@ -37,21 +36,20 @@ def handed_to(room, at):
     return [*plain.hand_down(room.list_of(at[:-1]), room.things[at].is_folder)]
 
 
-def powers(a, b, caller, parts):
-    """In what two rooms that look alike do not stay alike: `left`, `moving` .. `parts` of a room are which of its paths
-    the caller reaches, with its rights."""
+def apart_by(a, b):
+    """In what two rooms that look alike do not stay alike: `left`, `moving` .. of a path that the caller reaches."""
     found = set()
-    for at, rights in parts(a):
-        it, other = a.things[at], b.things.get(at)
-        has_power = may_remove(a, caller, at, rights) or rights & 0xC0000
+    for at in (it for it in a.things if reaches(a, it)):
+        it, other, rights = a.things[at], b.things.get(at), a.allowed_at(BOB, at)
+        has_power = may_remove(a, at, rights) or rights & 0xC0000
         same = not has_power or stands(a, at) == stands(b, at)
         adds = [kind for bit, kind in ((2, False), (4, True)) if rights & bit] if it.is_folder else []
-        if adds and reaches(a, caller, at + (NEW,)):
+        if adds and reaches(a, at + (NEW,)):
             found |= {"left"} if a.made != b.made else set()
             found |= {"group"} if not other or it.group != other.group else set()
             lists = [[[*plain.hand_down(room.list_of(at), kind)] for kind in adds] for room in (a, b)]
             found |= {"handed"} if lists[0] != lists[1] else set()
-        if may_remove(a, caller, at, rights) and not same:
+        if may_remove(a, at, rights) and not same:
             found.add("moving")
         if rights & 0xC0000:
             found |= {"setting"} if not same else set()
@@ -60,9 +58,13 @@ def powers(a, b, caller, parts):
     return found
 
 
-def pairs_of_parts(thing, room_of):
-    """For each part that `powers` names two rooms that differ in it alone, and commands that tell them apart. `thing`
-    makes an object of ann's where everybody has these rights, and which has more entries; `room_of` a room."""
+def thing(mask, more=(), group="team", aclflag=2, bytes_=None):
+    """An object of ann's where everybody has these rights, and which has more entries."""
+    return Thing("ann", group, aclflag, [entry(mask, "EVERYONE@"), *more], bytes_)
+
+
+def pairs_of_parts():
+    """For each part that `apart_by` names two rooms that differ in it alone, and commands that tell them apart."""
     all_, handed = entry(plain.ALL, "bob", 3), [entry(1, "zoe", 11)]
     made, mine = {"cmd": "MKDIR", "path": (NEW,)}, {"cmd": "SETLIST", "path": (NEW,), "aclflag": 0, "entries": [all_]}
     more, set_x = {"cmd": "MKDIR", "path": ("m",)}, {**mine, "path": ("x",)}
@@ -82,15 +84,11 @@ def pairs_of_parts(thing, room_of):
         set_x, {"cmd": "MKDIR", "path": ("x", "a")}, {"cmd": "MKDIR", "path": ("x", "b")}]
 
 
-def entry(mask, who, flag=0):
-    return {"flag": flag, "mask": mask, "type": 0, "who": who}
-
-
-def at_edges(thing, room_of, chain):
+def at_edges():
     """Two rooms that stay alike, at each edge, with a command for each, and its answer's name."""
     open_, file = thing(0x66), thing(0, bytes_=b"")
     things = {(): thing(0x26), ("full",): thing(0x26), ("e",): thing(0x10026), ("e", "f"): file,
-              **{at: open_ for at in [*chain, *DEEP]}, **{("full", name): file for name in FULL}}
+              **{at: open_ for at in [*CHAIN, *DEEP]}, **{("full", name): file for name in FULL}}
     rooms = [room_of({**things, ("x",): thing(0), ("x", "f"): thing(0, bytes_=it)}, 1_000_000)
              for it in (b"1", b"2")]
     rooms = [with_sealed(it) for it in rooms]
@@ -110,29 +108,29 @@ def with_sealed(room):
     return room
 
 
+def stay_alike(a, b):
+    return not differences(a, b) and not apart_by(a, b)
+
+
+def answer(room, caller, event):
+    try:
+        return getattr(room, event[0])(caller, *event[1:])
+    except Refused as refused:
+        return refused.body
+
+
 class Later:
-    """Pairs of rooms over sequences and pasts, with the tools of `run`: its dice, what a caller sees, its commands."""
+    """Pairs of rooms over sequences and pasts."""
 
-    def __init__(self, dice, caller, copy, differences, command):
-        self.dice, self.caller, self.copy = dice, caller, copy
-        self.differences, self.command = differences, command
+    def __init__(self, dice):
+        self.dice = dice
         self.sequences = self.answers = self.pasts = self.hidden = 0
-
-    def reached(self, room):
-        return [(at, room.allowed_at(self.caller, at)) for at in room.things if reaches(room, self.caller, at)]
-
-    def apart_by(self, a, b):
-        """In what two rooms that look alike do not stay alike."""
-        return powers(a, b, self.caller, self.reached)
-
-    def stay_alike(self, a, b):
-        return not self.differences(a, b) and not self.apart_by(a, b)
 
     def asked(self, room, focus=()):
         """A command. Most are at what the caller made, moved or set last, at what is at an edge, or at a path that is
         there; and some give the caller more."""
         paths, chance = [it for it in room.things if len(it) < 4 and it[:1] != ("full",)], self.dice.random()
-        asked = self.command(focus if focus in room.things and chance < 0.5 else self.dice.choice(paths))
+        asked = self.dice.command(focus if focus in room.things and chance < 0.5 else self.dice.choice(paths))
         if asked["cmd"] == "SETLIST":
             everything = {"flag": self.dice.choice([0, 3]), "mask": plain.ALL, "type": 0, "who": "bob"}
             if not room.things[asked["path"]].is_folder:
@@ -148,22 +146,13 @@ class Later:
             asked.update(path=("d", "d"), to=DEEP[-1] + (NEW,))
         return asked
 
-    def done(self, room, asked):
-        try:
-            return room.do(self.caller, asked)
-        except Refused as refused:
-            return refused.body
-
-    def tells(self, a, b, commands):
-        a, b = self.copy(a), self.copy(b)
-        return any(self.done(a, asked) != self.done(b, asked) for asked in commands)
-
-    def sequence(self, a, b, model):
+    def sequence(self, a, b):
         """Asks both rooms one command after another: the first that they answer apart, or None; and the rooms then."""
-        a, b, focus = self.copy(a, model), self.copy(b, model), ()
+        a, b, focus = copy(a), copy(b), ()
+        self.sequences += 1
         for _ in range(LONGEST):
             asked = self.asked(a, focus)
-            one, other = self.done(a, asked), self.done(b, asked)
+            one, other = done(a, asked), done(b, asked)
             self.answers += 1
             if not isinstance(one, bytes) and asked["cmd"] in ("MKDIR", "CREATE", "RENAME", "SETLIST", "CHOWN"):
                 focus = asked.get("to", asked["path"])
@@ -189,43 +178,38 @@ class Later:
         keep = self.dice.random() < 0.8
         return "request", sid, slot, seq, command, repr(sorted(command.items())), keep
 
-    def answer(self, room, caller, event):
-        try:
-            return getattr(room, event[0])(caller, *event[1:])
-        except Refused as refused:
-            return refused.body
-
-    def others_event(self, room, is_hidden):
+    def others_event(self, room):
         """A command of another's, in a session of its own, which changes the room where it can, and shows nothing to
         the caller: the room after it, or the one before it."""
-        sid, after = SIDS["ann"], self.copy(room, type(room))
+        sid, after = SIDS["ann"], copy(room)
         after.sessions, after.slots = dict(room.sessions), dict(room.slots)
         after.sessions.setdefault(sid, ["ann", SLOTS, True])
-        command = self.command(self.dice.choice([*room.things]))
+        command = self.dice.command(self.dice.choice([*room.things]))
         if command["cmd"] in ("MKDIR", "CREATE"):
             command["path"] += (self.dice.choice("ab" + NEW),)
         seq = room.slots.get((sid, 0), (0,))[0] + 1
-        self.answer(after, ANN, ("request", sid, 0, seq, command, str(seq), True))
+        answer(after, ANN, ("request", sid, 0, seq, command, str(seq), True))
         before = stands(room, ())
         if stands(after, ()) == before and after.made == room.made:
             return after
-        if not is_hidden(room, after):
+        if not stay_alike(room, after):
             return room
         self.hidden += 1
         return after
 
-    def past(self, a, b, model):
+    def past(self, a, b):
         """Two pasts of the caller's events, with others' hidden ones in each: an event that is answered apart."""
-        a, b, last = self.copy(a, model), self.copy(b, model), {}
+        a, b, last = copy(a), copy(b), {}
+        self.pasts += 1
         for room in (a, b):
             room.sessions[SIDS["bob"]] = ["bob", SLOTS, True]
         for _ in range(TURNS):
             if self.dice.random() < 0.5:
-                a = self.others_event(a, self.stay_alike)
+                a = self.others_event(a)
             if self.dice.random() < 0.5:
-                b = self.others_event(b, self.stay_alike)
+                b = self.others_event(b)
             event = self.event(a, last)
-            one, other = self.answer(a, self.caller, event), self.answer(b, self.caller, event)
+            one, other = answer(a, BOB, event), answer(b, BOB, event)
             if one != other:
                 return event
             if event[0] == "request" and event[3] == last.get(event[2], (0,))[0] + 1:
