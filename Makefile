@@ -120,7 +120,7 @@ machine: $(BUILT)
 
 # A million requests to one served room: its memory stays, and so does the time of a request. `make test` sends 40,000.
 soak: $(BUILT)
-	tests/soak/run
+	REQUESTS=1000000 SLOWER=1.5 pytest-3 tests/program/test_soak.py
 
 # Does the README's first screen, with the quick build too, and the first day of docs/RUNNING.md by their own lines, and
 # times them; then tries `make try` and `make dist`. Needs nginx, openssl, sqlite3 and curl, and for the first day root.

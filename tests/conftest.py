@@ -144,6 +144,14 @@ def own(tmp_path):
 
 
 @pytest.fixture
+def memory():
+    """A folder in memory, where the machine has that."""
+    home = "/dev/shm" if os.access("/dev/shm", os.W_OK) else None
+    with tempfile.TemporaryDirectory(prefix="fileroom-", dir=home) as folder:
+        yield folder
+
+
+@pytest.fixture
 def line(room):
     it = room.line()
     yield it
