@@ -96,7 +96,7 @@ power: $(BUILT)
 # Random streams against a plain model, and peers that neither send nor read. `make test` plays 2,000 streams; here
 # 50,000.
 hostile: $(BUILT)
-	tests/hostile/run --streams 50000 --jobs 2
+	STREAMS=50000 pytest-3 tests/program/test_hostile.py
 
 # The client of client/ against a served room: commands, refusals, lost answers, and kills of both.
 client: $(BUILT)

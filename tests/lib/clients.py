@@ -27,11 +27,6 @@ class SharedTally(Tally):
         with self.lock:
             super().differs(name, got, want)
 
-    def add(self, passed):
-        """Counts what was compared elsewhere, and is as it is to be."""
-        with self.lock:
-            self.passed += passed
-
     def thread(self, name, play, *words):
         def counted():
             try:

@@ -1,64 +1,21 @@
-#!/usr/bin/env python3
-"""Plays the program against random streams, and clients that neither send nor read.
+"""Random streams of sessions, commands and questions, good and malformed, with what the plain model (plain.py) answers.
 
-2,000 random streams (--streams) of sessions, commands and questions, good and malformed, go through `replay`: what is
-written and the status are those of the plain model of plain.py. Each again with a few bytes changed: its messages
-before the change are answered as they were, and it ends in order. The first 100 (--served) go through `serve` over a
-file too, where at the end the rows are the model's, each list is whole, and SQLite finds nothing wrong. Among ENOUGH
-streams each refusal is due but those OUT_OF_REACH. --seed begins them; --jobs processes play them.
-
-A client that sends nothing or half a message, and one that takes no answers, hold the next one back for a minute, and
-not for good; one that goes on behind a bad head is let go, and soon one that stays open behind its last answer, silent
-or with a byte now and then. With --only streams these alone are played, for a long run by hand. `make hostile` tries
-more. (Many clients at once, with kills: tests/front/run.)
+What any one malformed message is answered stands in the examples; here are some of each kind, between others.
 """
 import base64
 import collections
-import concurrent.futures
-import contextlib
 import json
-import os
 import random
 import re
-import resource
-import subprocess
-import sys
-import tempfile
-import threading
-import time
 
-sys.path.insert(0, os.path.join(os.path.dirname(os.path.abspath(__file__)), "..", "lib"))
-from clients import SharedTally
-from options import options
-from plain import ALL, NAMES as REFUSALS, LeftOpen, PlainRoom, refusal
-from rows import other_rows
-from served import (HERE, PROGRAM, SID, Line, Room, answers, end_with_parent, findings_of, message,
-                    need_program, session, slot, whole, work_folder)
+from plain import ALL, LeftOpen, PlainRoom, refusal
+from served import SID, message, session
 
-ASKED = options(streams=2000, served=100, seed=1, only="", jobs=1)
-STREAMS, SERVED, SEED, JOBS = ASKED.streams, min(ASKED.streams, ASKED.served), ASKED.seed, ASKED.jobs
-CHANGES = 60  # of a room, with which each stream that is served begins
-AT_ONCE = 20  # streams that a process is given at a time
-LONGEST_RUN = 60  # seconds of a processor that the program may take for a stream
-ENOUGH = 2000  # streams among which every refusal is due
-ACCESS = 5
-OUT_OF_REACH = {12, 30}  # refusals that come after a million objects alone, and where memory or a disk fails
-LISTS = os.path.join(HERE, "..", "tools", "lists")
-LONGEST_WAIT = 60  # seconds that the program waits for a peer
-LONGEST_END = 10  # seconds for a peer with a bad head: 32 reads of a quarter of a second each, and some more
-SOON = 4  # seconds for one that said that its message is the last: nothing more is read (32 drips would take six)
-DRIP = 0.2  # seconds from byte to byte of one that drips: fewer than such a read waits
-LONGEST_TEST = 240  # seconds until the next client gives up: far more, since a loaded machine may be slow
+CHANGES = 60  # of a room, with which a stream that is served begins
 USERS = {"ann": ["eng"], "bob": ["eng", "staff"], "eng": []}
-OTHER_SID = "f" * 32
-SIDS = {"ann": SID, "bob": OTHER_SID, "eng": "e" * 32}
+SIDS = {"ann": SID, "bob": "f" * 32, "eng": "e" * 32}
 
-
-tally = SharedTally()
-
-
-# Random messages. Each part is good, or malformed in one of the ways listed.
-
+# Each part of a message is good, or malformed in one of the ways listed.
 NAMES = ["a", "b", "c", "a.b", "x y", "é", "☃", "\U0001F600", '"', "\\", "n" * 64]
 BAD_NAMES = ["", ".", "..", "n" * 65, "é" * 33, "\0", "\x1f", "\x7f", "a\nb"]
 MASKS = [ALL, 0x1200A9, 0, 1, 2, 4, 6, 0x20, 0x21, 0x40, 0x60, 0x80, 0x10000, 0x20000, 0x40000, 0x80000, 0x2000A1]
@@ -71,31 +28,21 @@ BAD_TEXTS = [
     b'{"slots":01}', b'{"slots":+1}', b'{"slots":1e0}', b'{"slots":-0}', b'{"slots":0x1}', b'{"slots":NaN}',
     b'{"slots":1E400}', b'{"slots":1.0}',
 ]
-MORE_FIELDS = [
-    "content-length: 2", "Content-Length: 0", "transfer-encoding: chunked", "Transfer-Encoding: identity",
-]
+MORE_FIELDS = ["content-length: 2", "Transfer-Encoding: identity"]
 BAD_SIDS = ["0" * 31, "0" * 33, "A" * 32, "g" * 32, "0", "-" + "0" * 31]
 BAD_NUMERALS = ["01", "00", "+1", "-1", "4294967296", "99999999999", "1a", "0x1", "1.0", "-"]
-BAD_DATA = [
-    "A", "AA", "AAA", "AB==", "AAB=", "AA==AA==", "A A=", "AA-_", "AA=\n", "=", "====", "AAAA\n", "é",
-    1, None, ["AA=="],
-]
+BAD_DATA = ["A", "AA", "AAA", "AB==", "AAB=", "AA==AA==", "A A=", "AA-_", "AA=\n", "=", "AAAA\n", "é", 1, None,
+            ["AA=="]]
 BAD_TARGETS = [
-    "/", "*", "/v1", "/v1/check/", "/V1/check", "//v1/check", "/v1/check?", "/v1/check#a", "/v1/chec%6b", "/v2/check",
-    f"/v1/sessions/{SID}/", f"/v1/sessions/{SID}/slots", f"/v1/sessions/{SID}/slots/0", "/v1/sessions//slots/0/1",
-    f"/v1/sessions/{SID}/slots/0/1/", f"/v1/sessions/{SID}/slots//1", f"/v1/sessions/{SID}?slots=1",
-    "http://127.0.0.1/v1/check", "/v1/check/../check",
+    "/", "/v1/check#a", "/v1/chec%6b", "/v2/check", "http://127.0.0.1/v1/check", "/v1/check/../check",
+    *(f"/v1/sessions/{SID}{it}" for it in ("/", "/slots", "/slots/0", "/slots/0/1/", "/slots//1", "?slots=1")),
 ]
 BAD_USERS = [[], ["ann", "ann"], ["ann", "bob"], ["Ann"], ["nobody"], [""], ["ann\xff"], ["ann, bob"]]
-BAD_METHODS = ["GET", "PUT", "HEAD", "PATCH", "OPTIONS", "post", "POSTS", "CONNECT", "X"]
+BAD_METHODS = ["GET", "POSTS", "CONNECT", "X"]
 BAD_HEADS = [
-    b"POST /v1/check HTTP/2.0\r\n\r\n", b"POST /v1/check HTTP/1.2\r\n\r\n", b"POST /v1/check\r\n\r\n", b"\0",
-    b"\r\r\n\r\n", b"POST  /v1/check HTTP/1.1\r\n\r\n", b" POST /v1/check HTTP/1.1\r\n\r\n",
-    b"POST /v1/check HTTP/1.1 \r\n\r\n", b"POST /v1/check HTTP/1.1\r\na b: c\r\n\r\n",
-    b"POST /v1/check HTTP/1.1\r\na\r\n\r\n", b"POST /v1/check HTTP/1.1\r\n: c\r\n\r\n",
-    b"POST /v1/check HTTP/1.1\r\na: \0\r\n\r\n", b"POST /v1/check HTTP/1.1\r\na: b\rc\r\n\r\n",
-    b"POST /v1/check HTTP/1.1\r\n a: b\r\n\r\n", b"P\xc3\xb6ST /v1/check HTTP/1.1\r\n\r\n",
-    b"\x16\x03\x01\x02\x00\x01\x00\x01",
+    b"POST /v1/check HTTP/2.0\r\n\r\n", b"\0", b"\r\r\n\r\n", b"POST /v1/check HTTP/1.1 \r\n\r\n",
+    b"P\xc3\xb6ST /v1/check HTTP/1.1\r\n\r\n", b"\x16\x03\x01\x02\x00\x01\x00\x01",
+    *(b"POST /v1/check HTTP/1.1\r\n" + it + b"\r\n\r\n" for it in (b"a: \0", b"a: b\rc", b" a: b")),
 ]
 COMMANDS = [
     "STAT", "LIST", "MKDIR", "MKDIR", "MKDIR", "CREATE", "CREATE", "CREATE", "READ", "WRITE", "APPEND", "APPEND",
@@ -447,257 +394,3 @@ class Stream:
             # (one that is cut short goes on with what comes behind it)
             before += end <= at and answer != refusal(40)
         return changed, before
-
-
-class Replays:
-    """Runs of `replay` that read a file in memory and write to two. So none needs a thread, or a copy of this process,
-    which takes longer than the run."""
-
-    def __init__(self, roster):
-        self.files = [os.memfd_create(name) for name in ("input", "output", "faults")]
-        self.actions = [(os.POSIX_SPAWN_DUP2, file, number) for number, file in enumerate(self.files)]
-        self.words = [PROGRAM, "replay", roster, "ann", "eng"]
-
-    def close(self):
-        for it in self.files:
-            os.close(it)
-
-    def played(self, bytes_):
-        """The status and the faults, and what was written."""
-        for it in self.files:
-            os.ftruncate(it, 0)
-            os.lseek(it, 0, os.SEEK_SET)
-        os.pwrite(self.files[0], bytes_, 0)
-        pid = os.posix_spawn(PROGRAM, self.words, os.environ, file_actions=self.actions)
-        resource.prlimit(pid, resource.RLIMIT_CPU, (LONGEST_RUN, LONGEST_RUN))
-        status = os.waitstatus_to_exitcode(os.waitpid(pid, 0)[1])
-        written, faults = (os.pread(it, os.fstat(it).st_size, 0) for it in self.files[1:])
-        return (status, faults), written
-
-
-def first_difference(got, want):
-    """Which answer differs first, for a line that a person can read."""
-    pairs = zip(list(answers(got)) + [None], want)
-    wrong = ((n, str(it), due[-300:]) for n, (it, due) in enumerate(pairs) if it is None or it.whole != due)
-    return next(wrong, "its end")
-
-
-def plays(replays, seed, stream):
-    """What is compared of one stream, and of the same with some bytes changed."""
-    due = b"".join(stream.answers)
-    status, written = replays.played(stream.bytes)
-    same = (status, written) == (stream.status, due)
-    yield f"stream {seed}", same or (status, first_difference(written, stream.answers)), True
-    changed, before = stream.changed(Dice(f"{seed} changed"))
-    status, written = replays.played(changed)
-    begins = written.startswith(b"".join(stream.answers[:before]))
-    every = list(answers(written))
-    wholly = b"".join(it.whole for it in every) == written
-    bad = bool(every) and every[-1].whole == refusal(40)
-    in_order = status == ((1, b"fileroom: bad message\n") if bad else (0, b"")) and bool(every) == bool(changed)
-    yield f"stream {seed}, changed", (begins, wholly, in_order), (True, True, True)
-
-
-def asked(line, pieces):
-    """What these messages are answered, each sent once the one before it has its answer, the last with the end."""
-    got = b""
-    with contextlib.suppress(OSError):
-        for it in pieces[:-1]:
-            answer = line.ask(it)
-            got += answer.whole if answer else line.taken()
-        line.send(b"".join(pieces[-1:]))
-        line.end()
-        got += line.to_end()
-    return got
-
-
-def lists_of(db):
-    """The status of tools/lists over a file, and its last line."""
-    ran = subprocess.run([LISTS, db], capture_output=True, text=True, timeout=60)
-    return ran.returncode, ran.stdout.splitlines()[-1:]
-
-
-def serves(fresh, seed, stream):
-    """What is compared of one stream through `serve` over a copy of a fresh room: its answers, and then the file."""
-    with tempfile.TemporaryDirectory() as place:
-        room = fresh.copied(Room, place).start(1)
-        with contextlib.closing(room.line()) as line:
-            written = asked(line, stream.pieces)
-        due = written == b"".join(stream.answers)
-        yield f"stream {seed}, served", due or first_difference(written, stream.answers), True
-        yield f"stream {seed}, served: its end", room.wait(), 0
-        yield f"stream {seed}, served: rows", other_rows(room.db, stream.room), {}
-        whole_lists = 0, [f"{len(stream.room.things)} objects, 0 lists that are not whole"]
-        yield f"stream {seed}, served: lists", lists_of(room.db), whole_lists
-        yield f"stream {seed}, served: by SQLite", findings_of(room.db), []
-
-
-def some_streams(numbers, fresh):
-    """Plays the streams of these numbers: how much was as it is to be, what was not, how many answers were due by code,
-    and how many streams were played in each way."""
-    same, others, codes, ways = 0, [], collections.Counter(), collections.Counter()
-    with contextlib.closing(Replays(fresh.roster)) as replays:
-        for number in numbers:
-            seed = f"{SEED}.{number}"
-            is_served = number < SERVED
-            stream = Stream(seed, is_served)
-            compared = [*plays(replays, seed, stream), *(serves(fresh, seed, stream) if is_served else ())]
-            found = [it for it in compared if it[1] != it[2]]
-            same, others = same + len(compared) - len(found), others + found
-            codes += stream.codes
-            ways.update(replayed=1, served=is_served)
-    return same, others, codes, ways
-
-
-class Streams:
-    """The streams, which JOBS processes play beside this one's threads: they are begun before any thread is."""
-
-    def __init__(self, folder):
-        fresh = Room(folder)
-        self.pool = concurrent.futures.ProcessPoolExecutor(JOBS, initializer=end_with_parent)
-        some = [range(at, min(at + AT_ONCE, STREAMS)) for at in range(0, STREAMS, AT_ONCE)]
-        self.tasks = [self.pool.submit(some_streams, it, fresh) for it in some]
-
-    def count(self):
-        """Waits for them, and counts what they compared."""
-        played, codes = collections.Counter(), collections.Counter()
-        for task in concurrent.futures.as_completed(self.tasks):
-            same, others, of_some, ways = task.result()
-            tally.add(same)
-            for it in others:
-                tally.differs(*it)
-            played += ways
-            codes += of_some
-        tally.differs("streams played", (played["replayed"], played["served"]), (STREAMS, SERVED))
-        if STREAMS >= ENOUGH:
-            lacking = {*REFUSALS, ACCESS} - {*codes} - OUT_OF_REACH
-            tally.differs("refusals of which none was due", lacking, set())
-        told = ", ".join(f"{code}: {count:,}" for code, count in sorted(codes.items()))
-        print(f"hostile: {STREAMS:,} random streams, SEED {SEED}, each again with some bytes changed, and {SERVED} "
-              f"over a file; answers due, by code: {told}", flush=True)
-
-    def close(self):
-        # (while some play on, nobody waits for them; a pool that is left at its end may fail this process's end)
-        self.pool.shutdown(wait=all(it.done() for it in self.tasks), cancel_futures=True)
-
-
-# Clients that neither send nor read, or do not end.
-
-def next_is_served(room, name):
-    """Another client waits behind the one that has the room's only line, and is served."""
-    with contextlib.closing(Line(room.port)) as second:
-        second.socket.settimeout(LONGEST_TEST)
-        got = second.ask(session(1, OTHER_SID))
-        tally.differs(f"behind {name}: served", got and got.whole, whole(b'{"code":0,"slots":1}'))
-
-
-def holds(folder, name, begin):
-    """A client that has the room's only line and goes no further: the next one is served within the minute."""
-    room = Room(folder).start()
-    first = room.line()
-    started = time.monotonic()
-    begin(first)
-    next_is_served(room, name)
-    took = time.monotonic() - started
-    tally.differs(f"behind {name}: after a minute, not at once", took > LONGEST_WAIT - 5, True)
-    first.close()
-    room.kill()
-
-
-def sends_nothing(_):
-    pass
-
-
-def sends_half(line):
-    line.send(session()[:40])
-
-
-def takes_nothing(line):
-    line.ask(session(1))
-    line.ask(slot(0, 1, {"cmd": "CREATE", "path": "/a", "data": base64.b64encode(bytes(65536)).decode()}))
-    line.socket.settimeout(3)
-    try:
-        for seq in range(2, 2000):
-            line.send(slot(0, seq, {"cmd": "READ", "path": "/a"}))
-    except TimeoutError:
-        pass
-
-
-BAD_HEAD = b"noise\r\n\r\n", refusal(40)
-LAST_MESSAGE = (
-    message("ann", "POST", f"/v1/sessions/{SID}", {"slots": 1}, fields=["connection: close"]),
-    whole(b'{"code":0,"slots":1}', last=True),
-)
-
-
-def never_ends(folder):
-    """A client that goes on sending behind a bad head is let go, and the next one is served."""
-    room = Room(folder).start()
-    first = room.line()
-
-    def sends():
-        with contextlib.suppress(OSError):
-            first.send(BAD_HEAD[0])
-            while True:
-                first.send(bytes(65536))
-
-    sender = threading.Thread(target=sends)
-    sender.start()
-    next_is_served(room, "one that never ends")
-    room.kill()
-    sender.join()
-    first.close()
-
-
-def stays(folder, name, last, longest, pause=None):
-    """A client that has its last answer and stays open, with a byte after each pause, or silent where there is none:
-    the next one is served within so many seconds."""
-    room = Room(folder).start()
-    first, over = room.line(), threading.Event()
-    asked_last, due = last
-    got = first.ask(asked_last)
-    started = time.monotonic()
-    tally.differs(f"{name}: its last answer", got and got.whole, due)
-
-    def drips():
-        with contextlib.suppress(OSError):
-            while not over.wait(pause):
-                first.send(b".")
-
-    dripping = threading.Thread(target=drips, daemon=True)
-    dripping.start()
-    next_is_served(room, name)
-    took = time.monotonic() - started
-    tally.differs(f"behind {name}: soon", took < longest or took, True)
-    over.set()
-    dripping.join()
-    first.close()
-    room.kill()
-
-
-def main():
-    need_program(300 + STREAMS // 4 + SERVED)
-    with work_folder() as folder, contextlib.closing(Streams(folder)) as streams:
-        parts = []
-        if ASKED.only != "streams":
-            plays = {
-                "half": (holds, "one that sends half", sends_half),
-                "none": (holds, "one that takes no answer", takes_nothing),
-                "silent": (holds, "one that sends nothing", sends_nothing),
-                "endless": (never_ends,),
-                "bad": (stays, "a silent one with a bad head", BAD_HEAD, LONGEST_END),
-                "last": (stays, "a silent one that closes", LAST_MESSAGE, SOON),
-                "drip": (stays, "one that drips", LAST_MESSAGE, SOON, DRIP),
-            }
-            parts = [tally.thread(name, play, os.path.join(folder, name), *words)
-                     for name, (play, *words) in plays.items()]
-        for it in parts:
-            it.start()
-        streams.count()
-        for it in parts:
-            it.join()
-    tally.end()
-
-
-if __name__ == "__main__":
-    main()
