@@ -61,7 +61,7 @@ growth: $(BUILT)
 
 # Fails reads and writes in turn, over every example. `make test` tries a sample in long streams.
 failing: $(BUILT)
-	RT='$(RT)' tests/failing/run
+	RT='$(RT)' EVERY=1 pytest-3 tests/program/test_failing.py
 
 # Serves rooms whose files cannot grow, as on a full disk.
 full: $(BUILT)
