@@ -7,6 +7,7 @@ import shutil
 import subprocess
 import time
 
+import moving
 from machines import SERVICE, Machine, Served
 from monitored import numbers, stamp
 from nginx import Front
@@ -14,7 +15,7 @@ from served import HERE, text_of, until
 
 SOON = 20  # seconds
 SMALL = {"2000": "3", "20000": "12", "200000": "40", "3277": "5", "32768": "20", "327680": "60"}  # in the place of each
-USERS = "ann", "bob", "kim", "lou", "max", "ned"
+USERS = "ann", "bob", "kim", "lou", "max", "ned", "--at"
 PADDED = '{"cmd":"STAT","path":"/"' + " " * 5000 + "}"
 
 
@@ -103,6 +104,20 @@ def at_bounds(machine, front, tally):
     tally.differs("another login", Caller(front, "ann").makes("own"), 200)
 
 
+def of_jails(machine, front, ban, tally):
+    """Each jail lets those go whom it holds: the lower ones counted enough hours before, and held nobody."""
+    at = Caller(front, "--at")
+    tally.differs("a name like an option", {at.makes(it) for it in range(12)}, {200})
+    tally.differs("is held too", until(lambda: is_held(machine, "--at"), SOON), True)
+    time.sleep(3)
+    for user in "bob", "--at":
+        ban.asked("set", "fileroom-made-few", "unbanip", f"{user}@plans")
+    time.sleep(2)
+    tally.differs("a lower bound's day is over", (is_held(machine, "bob"), is_held(machine, "--at")), (True, True))
+    ban.asked("set", "fileroom-made-usual", "unbanip", "--at@plans")
+    tally.differs("its own day is over", until(lambda: not is_held(machine, "--at"), SOON), True)
+
+
 def of_groups(machine, front, tally):
     """A group's bound is lower, one's own may be higher; where a room has few numbers left nobody makes as many."""
     for words in ("few", "--group", "pupils"), ("many", "--user", "lou"):
@@ -163,6 +178,9 @@ def let_go(machine, front, ban, tally):
     tally.differs("then again", until(lambda: is_held(machine, "bob"), SOON), True)
     tally.differs("user hold", machine.does("user", "hold", "plans", "lou"), (0, "lou is held in plans\n", ""))
     tally.differs("by hand", (is_held(machine, "lou"), machine.does("user", "hold", "none", "lou")[1]), (True, ""))
+    for words in ("hold", "--at", "many"), ("release", "--over", "many"):
+        machine.does("user", *words, "plans", "lou")
+    tally.differs("who is held by hand is let go by hand", is_held(machine, "lou"), True)
 
 
 def of_words(machine, tally):
@@ -172,19 +190,38 @@ def of_words(machine, tally):
     tally.differs("bound", machine.does("bound", "club"), (0, "club  many\nclub  user bob  few\n", ""))
     asked = ("ann", "usual"), ("ann", "few"), ("ann", "many"), ("bob", "many"), ("bob", "few")
     told = [machine.does("user", "hold", "club", user, "--at", at)[1] for user, at in asked]
-    tally.differs("who has another is not held", told,
-                  ["", "", "ann is held in club\n", "", "bob is held in club\n"])
+    tally.differs("who has a higher one is not held, and who has a lower one since is", told,
+                  ["", "", "ann is held in club\n", "bob is held in club\n", "bob is held in club\n"])
     machine.does("user", "groups", "club", "kim", "pupils", "staff")
     for words in ("few", "--group", "pupils"), ("many", "--group", "staff"):
         machine.does("bound", "club", *words)
-    least = [machine.does("user", "hold", "club", "kim", "--at", at)[1] for at in ("many", "few")]
+    least = machine.does("user", "hold", "club", "kim", "--at", "few")[1]
     machine.does("bound", "club", "none", "--user", "kim")
     own = [machine.does("user", "hold", "club", "kim", "--at", at)[1] for at in ("few", "many")]
-    tally.differs("the least of the groups', and the own", (least, own), (["", "kim is held in club\n"], ["", ""]))
+    tally.differs("the least of the groups', and the own", (least, own), ("kim is held in club\n", ["", ""]))
     for words in ("none", "few"), ("club", "few", "--user", "nobody"), ("club", "most"):
         tally.differs(f"bound {words}", machine.does("bound", *words)[0] != 0, True)
     for room, user in ("../x", "ann"), ("club", "../x"), ("club", "a/b"):
         tally.differs(f"hold {room} {user}", machine.does("user", "hold", room, user)[0], 1)
+
+
+def of_who_leaves(machine, tally):
+    """Neither hold nor bound waits for the next of that name; and who is renamed keeps the bound."""
+    for user in "max", "ned", "kim":
+        machine.does("bound", "club", "few", "--user", user)
+        machine.does("user", "hold", "club", user)
+    machine.does("user", "remove", "club", "max")
+    machine.does("user", "rename", "ned", "ted")
+    left = [it for it in machine.does("bound", "club")[1].splitlines() if " user " in it]
+    tally.differs("bounds", left, ["club  user bob  few", "club  user kim  few", "club  user ted  few"])
+    tally.differs("holds", [is_held(machine, it, "club") for it in ("max", "ned", "ted", "kim")], [False] * 3 + [True])
+    machine.does("bound", "plans", "few", "--user", "kim")
+    machine.does("user", "hold", "plans", "kim")
+    moving.backed_up(machine)
+    tally.differs("room remove", machine.does("room", "remove", "plans")[0], 0)
+    its = text_of(machine.at("etc/fileroom/bounds.json"))
+    tally.differs("of a room, and not of another", ([is_held(machine, "kim", it) for it in ("plans", "club")], [
+        f'"{it}"' in its for it in ("plans", "club")]), ([False, True], [False, True]))
 
 
 def tried(folder, tally):
@@ -195,7 +232,7 @@ def tried(folder, tally):
     for room in "plans", "club":
         machine.does("room", "add", room, "ann", "eng")
         for user in USERS[1:]:
-            machine.does("user", "add", room, user, *["pupils"] * (user == "kim"))
+            machine.does("user", "add", "--", room, user, *["pupils"] * (user == "kim"))
     it = Served(machine)
     it.holds("ann", "SETLIST", "/", aclflag=1, entries=[{"type": 0, "flag": 3, "mask": 0x1F07FF, "who": "EVERYONE@"}])
     front = Front(os.path.join(folder, "front"), {user: f"word of {user}" for user in USERS},
@@ -209,6 +246,7 @@ def tried(folder, tally):
     try:
         tally.need(until(ban.has_begun, SOON), "fail2ban has no jails")
         at_bounds(machine, front, tally)
+        of_jails(machine, front, ban, tally)
         of_groups(machine, front, tally)
         of_bytes(machine, front, tally)
         told_of(machine, tally)
@@ -217,4 +255,5 @@ def tried(folder, tally):
         ban.end()
     of_words(machine, tally)
     it.end(machine)
+    of_who_leaves(machine, tally)
     return []

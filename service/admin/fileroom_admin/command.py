@@ -76,7 +76,8 @@ def add_users(words):
     one.add_argument("--at", choices=[*held.BOUNDS], help="only if that is the user's bound, as fail2ban asks")
     one.add_argument("--made", action="store_true", help="of objects: where a room has few numbers left, few are many")
     one = add_command(user, "release", "lets a user who is held change things again", "ROOM", "USER")
-    one.add_argument("--over", action="store_true", help="as fail2ban asks, once the day is over")
+    one.add_argument("--over", choices=[*held.BOUNDS], help="only if held at that bound, as fail2ban asks after a day")
+    one.add_argument("--made", action="store_true", help="of objects")
     one = user.add_parser("list", help="rooms, users, groups, and who has a login")
     one.add_argument("ROOM", nargs="?")
     one.add_argument("--csv", action="store_true", help="of ROOM, as `user import --update` reads it")
@@ -134,7 +135,7 @@ def hold(places, given, say):
 
 
 def release(places, given, say):
-    held.release(places, given.ROOM, given.USER, given.over)
+    held.release(places, given.ROOM, given.USER, given.over, given.made)
     say(f"{given.USER} is not held in {given.ROOM}")
     return 0
 

@@ -11,11 +11,12 @@ import time
 from . import paces, rosters
 from .changes import Change
 from .places import Fault, read, said, write
-from .warned import HELD, group_of_workers, own_folder, put
+from .warned import HELD, group_of_workers, held_in, own_folder, put
 
 BOUNDS = {"few": 2_000, "usual": 20_000, "many": 200_000, "none": None}  # objects that are made in a day
 USUAL = "usual"
 FILE = "etc/fileroom/bounds.json"
+BY_HAND = "by hand"  # who is held so is let go so
 JAILS = [f"fileroom-{what}-{bound}" for what in ("made", "sent") for bound in ("few", "usual", "many")]
 LEFT = 10 * BOUNDS[USUAL]  # numbers: a room that has fewer lets nobody make as many as usual
 
@@ -40,8 +41,21 @@ class Bounds:
         else:
             its["room"] = bound
         change = Change(self.places)
-        change.put(self.path, json.dumps(self.set, indent=1, sort_keys=True) + "\n")
+        self.save(change)
         change.happen()
+
+    def save(self, change):
+        change.put(self.path, json.dumps(self.set, indent=1, sort_keys=True) + "\n")
+
+    def leave(self, change, room, user=None, new=None):
+        """A user's own goes with the user, under a new name if there is one; a room's all go with the room."""
+        its = self.set.get(room, {}) if user else self.set
+        its = its.get("users", {}) if user else its
+        was = its.pop(user or room, None)
+        if was and new:
+            its[new] = was
+        if was:
+            self.save(change)
 
     def of(self, room, user):
         its = self.set.get(room, {})
@@ -66,30 +80,52 @@ def path_of(places, room, user):
 
 
 def is_beyond(places, room, user, at, is_made):
-    """Whether that many are too many: by the bound; of objects fewer than usual where a room has few numbers left."""
+    """Whether that many are too many: by the bound, which may be lower since; of objects fewer than usual where a room
+    has few numbers left."""
     bound = Bounds(places).of(room, user)
     if at == "few" and is_made and bound == USUAL:
         used, _ = paces.of_numbers(places.backups(room), places.copies(room))
         return paces.NUMBERS - used < LEFT
-    return at == bound
+    return BOUNDS[bound] is not None and BOUNDS[at] >= BOUNDS[bound]
+
+
+def mark_of(at, is_made):
+    """What the file says of who is held: by which jail."""
+    return f"{at} made" if is_made else at
+
+
+def marked(path):
+    return read(path, "").partition(" ")[2].strip()
 
 
 def hold(places, room, user, at=None, is_made=False):
     """By hand, or where `at` so many were counted. (No command waits for this, nor does this for one.)"""
     path = path_of(places, room, user)
-    if room not in places.rooms() or at and not is_beyond(places, room, user, at, is_made):
+    if room not in places.rooms() or at and (
+            marked(path) == BY_HAND or not is_beyond(places, room, user, at, is_made)):
         return False
     own_folder(places, os.path.dirname(path))
-    write(f"{time.strftime('%Y-%m-%dT%H:%M:%SZ', time.gmtime())} {at or 'by hand'}\n", path, 0o640,
-          group_of_workers(places))
+    mark = mark_of(at, is_made) if at else BY_HAND
+    write(f"{time.strftime('%Y-%m-%dT%H:%M:%SZ', time.gmtime())} {mark}\n", path, 0o640, group_of_workers(places))
     put(places)
     return True
 
 
-def release(places, room, user, is_over=False):
-    """And what fail2ban counted of the login begins anew. Where it says itself that the day is over it is not asked."""
+def release(places, room, user, over=None, is_made=False):
+    """And what fail2ban counted of the login begins anew. Where it says itself that a jail's day is `over`, it is not
+    asked; and only whom that jail holds is let go: each login passes the lower ones' bounds hours before its own."""
+    path = path_of(places, room, user)
+    if over and marked(path) != mark_of(over, is_made):
+        return
     with contextlib.suppress(FileNotFoundError):
-        os.unlink(path_of(places, room, user))
-    for it in [] if is_over else JAILS:
+        os.unlink(path)
+    for it in [] if over else JAILS:
         said("fail2ban-client", "set", it, "unbanip", f"{user}@{room}")
     put(places)
+
+
+def let_go(places, room, user=None):
+    """Who of that name is held in a room, or all there: for a user, and a room, that is no more."""
+    for it in held_in(places, room):
+        if user in (None, it):
+            release(places, room, it)

@@ -8,7 +8,7 @@ import subprocess
 import tarfile
 import time
 
-from . import archives, owned, rosters
+from . import archives, held, owned, rosters
 from .archives import ABOUT, CERT, DB, KEY, LOG, LOGINS, NAMES, NEW_HERE, ROSTER, add, add_file, new_file
 from .changes import AS_ROOMS, FOLDER, MOST_SAID, Change, begun, own_folder, put_aside
 from .people import People
@@ -97,6 +97,7 @@ class Rooms(People):
             raise
         self.say(f"the room {room} is not served any more; all of it is in {path}: fileroom-admin room import FILE")
         put_aside(self.places.state(room))
+        held.let_go(self.places, room)
         self.say(f"its backups stay in {self.places.backups(room)}, and its files, renamed, in "
                  f"{self.places.state(room)}: remove them once nobody needs them")
 
@@ -133,6 +134,7 @@ class Rooms(People):
         others = {user for it in places.rooms() if it != room for user in self.users(it)}
         self.put_passwords(change, {it: None for it in users if it not in others})
         self.put_names(change, {it: None for it in users if it not in others})
+        held.Bounds(places).leave(change, room)
         change.look("nginx", "-tq")
         for it in reversed(units_of(room)):
             change.then("systemctl", "disable", "--now", it, undo=("systemctl", "enable", "--now", it))

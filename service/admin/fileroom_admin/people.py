@@ -142,11 +142,13 @@ class People:
         self.need_user(room, user)
         groups = self.users(room)[user]
         change = self.change_rosters({room: {user: None}})
+        held.Bounds(self.places).leave(change, room, user)
         elsewhere = [it for it in self.rooms_of(user) if it != room]
         if not elsewhere:
             self.put_passwords(change, {user: None})
             self.put_names(change, {user: None})
         self.happen(change, room)
+        held.let_go(self.places, room, user)
         self.say(f"{user} is no user of the room {room} any more" + (
             f"; the login stays, for {', '.join(elsewhere)}" if elsewhere else ", and has no login"))
         self.say(f"what {user} owned still belongs to {user}: give that name to nobody else; to bring {user} back: "
@@ -164,7 +166,12 @@ class People:
         change = self.change_rosters({it: {old: None, new: self.users(it)[old]} for it in rooms})
         change.put(self.places.front("users"), rosters.with_renamed(self.passwords(), old, new))
         self.put_names(change, {old: None, new: self.names().get(old)})
+        bounds = held.Bounds(self.places)
+        for room in rooms:
+            bounds.leave(change, room, old, new)
         self.happen(change, *rooms)
+        for room in rooms:
+            held.let_go(self.places, room, old)
         self.say(f"{old} is {new} in {', '.join(rooms)}, with the same password")
         self.say(f"a room keeps by whose name it is who owns a thing, who is named in a list, and whose a session is: "
                  f"that stays {old}'s, also what page or client of {old} had not sent yet")
