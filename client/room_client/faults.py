@@ -66,6 +66,10 @@ class NoAnswer(Fault):
     status = 3
 
 
+class Held(NoAnswer):
+    """The front lets nothing of this login but looks through, today."""
+
+
 class SessionLost(Refused):
     """The room and the state file do not know the same session."""
 

@@ -5,7 +5,7 @@ import json
 import sys
 from collections.abc import Callable, Iterable, Sequence
 
-from .faults import FBIG, Fault, Refused, refused
+from .faults import FBIG, Fault, Held, Refused, refused
 from .line import Line
 from .settings import Settings
 from .slots import Crew, Pace, Slot, compact, told
@@ -97,12 +97,14 @@ class Room:
         self.was_pending = bool(pending)
         parts = {}
         for number in pending:
-            command = json.loads(self.state.kept[number].pending)
-            if is_part(command):
-                done = self.slot(number).settle_part(command)
-                parts.setdefault(whole_of(command), []).append((command, done))
-            else:
-                self._finish(self.slot(number), command)
+            slot, command = self.slot(number), json.loads(self.state.kept[number].pending)
+            try:
+                if is_part(command):
+                    parts.setdefault(whole_of(command), []).append((command, slot.settle_part(command)))
+                else:
+                    self._finish(slot, command)
+            except Held:
+                self.say(f"{told(command)}: {slot.go_on_held(command)}")
         for whole, found in parts.items():
             self._tell_parts(whole, found)
 

@@ -6,7 +6,7 @@ import threading
 import time
 from collections.abc import Callable, Sequence
 
-from .faults import BadWords, Fault, NoAnswer, Refused, SessionLost, refused
+from .faults import BadWords, Fault, Held, NoAnswer, Refused, SessionLost, refused
 from .line import NO_SUCH_NAME, Answer, Line, Lost, NotSent
 from .settings import Settings
 from .state import State
@@ -110,7 +110,7 @@ class Slot:
             if not (is_refused_as(answer, UNCACHED) and command.get("keep") is False):
                 self.need_done(answer, command)
         except NoAnswer as fault:
-            raise self._leave(NoAnswer(f"{fault}; {self._settle()}")) from None
+            raise self._leave(type(fault)(f"{fault}; {self._settle()}")) from None
         except Fault as fault:
             self._settle()
             raise self._leave(fault)
@@ -126,14 +126,26 @@ class Slot:
         return self.send_pending(command)
 
     def settle_part(self, command: dict) -> dict | None:
-        """Of what was pending, whether it had been done: its reply, or None where it was not, and never will be. The
-        same number with a harmless request tells that, and is used up by it."""
+        """Of what was pending, whether it had been done: its reply, or None where it was not, and never will be."""
+        return self.finish(command) if self.was_taken(command) else None
+
+    def was_taken(self, command: dict) -> bool:
+        """Whether the room had what was pending. The same number with a harmless request tells that, and is used up by
+        it."""
         answer = self._send(compact(HARMLESS))
         if is_refused_as(answer, FALSE_RETRY):
-            return self.finish(command)
+            return True
         self.need_done(answer, command)
         self.state.told(self.number)
-        return None
+        return False
+
+    def go_on_held(self, command: dict) -> str:
+        """What came of what was pending, as far as who is held can find out. (Nothing but a look is let through.)"""
+        self.left = None
+        if not self.was_taken(command):
+            return "not done, since you are held: give it again later"
+        self.state.told(self.number)
+        return "the room had it, and does not tell whether it was done or refused while you are held: look"
 
     def _send(self, request: str) -> Answer:
         number = self.state.kept[self.number].number
@@ -159,7 +171,7 @@ class Slot:
         if answer.reply is not None:
             raise refused(answer.reply, command)
         what = FRONT.get(answer.status, "what answers there is no room: correct the URL")
-        raise NoAnswer(f"{self.settings.url} answered {answer.status}: {what}")
+        raise (Held if answer.is_held else NoAnswer)(f"{self.settings.url} answered {answer.status}: {what}")
 
     def until_answered(self, method: str, target: str, body: str) -> Answer:
         """Sends until something else than 'later' is answered, in the time that is given. Notes in `may_be_sent`

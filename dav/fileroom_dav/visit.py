@@ -237,7 +237,7 @@ class Visit(Room):
             its.save(its.session)
             self._open()
         for number in its.pending():
-            self.slot(number).settle_part(json.loads(its.kept[number].pending))
+            self.slot(number).was_taken(json.loads(its.kept[number].pending))
             its.told(number)
 
     def __exit__(self, *_) -> None:

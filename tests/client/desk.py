@@ -24,6 +24,7 @@ COMMAND = os.path.join(HERE, "..", "client", "room")
 PREFIX = "/rooms/plans"
 GROUPS = {"ann": ["eng"], "bob": ["eng", "staff"], "eng": []}  # as served.ROSTER
 PASSWORDS = {"ann": "a secret: of ann", "bob": "bob's"}
+LOOKS = "STAT", "LIST", "READ", "GETLIST", "ACCESS"
 ALL_CHANGE = {"flag": 3, "mask": 0x1301EF, "type": 0, "who": "EVERYONE@"}
 
 
@@ -131,7 +132,8 @@ def end(child):
 class Front(http.server.BaseHTTPRequestHandler):
     """As the front of docs/RUNNING.md: it asks for a password, and sets room-user. `server.faults` says what it does
     with the next requests: pass, lose (the answer), cut (the answer), drop (the request), hold (until `server.held` is
-    set, and then pass), held (the login is, for the day), or a status of its own."""
+    set, and then pass), held (the login is, for the day), or a status of its own. While `server.is_held` it lets looks
+    pass alone."""
 
     protocol_version = "HTTP/1.1"
 
@@ -143,7 +145,7 @@ class Front(http.server.BaseHTTPRequestHandler):
             self.close_connection = True
         elif user is None or not self.path.startswith(PREFIX):
             self.answer(401 if user is None else 404, b"<html>no</html>")
-        elif fault == "held":
+        elif fault == "held" or self.server.is_held and json.loads(body).get("cmd", "STAT") not in LOOKS:
             self.answer(429, b"held", "room-held")
         elif isinstance(fault, int):
             self.answer(fault, b"<html>busy</html>")
@@ -204,6 +206,7 @@ def serve_front(desk):
     """A front of the desk's room, until the test ends, and the URL behind it."""
     server = FrontServer(("127.0.0.1", 0), Front)
     server.room, server.faults, server.passed, server.held = desk.served, [], 0, threading.Event()
+    server.is_held = False
     thread = threading.Thread(target=server.serve_forever, kwargs={"poll_interval": 0.02}, daemon=True)
     thread.start()
     desk.addCleanup(thread.join)

@@ -121,6 +121,25 @@ class Lost(Desk):
         with self.behind() as room:
             self.assertEqual(room.read("/late"), b"piece")
 
+    def test_who_is_held_reads_on_whatever_is_pending(self):
+        """A look finds out whether the room had it, and uses its number up."""
+        for fault, came, has in ("lose", "the room had it", b"piece"), ("drop", "not done, since you are held", b""):
+            with self.behind() as room:
+                room.create(f"/{fault}", b"")
+            self.front.faults[:] = [fault]
+            with self.assertRaises(NoAnswer), self.behind(patience=0) as room:
+                room.append(f"/{fault}", b"piece")
+            self.front.is_held, said = True, []
+            with self.behind(said.append) as room:
+                self.assertEqual(room.read(f"/{fault}"), has)
+            self.front.is_held = False
+            self.assertEqual(len(said), 1)
+            self.assertIn(f"APPEND /{fault}: {came}", said[0])
+            with self.behind(said.append) as room:
+                room.append(f"/{fault}", b"s")
+                self.assertEqual(room.read(f"/{fault}"), has + b"s")
+            self.assertEqual(len(said), 1)
+
     def test_a_name_that_is_not_found_is_told_as_such(self):
         said = []
         with self.assertRaisesRegex(NoAnswer, "its host's name is not found"):
