@@ -1,5 +1,6 @@
 /** What the owner of a room is warned of: in words, by the room, and until it is closed for the day. */
 import assert from "node:assert/strict";
+import { readFileSync } from "node:fs";
 import { beforeEach, test } from "node:test";
 
 import { buttonOf, kept, page, shown } from "./browser.mjs";
@@ -38,10 +39,11 @@ test("it is told of the room that is shown, as the days are", async () => {
   assert.match(t.numbersEnd(t.someDays(1)), /for about 1 more day\./);
 });
 
-test("memory, disk and logins that are held are told too, each till it is closed", async () => {
-  front.answer = JSON.stringify({ club: { memory_days: 3, disk_days: 0, held: ["bob", "eve"] } });
+test("all that the service writes is told, each till it is closed", async () => {
+  front.answer = readFileSync(process.env.WARNINGS, "utf8");
   const warned = await warnings();
-  const all = [t.memoryEnds(t.someDays(3)), t.diskEnds(t.lessThanADay), t.areHeld(["bob", "eve"], 2)];
+  const all = [t.numbersEnd(t.someDays(7)), t.memoryEnds(t.someDays(3)), t.diskEnds(t.lessThanADay),
+    t.areHeld(["bob", "eve"], 2)];
   assert.deepEqual(await warned("ann", "club"), all);
   buttonOf(t.untilTomorrow).click(); // (the first of them)
   assert.deepEqual(await warned("ann", "club"), all.slice(1));
