@@ -147,7 +147,7 @@ export const buttonOf = (words) => shown("button").find((it) => it.textContent =
 Object.assign(globalThis, { document, localStorage: store, Element, innerHeight: 0, scrollY: 0, scrollTo() {},
   addEventListener: (kind, does) => listeners.set(kind, [...listeners.get(kind) ?? [], does]),
   ResizeObserver: class { observe() {} }, getSelection: () => ({ isCollapsed: true }),
-  location: { origin: process.env.ROOM ?? "http://127.0.0.1:1", hash: "", reload() {
+  location: { origin: process.env.ROOM, hash: "", reload() {
     throw new Error("reloaded");
   } } });
 globalThis.crypto ??= webcrypto;

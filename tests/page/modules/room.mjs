@@ -40,7 +40,7 @@ globalThis.fetch = async (url, how) => reached(url, how);
 /** Waits of the page, which end at once, but for those of a tab that `isDead`. */
 export const patience = { waits: [], isDead: false, begin: () => ({ over() {}, async wait(why, times, isShut) {
   patience.waits.push({ why, times, isShut });
-  if (patience.waits.length > MOST) throw new Error("it waits without end");
+  if (patience.waits.length > MOST) throw new Error(`it waits without end: ${why}`);
   if (patience.isDead) await new Promise(() => {});
 } }) };
 
