@@ -65,7 +65,7 @@ failing: $(BUILT)
 
 # Serves rooms whose files cannot grow, as on a full disk.
 full: $(BUILT)
-	tests/full/run
+	pytest-3 tests/program/test_full.py
 
 # Sends a served room odd, malformed and cut messages, and the program odd words, rosters and streams.
 wire: $(BUILT)

@@ -152,6 +152,15 @@ def memory():
 
 
 @pytest.fixture
+
+
+def alone():
+    """Servers that this test starts end with it."""
+    yield
+    served.end_servers()
+
+
+@pytest.fixture
 def line(room):
     it = room.line()
     yield it

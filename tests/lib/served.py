@@ -13,6 +13,7 @@ import json
 import os
 import random
 import re
+import resource
 import shutil
 import signal
 import socket
@@ -88,7 +89,7 @@ def start_program(*words, **how):
     """The program as a process that ends with the thread that starts it, at the latest."""
     if stopping.is_set():
         sys.exit(f"{SCRIPT}: it ends")
-    child = subprocess.Popen([PROGRAM, *words], preexec_fn=end_with_parent, **how)
+    child = subprocess.Popen([PROGRAM, *words], **{"preexec_fn": end_with_parent, **how})
     started_here.append(child)
     return child
 
@@ -98,6 +99,15 @@ def run(*words, stdin=b"", **how):
     how = {"input": stdin, "capture_output": True, "timeout": 60, "preexec_fn": end_with_parent, **how}
     done = subprocess.run([PROGRAM, *words], **how)
     return done.returncode, done.stdout, done.stderr
+
+
+def narrow(size):
+    """How a program is started whose files cannot grow beyond so many bytes. (The signal of that is ignored, as Python
+    ignores it: so the write fails, and the program goes on.)"""
+    def begin():
+        end_with_parent()
+        resource.setrlimit(resource.RLIMIT_FSIZE, (size, resource.RLIM_INFINITY))
+    return {"preexec_fn": begin, "restore_signals": False}
 
 
 def sqlite(db, text):
@@ -388,10 +398,11 @@ class Room:
         shutil.copy(self.db, copy.db)
         return copy
 
-    def start(self, count=4294967295):
+    def start(self, count=4294967295, **how):
         """Starts the server, on another port where somebody took this one meanwhile."""
+        how = {"env": self.env, **how}
         for _ in range(3):
-            self.server = start_program("serve", self.db, self.roster, str(self.port), str(count), env=self.env)
+            self.server = start_program("serve", self.db, self.roster, str(self.port), str(count), **how)
             if self.listens():
                 return self
             self.port = free_port()
