@@ -77,7 +77,7 @@ tables: $(BUILT)
 
 # Has a room of version 1 taken over, and kills the program while it does, or leaves it no room. Needs sqlite3.
 upgrade: $(BUILT)
-	tests/upgrade/run
+	pytest-3 tests/program/test_upgrade.py
 
 # Kills the server in the middle of writes, 240 times (`make test` 100 times): each request acts once.
 crash: $(BUILT)

@@ -1,5 +1,5 @@
 """A room is killed before each call that changes a file or flushes it, from `init` on; it finds no room from that call
-on, or at that one alone, or that flush fails (tests/upgrade/stop.c). Where that leaves no room, `init` makes one, in a
+on, or at that one alone, or that flush fails (tests/lib/stop.c). Where that leaves no room, `init` makes one, in a
 file of its own or in a database with what somebody else keeps, which is as it was at each such end. Each request is
 answered as it should be or DELAY; served again, the requests follow from the first without a reply on, and the rows and
 the report of the lists are those of a run without a stop."""
@@ -12,7 +12,7 @@ import beside
 import preloaded
 from served import Room, findings_of, run, session, slot, sqlite, start_program, wait_for_port
 
-STOP = os.path.join(os.path.dirname(os.path.abspath(__file__)), "..", "upgrade", "stop.c")
+STOP = os.path.join(os.path.dirname(os.path.abspath(__file__)), "..", "lib", "stop.c")
 MOST = 500  # calls that change a file
 HOWS = {"k": "kill", "n": "no room from a call on", "o": "no room at one", "s": "a flush that failed"}
 DELAY = b'{"code":30,"error":"DELAY"}'

@@ -127,9 +127,16 @@ def findings_of(db):
     return found[1:] if found[:1] == [("ok",)] else found
 
 
+def lists_say(db):
+    """The status of tools/lists, and what it says."""
+    words = [os.path.join(HERE, "..", "tools", "lists"), db]
+    done = subprocess.run(words, capture_output=True, text=True, timeout=60)
+    return done.returncode, done.stdout
+
+
 def put_version_1(db, owner="ann", group="eng"):
-    """Makes a fresh room of version 1, by the statements of tests/upgrade."""
-    lines = text_of(os.path.join(HERE, "upgrade", "version1.sql")).splitlines(keepends=True)
+    """Makes a fresh room of version 1, by the statements of tests/cases/version1.sql."""
+    lines = text_of(os.path.join(HERE, "cases", "version1.sql")).splitlines(keepends=True)
     rows = f"""INSERT INTO room VALUES (1, 1, 2); INSERT INTO node VALUES (1, NULL, '', 1, '{owner}', '{group}', 0);
 INSERT INTO entry VALUES (1, 0, 0, 3, 2033663, 'OWNER@'), (1, 1, 0, 3, 1179817, 'GROUP@');"""
     with contextlib.closing(sqlite3.connect(db)) as table:
@@ -427,8 +434,8 @@ class Room:
         """The status of a server that ends by itself."""
         return self.server.wait(WAIT)
 
-    def report(self, kind):
-        return run("report", self.db, self.roster, kind)
+    def report(self, kind, **how):
+        return run("report", self.db, self.roster, kind, **how)
 
 
 class PlayedRoom(Room):

@@ -15,7 +15,7 @@ TABLES = {"room": "one version next", "node": "id parent name kind owner grp acl
           "entry": "node place type flag mask who", "doc": "node bytes", "session": "sid owner slots open"}
 VERSIONS = [{**TABLES, name: "sid slot seq request reply"} for name in ("slot", "kept")]
 # Behind the tables of a version: statements, and whether the database is a room then. What was version 1 and is taken
-# over stands in tests/upgrade.
+# over stands in tests/program/test_upgrade.py.
 BEHIND = [
     [("", False)] + [(f"INSERT INTO room VALUES {it};", False) for it in (
         "(1, 0, 2)", "(1, 2, 2)", "(1, 3, 2)", "(1, -1, 2)", "(1, 4294967297, 2)", "(2, 1, 2)",
