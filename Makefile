@@ -73,7 +73,7 @@ wire: $(BUILT)
 
 # Reads a served room with the sqlite3 program, and serves a room that it made. Needs sqlite3.
 tables: $(BUILT)
-	tests/tables/run
+	pytest-3 $(patsubst %,tests/program/test_%.py,tables nearly_rooms odd_rows)
 
 # Has a room of version 1 taken over, and kills the program while it does, or leaves it no room. Needs sqlite3.
 upgrade: $(BUILT)

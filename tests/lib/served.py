@@ -134,6 +134,11 @@ def lists_say(db):
     return done.returncode, done.stdout
 
 
+def fresh_tables():
+    """The statements of docs/TABLES.md that make a fresh room of ann and eng."""
+    return text_of(os.path.join(HERE, "..", "docs", "TABLES.md")).split("```sql\n")[1].split("```")[0]
+
+
 def put_version_1(db, owner="ann", group="eng"):
     """Makes a fresh room of version 1, by the statements of tests/cases/version1.sql."""
     lines = text_of(os.path.join(HERE, "cases", "version1.sql")).splitlines(keepends=True)

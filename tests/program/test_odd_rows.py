@@ -1,11 +1,11 @@
-"""Rows that are no values: a request that meets one is answered DELAY and changes nothing, the others are
-answered, and once the row is mended it acts."""
+"""Rows that are no values: a request that meets one is answered DELAY and changes nothing, the others are answered, and
+once the row is mended it acts. A decision comes to no row behind the one that leaves nothing open."""
 import contextlib
 import json
-import os
 import sqlite3
-import tempfile
 
+import pytest
+from given import each
 from served import SID, Room, slot
 
 DELAY = b'{"code":30,"error":"DELAY"}'
@@ -101,6 +101,8 @@ SPOILT = [
     ("place = -1", "place = 2", "DDD"),
     ("place = 4294967296", "place = 0", "nn."),
 ]
+GOOD = {letter: json.dumps(it[3], separators=(",", ":")).encode() for letter, it in ASKED.items()}
+pytestmark = pytest.mark.usefixtures("alone")
 
 
 def changed(db, *texts):
@@ -123,89 +125,78 @@ def rows_of(db):
                 for name in ("room", "node", "entry", "doc", "session", "kept")]
 
 
-def asked(room, letters, due, differs, name, times=1):
+def asked(room, letters, due, times=1):
     """What a server over these rows answers to each of these requests, so many times."""
-    room.start(1)
-    line = room.line()
+    line = room.start(1).line()
     for letter in [it for it in letters for _ in range(times)]:
-        number, seq, command, _ = ASKED[letter]
-        body = line.ask(slot(number, seq, command)).body
-        differs(f"{name}: {command}", body, due.get(letter, None if body == DELAY else body))
+        at, seq, command, _ = ASKED[letter]
+        body = line.ask(slot(at, seq, command)).body
+        assert body == due[letter] if letter in due else body != DELAY, command
     line.close()
-    differs(f"{name}: serve ends by itself", room.wait(), 0)
+    assert room.wait() == 0
 
 
-def body_of(value):
-    return json.dumps(value, separators=(",", ":")).encode()
+@pytest.fixture(scope="module")
+def made(tmp_path_factory):
+    """Rooms with the rows, in tables without types, keys and rules, or as `init` makes them."""
+    loose, declared = (Room(str(tmp_path_factory.mktemp("made")), made=it) for it in (False, True))
+    assert changed(loose.db, LOOSE, ROWS) and changed(declared.db, ROWS)
+    return {"loose": loose, "declared": declared}
 
 
-GOOD = {letter: body_of(it[3]) for letter, it in ASKED.items()}
+@pytest.fixture(params=["loose", "declared"])
+def room(request, made, tmp_path):
+    return made[request.param].copied(Room, str(tmp_path))
 
 
-class Tables:
-    """A room with the rows, in tables as `init` makes them or without types, keys and rules; each try has a copy."""
-
-    def __init__(self, folder, made, *texts):
-        self.folder = folder
-        self.first = Room(folder, made=made)
-        if not changed(self.first.db, *texts):
-            raise ValueError(texts)
-
-    def copy(self):
-        return self.first.copied(Room, tempfile.mkdtemp(dir=self.folder))
+def test_rows_as_they_should_be(room):
+    asked(room, GOOD, GOOD, times=2)
 
 
-def is_met(room, odd, value, differs):
-    """A row gets a value that is none, unless the tables refuse it: whether they take it."""
-    letters, table, column, where, mends, _, *_ = odd
-    spoils, before = f"UPDATE {table} SET {column} = {value} WHERE {where};", rows_of(room.db)
+@each("text, answers", [(it[0][:40], *it) for it in OTHERS])
+def test_what_else_stands_there(room, text, answers):
+    if changed(room.db, text):
+        asked(room, GOOD, {**GOOD, **answers}, times=2)
+
+
+def spoils(room, odd, value):
+    """Whether the tables take a value that is none. `init` makes some that refuse it."""
+    letters, table, column, where, mends, *_ = odd
     with contextlib.closing(sqlite3.connect(room.db)) as conn:
         rows = ", ".join(str(it) for it, in conn.execute(f"SELECT rowid FROM {table} WHERE {where}"))
-    if not changed(room.db, spoils):
-        differs(f"{spoils} is refused", rows_of(room.db), before)
+    before = rows_of(room.db)
+    if not changed(room.db, f"UPDATE {table} SET {column} = {value} WHERE {where};"):
+        assert rows_of(room.db) == before
         return False
     before = rows_of(room.db)
-    asked(room, letters, dict.fromkeys(letters, DELAY), differs, spoils, times=2)
-    differs(f"{spoils} nothing changes", rows_of(room.db), before)
-    asked(room, [it for it in "ANSRLG" if it not in letters], {}, differs, spoils)
-    mended = f"UPDATE {table} SET {column} = {mends} WHERE rowid IN ({rows});"
-    differs(mended, changed(room.db, mended), True)
-    asked(room, letters + "".join(it for it in "TM" if it not in letters), GOOD, differs, f"{spoils} {mended}", times=2)
+    asked(room, letters, dict.fromkeys(letters, DELAY), times=2)
+    assert rows_of(room.db) == before
+    asked(room, [it for it in "ANSRLG" if it not in letters], {})
+    assert changed(room.db, f"UPDATE {table} SET {column} = {mends} WHERE rowid IN ({rows});")
+    asked(room, letters + "".join(it for it in "TM" if it not in letters), GOOD, times=2)
     return True
 
 
-def odd_rows(folder, differs):
-    """Each value in tables of both kinds: how many."""
-    kinds = [Tables(os.path.join(folder, "loose"), False, LOOSE, ROWS),
-             Tables(os.path.join(folder, "declared"), True, ROWS)]
-    count = 0
-    for tables in kinds:
-        asked(tables.copy(), GOOD, GOOD, differs, "rows as they should be", times=2)
-        for text, answers in OTHERS:
-            room = tables.copy()
-            if changed(room.db, text):
-                asked(room, GOOD, {**GOOD, **answers}, differs, text, times=2)
-    for odd in ODDS:
-        taken = [sum(is_met(tables.copy(), odd, value, differs) for value in odd[6:]) for tables in kinds]
-        differs(f"how many of {odd[1:4]} the tables take", taken, [len(odd[6:]), odd[5]])
-        count += sum(taken)
-    return count
+@each("odd", [(" ".join(it[1:4]), it) for it in ODDS])
+def test_values_that_are_none(made, tmp_path, odd):
+    taken = dict.fromkeys(made, 0)
+    for kind, at in [(kind, at) for kind in made for at in range(6, len(odd))]:
+        room = made[kind].copied(Room, str(tmp_path / f"{kind}{at}"))
+        taken[kind] += spoils(room, odd, odd[at])
+    assert taken == {"loose": len(odd[6:]), "declared": odd[5]}
 
 
-def decided(folder, differs):
-    """A decision comes to no row behind the one that leaves nothing open."""
-    tables = Tables(os.path.join(folder, "decided"), False, LOOSE, ROWS, DECIDED)
+@each("changes, where, wanted", [(f"{changes} of {where}", changes, where, it) for changes, where, it in SPOILT])
+def test_decided(made, tmp_path, changes, where, wanted):
+    room = made["loose"].copied(Room, str(tmp_path))
+    assert changed(room.db, DECIDED, f"UPDATE entry SET {changes} WHERE node = 2 AND {where};")
     asks = [({"cmd": "READ", "path": "/a"}, b'{"code":0,"data":"aGk="}', 1),
             ({"cmd": "WRITE", "data": "aGk=", "path": "/a"}, b'{"code":0,"size":2}', 2),
             ({"cmd": "APPEND", "data": "IQ==", "path": "/a"}, b'{"code":0,"size":3}', 4)]
-    for changes, where, wanted in SPOILT:
-        room = tables.copy()
-        differs(changes, changed(room.db, f"UPDATE entry SET {changes} WHERE node = 2 AND {where};"), True)
-        room.start(1)
-        line = room.line()
-        for at, (letter, (command, done, bit)) in enumerate(zip(wanted, asks)):
-            denied = b'{"bit":%d,"code":5,"error":"ACCESS","path":"/a"}' % bit
-            got = line.ask(slot(at, 1, command, user="bob"))
-            differs(f"{changes} of {where}: {command}", got.body, {".": done, "n": denied, "D": DELAY}[letter])
-        line.close()
-        room.wait()
+    line = room.start(1).line()
+    for at, (letter, (command, done, bit)) in enumerate(zip(wanted, asks)):
+        denied = b'{"bit":%d,"code":5,"error":"ACCESS","path":"/a"}' % bit
+        got = line.ask(slot(at, 1, command, user="bob")).body
+        assert got == {".": done, "n": denied, "D": DELAY}[letter], command
+    line.close()
+    room.wait()
