@@ -81,7 +81,7 @@ upgrade: $(BUILT)
 
 # Kills the server in the middle of writes, 240 times (`make test` 100 times): each request acts once.
 crash: $(BUILT)
-	tests/crash/run
+	pytest-3 tests/program/test_crash.py
 
 # A million random questions about lists, to the program and to Samba's own check of access (`make test` asks 100,000).
 # Needs python3-samba.

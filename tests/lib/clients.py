@@ -2,7 +2,7 @@
 
 Many at once send each request again at random, and append their pieces to a document of their own and to one that all
 share: `tests/front/run` plays them through the front, `lab/machine/inside` on a booted machine. One alone (`Pieces`)
-knows what is in flight as the room ends: `tests/crash/run`, `tests/service/run`.
+knows what is in flight as the room ends: `tests/program/test_crash.py`, `tests/service/run`.
 """
 import base64
 import json
