@@ -91,7 +91,7 @@ decisions: $(BUILT)
 # Loses the machine's power after each system call of a served room, of `init` and of the upgrade: 4,000 states of each
 # (`make test` tries 150). Needs strace.
 power: $(BUILT)
-	tests/power/run --states 4000
+	STATES=4000 pytest-3 tests/program/test_power.py
 
 # Random streams against a plain model, and peers that neither send nor read. `make test` plays 2,000 streams; here
 # 50,000.
