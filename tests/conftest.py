@@ -152,8 +152,6 @@ def memory():
 
 
 @pytest.fixture
-
-
 def alone():
     """Servers that this test starts end with it."""
     yield
