@@ -99,6 +99,7 @@ def at_bounds(machine, front, tally):
         tally.differs(f"then {str(body)[:40]}", bob.asks(body).status, status)
     for method, status in ("PUT", 429), ("MKCOL", 429), ("MOVE", 429), ("GET", 502), ("PROPFIND", 502):
         tally.differs(f"then {method}", front.once("bob", method, "/dav/plans/x").status, status)
+    tally.differs("a large PUT", front.once("bob", "PUT", "/dav/plans/x", b"A" * 1_000_000).status, 429)
     tally.differs("PUT in another room", front.once("bob", "PUT", "/dav/club/x").status, 502)
     tally.differs("another room", other.makes("there"), 200)
     tally.differs("another login", Caller(front, "ann").makes("own"), 200)
