@@ -64,6 +64,19 @@ class Kills(Counter):
         with self.room("ann") as room:
             self.assertEqual(room.read("/late"), b"after")
 
+    def test_who_is_held_reads_on(self):
+        """What may have acted, and got no answer, is not sent again: who is held meanwhile would be refused all by it.
+        """
+        plain, self.loser.fate = self.loser.fate, lambda message: "answer" if b"MKDIR" in message else "none"
+        self.does("ann", "MKCOL", "/mine", 503)
+        self.loser.fate, hold = plain, os.path.join(self.front.folder, "held", "ann@plans")
+        os.makedirs(os.path.dirname(hold), exist_ok=True)
+        with open(hold, "w", encoding="utf-8"):
+            self.assertIn("/dav/plans/mine/", self.names("ann", "/"))
+            self.does("ann", "MKCOL", "/more", 429)
+        os.unlink(hold)
+        self.does("ann", "MKCOL", "/more", 201)
+
     def test_killed_in_an_upload(self):
         """The gateway is killed at some request of an upload: the old version stands, and the next one is whole."""
         old, new = os.urandom(140_000), os.urandom(150_000)
