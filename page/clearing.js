@@ -1,7 +1,7 @@
 /** What uploads made is removed; whatever else has such a name stays. */
 import { takeOver } from "./behind.js";
-import { FOLDER, ISDIR, NOENT, NOTDIR, folderOf, forEach, fromBase64, fromText, inFolder, isRefused, lastName, orElse,
-  shown, t } from "./common.js";
+import { EXIST, FOLDER, ISDIR, NOENT, NOTDIR, folderOf, forEach, fromBase64, fromText, inFolder, isRefused, lastName,
+  orElse, shown, t } from "./common.js";
 import * as form from "./manifest.js";
 
 const MOST_KEPT = 50; // bytes of a name that a mark follows
@@ -34,14 +34,15 @@ async function unfinishedAt(room, path) {
 }
 
 /** Takes what an upload made away in one request, and then removes it. Somebody may have given another thing such a
- * name: what `looks` otherwise, or is in the way, is told and left. */
-export async function clear(room, at, name, transfer, looks = piecesIn) {
+ * name: what `looks` otherwise, or is in the way, is told and left. What `isNeeded` then has its name again. */
+export async function clear(room, at, name, transfer, looks = piecesIn, isNeeded = async () => false) {
   const path = inFolder(at, name);
   const gone = name.startsWith(form.GONE) ? path : inFolder(at, form.otherName(form.GONE));
   try {
     const found = await looks(room, path);
     if (!found) return void transfer.fail(t.noPart(shown(path)));
     if (gone !== path) await room.step("RENAME", path, { to: gone });
+    if (await isNeeded(name) && await orElse(room.step("RENAME", gone, { to: path }), null, EXIST)) return;
     for (const level of found) {
       await forEach(level, (it) => orElse(room.step("REMOVE", gone + it.slice(path.length)), null, NOENT), room.width);
     }

@@ -39,8 +39,8 @@ class Upload {
       called: shown(lastName(path)) });
   }
 
-  clear(at, name, looks) {
-    return clear(this.room, at, name, this.transfer, looks);
+  clear(at, name, ...how) {
+    return clear(this.room, at, name, this.transfer, ...how);
   }
 
   async run(isNew) {
@@ -238,10 +238,11 @@ class Upload {
 
   async clearOthers(names, ...staying) {
     const there = new Set(this.names.map(([name]) => name));
-    const isOld = (name) => name.startsWith(form.PIECES) && there.has(name);
-    for (const [name] of names) {
-      const isOver = isOld(name) || form.isLeft(name) || name.startsWith(form.GONE);
-      if (isOver && !staying.includes(name)) await this.clear(this.path, name);
+    const isVersion = async (name) => (await manifestAt(this.room, this.path))?.folder === name;
+    for (const [name] of names.filter(([it]) => !staying.includes(it))) {
+      if (form.isLeft(name) || name.startsWith(form.GONE)) await this.clear(this.path, name);
+      const isOld = name.startsWith(form.PIECES) && there.has(name) && !await isVersion(name);
+      if (isOld) await this.clear(this.path, name, undefined, isVersion);
     }
     await clearBeside(this.room, this.path, this.transfer);
   }

@@ -443,9 +443,15 @@ class Upload:
 
     def clear_others(self, names: Iterable[str], kept: set) -> None:
         for name in {*names} - kept:
-            is_old = name.startswith(form.PIECES) and name in self.names
-            if is_old or name.startswith((form.WRITING, form.GONE)):
+            if name.startswith((form.WRITING, form.GONE)):
                 clear(self.room, self.path, name)
+            elif name.startswith(form.PIECES) and name in self.names and not self.is_version(name):
+                clear(self.room, self.path, name, is_needed=self.is_version)
+
+    def is_version(self, name: str) -> bool:
+        """Whether the manifest names these pieces by now."""
+        its = manifest_in(self.room, self.path)
+        return its is not None and its.folder == name
 
 
 class Replacement:
@@ -544,9 +550,10 @@ def give(room: Room, path: str, its: Manifest, owner: str, group: str) -> Refuse
 
 # Removing and clearing
 
-def clear(room: Room, at: str, name: str, looks=None) -> None:
+def clear(room: Room, at: str, name: str, looks=None, is_needed=lambda name: False) -> None:
     """Takes what an upload made out of a file or from beside it, in one request, and then removes it. Somebody who may
-    move things may have given one such a name: what `looks` otherwise, or is in the way, is told and left."""
+    move things may have given one such a name: what `looks` otherwise, or is in the way, is told and left. What turns
+    out to be needed then has its name again."""
     path, gone = f"{at}/{name}", f"{at}/{form.other_name(form.GONE)}"
     try:
         found = (looks or pieces_in)(room, path)
@@ -556,10 +563,22 @@ def clear(room: Room, at: str, name: str, looks=None) -> None:
             gone = path
         else:
             room.rename(path, gone)
-        remove_levels(room, [[gone + it for it in level] for level in found])
+        if not (is_needed(name) and has_room(room, gone, path)):
+            remove_levels(room, [[gone + it for it in level] for level in found])
     except Refused as fault:
         if not refused_as(fault, "NOENT"):
             room.say(f"{shown(gone)} is left of it: {fault}")
+
+
+def has_room(room: Room, path: str, to: str) -> bool:
+    """Whether it could be moved there."""
+    try:
+        room.rename(path, to)
+        return True
+    except Refused as fault:
+        if not refused_as(fault, "EXIST"):
+            raise
+        return False
 
 
 def clear_beside(room: Room, path: str) -> None:

@@ -141,3 +141,60 @@ class AtOnce(Behind):
         reader.join()
         self.assertEqual(seen, sorted(seen))
         self.assertGreater(len(set(seen)), VERSIONS // 3)
+
+
+class Meanwhile(Behind):
+    """What one writer clears behind its answer, and what another one makes a version of meanwhile."""
+
+    def setUp(self):
+        super().setUp()
+        self.versions = [some(3 * PIECE - it, it) for it in range(3)]
+        with self.behind() as room:
+            files.write(room, "/a", self.versions[0])
+
+    @contextlib.contextmanager
+    def meanwhile(self, name, does):
+        """Something else is done, once, before a step of an upload."""
+        step, left = getattr(Upload, name), [does]
+
+        def patched(upload, *args):
+            if left:
+                left.pop()()
+            return step(upload, *args)
+        with mock.patch.object(Upload, name, patched):
+            yield
+
+    def test_the_same_bytes_beside_a_new_version(self):
+        """Who saves what is there already finds the pieces of a version that is not there yet."""
+        with self.behind(state=self.path("0")) as one, self.behind(state=self.path("1")) as other:
+            with self.meanwhile("share", lambda: files.write(other, "/a", self.versions[0])):
+                files.write(one, "/a", self.versions[1])
+            one.settle()
+            other.settle()
+            self.assertEqual(files.read(one, "/a"), self.versions[1])
+
+    def test_a_version_that_comes_behind_another(self):
+        """Its pieces were there as the other writer began."""
+        with self.behind(state=self.path("0")) as one, self.behind(state=self.path("1")) as other:
+            with self.meanwhile("put_manifest", lambda: files.write(other, "/a", self.versions[1])):
+                files.write(one, "/a", self.versions[2])
+            other.settle()
+            one.settle()
+            self.assertEqual(files.read(one, "/a"), self.versions[2])
+
+    def test_a_version_that_comes_as_its_pieces_are_cleared(self):
+        """Behind the last look at the manifest."""
+        with self.behind(state=self.path("0")) as one, self.behind(state=self.path("1")) as other:
+            upload, clear = Upload(one, "/a", self.versions[2], files.unheard), files.clear
+            upload.begin(False, False)
+            upload.put_pieces("/a")
+
+            def late(room, at, name, *args, **how):
+                if name == upload.its.folder and how:
+                    upload.put_manifest("/a", False)
+                    upload.look_after()
+                clear(room, at, name, *args, **how)
+            with mock.patch.object(files, "clear", late):
+                files.write(other, "/a", self.versions[1])
+                other.settle()
+            self.assertEqual(files.read(one, "/a"), self.versions[2])

@@ -69,3 +69,26 @@ test("of what a closed tab left behind its answer nothing is told, and the next 
     await isTidy(next, path, 9, 9);
   }
 });
+
+test("what is cleared behind an answer is no piece of a version that came meanwhile", async (its) => {
+  for (const letter of ["b", "c"]) { // the same bytes, and others
+    const [room, other, path] = [await begun(), await tab("bob"), `${TOP}/meanwhile ${letter}`];
+    await lay(room, path, 2);
+    const [{ step }, { aside }] = [other, Object.getPrototypeOf(room)];
+    let answered = null;
+    const waits = its.mock.method(Object.getPrototypeOf(room), "aside", async function late(cmd, at, ...more) {
+      if (cmd === "STAT" && at.includes(".room-pieces-")) await answered;
+      return aside.call(this, cmd, at, ...more);
+    });
+    its.mock.method(other, "step", async (cmd, at, more) => {
+      const isVersion = cmd === "WRITE" && at.endsWith(".room-file");
+      if (isVersion) await writeFile(room, path, bytesOf(2, letter));
+      return step.call(other, cmd, at, more);
+    });
+    answered = writeFile(other, path, bytesOf(2, "e"));
+    await answered;
+    await quiet();
+    waits.mock.restore();
+    assert.deepEqual([letter, await readFile(room, path)], [letter, bytesOf(2, "e")]);
+  }
+});
