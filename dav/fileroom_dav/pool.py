@@ -8,14 +8,14 @@ from collections.abc import Callable, Iterator
 
 from room_client import files, spares, trash
 from room_client.faults import Fault, Refused
-from room_client.manifest import GONE, NAME, read_manifest
+from room_client.manifest import GONE, NAME, PIECES, read_manifest
 from room_client.room import Room
 
 from .faults import is_refused
 from .names import below, last
 
 MOST = 3
-POOLED = re.compile(re.escape(GONE) + "[0-9a-f]{16}")
+POOLED = re.compile(f"(?:{re.escape(PIECES)}|{re.escape(GONE)})[0-9a-f]{{16}}")
 
 
 def bin_of(room: Room) -> str | None:
@@ -31,10 +31,10 @@ def pooled(room: Room, bin_: str | None) -> list[str]:
 
 
 def settled(room: Room, bin_: str | None) -> Iterator[str]:
-    """Those that have no bytes any more: they were looked at before, where nobody else comes. (Of one that a stop left
-    that comes behind the answer.)"""
+    """Those that were looked at, where nobody else comes, and have no bytes any more: such a name is given behind that.
+    (To one that a stop left otherwise that comes behind the answer.)"""
     for it in pooled(room, bin_):
-        if spares.is_empty(room, it):
+        if last(it).startswith(GONE):
             yield it
         else:
             room.behind(functools.partial(settle, room, it))
@@ -66,7 +66,7 @@ class Upload(files.Upload):
         if one is None:
             return []
         try:
-            self.whole = self.room.stat(self.path)
+            self.whole = self.whole or self.room.stat(self.path)
             if self.whole["owner"] != self.room.settings.user:
                 return []
             self.room.rename(one, below(self.path, last(one)))
@@ -103,7 +103,7 @@ def give(room: Room, path: str) -> None:
     its, bin_ = files.large_at(room, path), room.bin
     if its is None or bin_ is None or len(pooled(room, bin_)) >= MOST:
         return
-    folder, to = f"{path}/{its.folder}", below(bin_, GONE + its.folder[-16:])
+    folder, to = f"{path}/{its.folder}", below(bin_, its.folder)
     names, whole, ours = room.ask_all([{"cmd": cmd, "keep": False, "path": at} for cmd, at in (
         ("LIST", folder), ("STAT", path), ("STAT", folder))])
     user = room.settings.user
@@ -122,9 +122,11 @@ def settle(room: Room, path: str) -> None:
     """Nobody else comes there any more: what is there is looked at, and loses its bytes."""
     try:
         names, whole = list(room.children(path)), room.stat(path)
-        if spares.are_as_new(room, [path, *(below(path, it) for it in names)], whole):
-            spares.empty(room, [below(path, it) for it in names])
+        documents = [below(path, it) for it in names]
+        if spares.are_as_new(room, [path, *documents], whole):
+            spares.empty(room, documents)
+            room.rename(path, path.replace(PIECES, GONE))
         else:
-            files.clear(room, path.rpartition("/")[0], last(path))
-    except Fault:  # (it is taken by now, or the next one looks at it)
+            files.remove_levels(room, [documents, [path]])
+    except Fault:  # (another request settles it, or the next one)
         pass

@@ -356,7 +356,7 @@ def put_large(visit: Visit, step: Step, version: Manifest, data: bytes) -> None:
     """As every new version of a large file, but what was before it lies aside."""
     upload = pool.Upload(visit, step.path, data, files.unheard)
     upload.its, upload.before = version, step.text.encode()
-    upload.names = visit.children(step.path)
+    upload.names, upload.whole = visit.children(step.path), visit.stat(step.path)
     if step.takes:
         visit.rename(f"{step.source}/{step.folder}", f"{step.path}/{step.folder}")
     else:

@@ -96,6 +96,9 @@ class BehindCounter(NumbersCounter):
         names = [it for it, _ in self.told_by(self.ann, "LIST", folder)["names"]]
         return {it: self.told_by(self.ann, "STAT", f"{folder}/{it}")["size"] for it in names}
 
+    def is_behind(self, message):
+        return any(it.encode() in message for it in self.sessions_behind())
+
     def need_one_spare(self, name):
         self.quiet()
         names = dict(self.told_by(self.ann, "LIST", name)["names"])
@@ -105,9 +108,6 @@ class BehindCounter(NumbersCounter):
 
 
 class Behind(BehindCounter):
-    def is_behind(self, message):
-        return any(it.encode() in message for it in self.sessions_behind())
-
     def test_it_holds_nobody_up(self):
         """While the first request behind an answer has no answer, its login's next ones and others' are answered."""
         name, _ = self.large()
@@ -246,6 +246,15 @@ class Behind(BehindCounter):
         self.assertEqual(self.does("bob", "GET", name, 200).body, b"last" * PIECE)
 
 
+    def test_a_save_by_a_backup_finds_a_spare(self):
+        """Of a document that was saved otherwise before."""
+        name, _ = self.large()
+        new = os.urandom(SIZE)
+        self.does("ann", "MOVE", name, 201, Destination=f"{name}~")
+        self.does("ann", "PUT", name, 201, new)
+        self.quiet()
+        self.assertEqual(self.does("bob", "GET", name, 200).body, new)
+
     def test_what_is_laid_in_an_exchange(self):
         """As what had the new bytes is to take those of before, somebody lays an open folder in its place: they do not
         go there."""
@@ -272,8 +281,13 @@ class Behind(BehindCounter):
 class Pool(BehindCounter):
     """Pieces of what was removed for good, in the trash of who owned it."""
 
+    @classmethod
+    def setUpClass(cls):
+        super().setUpClass()
+        cls.bob = Wire(cls.served, "bob")
+
     def pooled(self):
-        return [it for it, _ in self.told_by(self.ann, "LIST", TRASH)["names"] if it.startswith(".room-gone-")]
+        return [it for it, _ in self.told_by(self.ann, "LIST", TRASH)["names"] if it.startswith(".room-")]
 
     def setUp(self):
         for name in self.pooled():
@@ -309,18 +323,17 @@ class Pool(BehindCounter):
         self.assertEqual(self.does("bob", "GET", f"{self.top}/new", 200).body, data)
 
     def test_what_is_somebody_elses_goes(self):
-        bob = Wire(self.served, "bob")
         its = {"flag": 0, "mask": 0x1200A9, "type": 0, "who": "pupils"}
 
         def lays_a_piece(folder):
-            self.told_by(bob, "REMOVE", f"{folder}/001")
-            self.told_by(bob, "CREATE", f"{folder}/001", data="")
+            self.told_by(self.bob, "REMOVE", f"{folder}/001")
+            self.told_by(self.bob, "CREATE", f"{folder}/001", data="")
 
         def opens_a_piece(folder):
             self.told_by(self.ann, "SETLIST", f"{folder}/002", aclflag=1, entries=[its])
 
         def hides_a_document(folder):
-            self.told_by(bob, "CREATE", f"{folder}/salaries", data="")
+            self.told_by(self.bob, "CREATE", f"{folder}/salaries", data="")
         for user, prepare in (("bob", None), ("ann", lays_a_piece), ("ann", opens_a_piece), ("ann", hides_a_document)):
             with self.subTest(user=user, prepare=prepare and prepare.__name__):
                 self.removed(user, prepare)
@@ -340,7 +353,31 @@ class Pool(BehindCounter):
         self.does("ann", "PUT", f"{self.top}/new", 201, os.urandom(SIZE))
         self.assertEqual(self.numbers() - before, 6)
         self.quiet()
+        name, = self.pooled()
         self.assertEqual({*self.sizes(f"{TRASH}/{name}").values()}, {0})
+
+    def test_a_stop_before_it_is_looked_at(self):
+        """Of what somebody prepared nothing is taken, though its first piece has no bytes."""
+        for_both = [{"flag": 0, "mask": 0x1F01FF, "type": 0, "who": it} for it in ("ann", "bob")]
+
+        def prepares(folder):
+            for it in "000", "001":
+                self.told_by(self.bob, "REMOVE", f"{folder}/{it}")
+                self.told_by(self.bob, "CREATE", f"{folder}/{it}", data="")
+                self.told_by(self.bob, "SETLIST", f"{folder}/{it}", aclflag=1, entries=for_both)
+        held, goes_on = threading.Event(), threading.Event()
+        self.addCleanup(goes_on.set)
+        self.loser.meanwhile = self.is_behind, lambda: (held.set(), goes_on.wait(WAIT))
+        self.removed(prepare=prepares)
+        self.assertTrue(held.wait(WAIT))
+        stop(self.gateway)
+        goes_on.set()
+        self.start_gateway()
+        before = self.numbers()
+        self.does("ann", "PUT", f"{self.top}/new", 201, os.urandom(SIZE))
+        self.assertEqual(self.numbers() - before, 6)
+        self.quiet()
+        self.assertEqual(self.pooled(), [])
 
     def test_it_is_no_part_of_somebody_elses_file(self):
         """Nor of another's new one."""
