@@ -71,7 +71,7 @@ def ls(room: Room, asked) -> None:
     reply = room.ask({"cmd": "LIST", "path": path})
     if asked.json and not asked.long:
         return show(asked, reply, "")
-    names = dict(reply["names"])
+    names = trash.without_pool(path, dict(reply["names"]))
     if form.is_large(names) and files.manifest_at(room, path):
         raise Refused({"code": 2, "error": "NOTDIR"}, {"path": path})
     left = [it for it in names if form.is_hidden(it)]
@@ -148,7 +148,7 @@ def stat(room: Room, asked) -> None:
         what = f"file, {large.size} bytes in {len(large.pieces)} pieces"
     else:
         what = f"{its['kind']}, {its['size']} {'inside' if its['kind'] == FOLDER else 'bytes'}"
-        if its["kind"] == FOLDER and its["size"] and form.is_unfinished(room.children(path)):
+        if its["kind"] == FOLDER and its["size"] and form.is_unfinished(trash.names_in(room, path)):
             what = "unfinished upload"
     flags = words.list_flag_words(its["aclflag"])
     show(asked, its, f"{what}, owner {its['owner']}, group {its['group']}, list flags {flags}")
@@ -388,6 +388,6 @@ def trash_can(room: Room, asked) -> None:
             raise BadWords("room trash restore NAME [TO]")
         print(f"{shown(trash.restore(room, *asked.names, *[None] * (2 - len(asked.names))))}: restored")
     else:
-        for name in trash.shown_in(room, trash.need_trash(room)):
+        for name in trash.names_in(room, trash.need_trash(room)):
             its = trash.told_by(name)
             print(f"{shown(its.name)}  ({its.words()})" if its else shown(name))

@@ -29,6 +29,14 @@ def places_of(user: str) -> list[str]:
     return [f"{TOP}/@{sum(user.encode()) % 16:x}/{user}", f"{TOP}/{user}"]
 
 
+def without_pool(path: str, names: dict[str, str]) -> dict[str, str]:
+    """The names in a folder. Where it is a trash, the gateway keeps pieces of removed files there, without bytes, which
+    no upload left."""
+    if path not in places_of(path.rpartition("/")[2]):
+        return names
+    return {it: kind for it, kind in names.items() if not (form.is_hidden(it) and it.startswith(form.GONE))}
+
+
 def trash_of(room: Room) -> str | None:
     """The caller's trash for what is removed, where there is one, and nobody else could read it there."""
     path = own_trash(room)
@@ -210,16 +218,15 @@ def restore(room: Room, called: str, to: str | None) -> str:
     return place
 
 
-def shown_in(room: Room, trash: str) -> list[str]:
-    """(The gateway keeps pieces of removed files there, without bytes.)"""
-    return [it for it in room.children(trash) if not form.is_hidden(it)]
+def names_in(room: Room, path: str) -> dict[str, str]:
+    return without_pool(path, room.children(path))
 
 
 def empty(room: Room, take: Callable[[Fault], None]) -> int:
     """Removes what is in the trash for good, and tells how many things that were. `take` hears of each that stays: one
     that somebody else locked is not to keep the rest."""
     trash, count = need_trash(room), 0
-    for name in shown_in(room, trash):
+    for name in names_in(room, trash):
         try:
             files.remove_all(room, f"{trash}/{name}")
             count += 1

@@ -7,7 +7,7 @@ import unicodedata
 from collections.abc import Callable, Iterator, Sequence
 from dataclasses import dataclass
 
-from . import files, local
+from . import files, local, trash
 from . import manifest as form
 from .faults import Fault, LocalFault, NotWhole, OtherVersion, Refused, SessionLost, refused
 from .local import Tree
@@ -52,7 +52,8 @@ def tree_of(room: Room, top: str) -> RoomTree:
         replies, level_below = room.ask_all(commands), []
         for path, reply, command in zip(level, replies, commands):
             if reply["code"] == 0:
-                level_below += add_level(room, tree, top, path, dict(reply["names"]))
+                names = trash.without_pool(command["path"], dict(reply["names"]))
+                level_below += add_level(room, tree, top, path, names)
             elif not path:
                 raise refused(reply, command)
             else:

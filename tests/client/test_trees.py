@@ -182,6 +182,23 @@ class Trash(Behind):
         self.assertEqual((status, out), (0, "/d/e/a.txt: restored\n"), err)
         self.assertIn("that was this very request, done once", err)
 
+    def test_the_gateways_pool_is_neither_shown_nor_removed(self):
+        """A trash with nothing else in it is a folder, and no upload that was stopped."""
+        pool, own = "/trash/ann/.room-gone-0123456789abcdef", ".room-gone-of-mine"
+        with self.room() as room:
+            room.mkdir(pool)
+            room.create(f"{pool}/000", b"")
+            room.mkdir(f"/d/{own}")
+        for words, want in [("trash",), ""], [("ls", "/trash/ann"), ""], [("ls", "/trash"), "ann/\n"], [
+                ("tree", "/trash"), "/trash\n  ann/\n"], [("trash", "empty"), "0 removed for good\n"]:
+            self.prints(*words, want=want)
+        status, out, err = self.does("stat", "/trash/ann")
+        self.assertEqual((status, out.split(",")[0], err), (0, "folder", ""))
+        self.prints("rm", f"/d/{own}", want=f"/d/{own}: in /trash/ann\n")
+        self.assertIn(own, self.does("trash")[1])
+        self.prints("trash", "empty", want="1 removed for good\n")
+        self.assertEqual(self.in_trash(), [pool.rpartition("/")[2]])
+
     def test_for_good(self):
         self.prints("rm", "--for-good", "/d/large", want="/d/large: removed\n")
         self.assertEqual(self.in_trash(), [])
