@@ -30,6 +30,8 @@ test("a version that is much smaller leaves no more documents than it has pieces
   const [room, path] = [await begun(), `${TOP}/smaller`];
   for (const [pieces, letter] of [[9, "a"], [9, "b"], [4, "c"]]) await saved(room, path, bytesOf(pieces, letter));
   await isTidy(room, path, 4, 9);
+  const spare = (await names(room, path)).find((it) => it.startsWith(".room-gone-"));
+  await room.session.askAside({ cmd: "WRITE", path: `${path}/${spare}/008`, data: btoa("left") }); // (as by a stop)
   await saved(room, path, bytesOf(5, "d"));
   assert.deepEqual((await held(room, path, "pieces"))[0].slice(5), [0, 0, 0, 0]);
   await isTidy(room, path, 9, 4);
