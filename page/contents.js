@@ -11,7 +11,7 @@ import { canShow, isPdf, isPicture, nothing, preview } from "./preview.js";
 import { manifestAt, readFile } from "./reading.js";
 import { Things } from "./things.js";
 import { sizeWords } from "./transfers.js";
-import { beforeWords, isOwnTrash, isTrash, ownTrash } from "./trash.js";
+import { beforeWords, isOwnTrash, isTrash, ownTrash, withoutPool } from "./trash.js";
 import { kindBy } from "./trees.js";
 import { filesButton, upload } from "./uploads.js";
 
@@ -62,13 +62,14 @@ async function folder(app, place, stat, rights, found) {
   const bar = make("p.tools.makers",
     news.length > 0 && menuButton(`+ ${t.new}`, { className: "main" }, () => news, t.new),
     mayPut && filesButton(t.upload, {}, (chosen) => upload(app, path, chosen)),
-    await trashTool(app, place, found.names?.length === 0));
+    await trashTool(app, place, found.names && withoutPool(path, found.names).length === 0));
   if (found instanceof Refusal) return [...top, bar, about(place, stat, t.kinds.folder), faultLine(found.message)];
-  const names = found.names.filter(([name]) => !isPart(name)).sort(byName);
+  const listed = withoutPool(path, found.names);
+  const names = listed.filter(([name]) => !isPart(name)).sort(byName);
   const things = names.length ? new Things(app, place, names, rights) : null;
   const words = isOwn ? t.inTrash : mayPut && t.dropHere;
   await things?.inOrder;
-  const area = make("div.drops", await leftWords(found.names), things?.element ?? make("p.empty", t.nothingThere),
+  const area = make("div.drops", await leftWords(listed), things?.element ?? make("p.empty", t.nothingThere),
     about(place, stat, t.inIt(names.length)), words && make("p.about", words));
   if (mayPut) takeFiles(area, app, path);
   area.oncontextmenu = (event) => {
@@ -127,7 +128,7 @@ export async function showContents(app, place) {
   const [stat, rights] = await Promise.all([room.standing(place.path), rightsAt(room, place.path)]);
   if (stat.kind !== FOLDER) return document_(app, place, stat, rights);
   const found = await orShut(room.run("LIST", place.path), place.path);
-  const kind = found.names ? kindBy(found.names) : FOLDER;
+  const kind = found.names ? kindBy(withoutPool(place.path, found.names)) : FOLDER;
   if (kind === UNFINISHED) {
     const words = t.wasStopped(shown(lastName(place.path)));
     return object(app, place, { stat, rights, kind, words: t.unfinished }, faultLine(words));

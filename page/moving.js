@@ -6,7 +6,7 @@ import { ACCESS, ADD_FILE, ADD_FOLDER, EXIST, FILE, FOLDER, NOENT, NOTDIR, ROOT,
   tellFaults } from "./common.js";
 import { NOBODY } from "./reading.js";
 import { transferring } from "./transfers.js";
-import { calledAt, isInTrash, nameAt, toTrash, toldBy, trashOf } from "./trash.js";
+import { calledAt, isInTrash, nameAt, toTrash, toldBy, trashOf, withoutPool } from "./trash.js";
 import { FolderTree, keepRecent } from "./tree.js";
 import { copy, whole } from "./trees.js";
 import { freePath, freePaths } from "./uploads.js";
@@ -152,7 +152,7 @@ export async function emptyTrash(app, path) {
   if (!what) return;
   let gone = [];
   const task = async () => {
-    const paths = (await app.room.list(path)).map(([name]) => inFolder(path, name));
+    const paths = withoutPool(path, await app.room.list(path)).map(([name]) => inFolder(path, name));
     gone = await withEach(t.emptyTrash, paths, (it) => removeAll(app.room, it));
   };
   const isDone = await ask({ title: t.emptyTrash, does: t.emptyTrash, isFinal: true, task, words: [t.forGood, what] });

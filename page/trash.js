@@ -1,6 +1,7 @@
 /** The trash: what was removed lies in a folder of the user's own in /trash (docs/FILES.md). */
 import { EXIST, FOLDER, FOLDER_FULL, ROOT, TOO_DEEP, folderOf, inFolder, isPrivate, isRefused, isTooLong, isWithin,
   language, lastName, nameFault, namesOf, pathFault, shown, t } from "./common.js";
+import { isSpare } from "./manifest.js";
 
 const TRASH = "/trash";
 
@@ -13,6 +14,9 @@ function placesFor(user) {
 export const isInTrash = (path) => isWithin(path, TRASH);
 export const isTrash = (path) => isInTrash(path) && placesFor(lastName(path)).includes(path);
 export const isOwnTrash = ({ user }, path) => placesFor(user).includes(path);
+
+/** What a folder has, without what the gateway keeps in a trash: pieces of removed files, without bytes. */
+export const withoutPool = (path, names) => (isTrash(path) ? names.filter((it) => !isSpare(it)) : names);
 
 export async function ownTrash({ room, user }) {
   for (const path of placesFor(user)) {

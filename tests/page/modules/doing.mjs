@@ -125,6 +125,17 @@ test("an emptied trash is asked about first, and stays itself", async () => {
   assert.deepEqual([shelf.names(TRASH), shelf.things.has(TRASH)], [[], true]);
 });
 
+test("pieces that the gateway keeps in a trash stay when it is emptied", async () => {
+  const shelf = trashed();
+  const kept = ".room-gone-0123456789abcdef";
+  const app = appOver(shelf);
+  for (const it of [kept, "x", ".room-gone-of-mine"]) shelf.put(`${TRASH}/${it}`);
+  const emptied = emptyTrash(app, TRASH);
+  await press(t.emptyTrash);
+  await emptied;
+  assert.deepEqual(shelf.names(TRASH), [kept]);
+});
+
 test("a move goes back by one press", async () => {
   const shelf = trashed();
   const app = appOver(shelf);
