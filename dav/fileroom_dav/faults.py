@@ -1,5 +1,5 @@
 """Refusals: what a room or the front says (docs/CODES.md), as WebDAV says it (RFC 4918)."""
-from room_client.faults import Fault, LocalFault, NotWhole, OtherVersion, Refused, SessionLost
+from room_client.faults import Fault, Held, LocalFault, NotWhole, OtherVersion, Refused, SessionLost
 
 LATER = "5"  # seconds
 STATUS = {"NOENT": 404, "NOTDIR": 404, "ISDIR": 405, "EXIST": 405, "ACCESS": 403, "NOTEMPTY": 409, "INVAL": 403,
@@ -10,8 +10,8 @@ REASONS = {200: "OK", 201: "Created", 204: "No Content", 206: "Partial Content",
            304: "Not Modified", 400: "Bad Request", 401: "Unauthorized", 403: "Forbidden", 404: "Not Found",
            405: "Method Not Allowed", 409: "Conflict", 411: "Length Required", 412: "Precondition Failed",
            413: "Payload Too Large", 415: "Unsupported Media Type", 416: "Range Not Satisfiable",
-           423: "Locked", 424: "Failed Dependency", 500: "Internal Server Error", 501: "Not Implemented",
-           502: "Bad Gateway", 503: "Service Unavailable", 507: "Insufficient Storage"}
+           423: "Locked", 424: "Failed Dependency", 429: "Too Many Requests", 500: "Internal Server Error",
+           501: "Not Implemented", 502: "Bad Gateway", 503: "Service Unavailable", 507: "Insufficient Storage"}
 
 
 class Answered(Exception):
@@ -43,6 +43,8 @@ def is_sure(fault: BaseException) -> bool:
 
 def as_answered(fault: Fault, front_status: int = 0) -> Answered:
     """What is answered where a visit ends with a fault."""
+    if isinstance(fault, Held):
+        return Answered(429, str(fault).partition(";")[0])
     if front_status:
         return Answered(OF_FRONT.get(front_status, 502), str(fault).partition(";")[0])
     if isinstance(fault, SessionLost):

@@ -7,7 +7,7 @@ import re
 from collections.abc import Callable, Iterator
 
 from room_client import files, spares, trash
-from room_client.faults import Fault, Refused
+from room_client.faults import Fault, Held, Refused
 from room_client.manifest import GONE, NAME, PIECES, read_manifest
 from room_client.room import Room
 
@@ -47,7 +47,7 @@ class Upload(files.Upload):
     def behind(self, tidies: Callable[[], None]) -> None:
         its = read_manifest(self.before) if self.before else None
         if its and tidies != self.tidy_same:
-            with contextlib.suppress(Refused):
+            with contextlib.suppress(Refused, Held):
                 self.room.rename(f"{self.path}/{its.folder}", f"{self.path}/{GONE}{its.folder[-16:]}")
         self.tidy_behind(tidies)
 

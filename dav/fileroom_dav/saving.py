@@ -9,7 +9,7 @@ import contextlib
 from collections.abc import Callable
 
 from room_client import files
-from room_client.faults import Fault, NoAnswer, OtherVersion, Refused, SessionLost
+from room_client.faults import Fault, Held, NoAnswer, OtherVersion, Refused, SessionLost
 from room_client.manifest import NAME, Manifest, read_manifest
 from room_client.room import MOST_BYTES
 from room_client.trash import is_private
@@ -461,8 +461,10 @@ def settle(gate, visit: Visit, asked: Asked) -> None:
         try:
             with gate.changing(asked.room, step.path), gate.changing(asked.room, step.aside or step.path):
                 put_right(visit, step)
-        except (NoAnswer, SessionLost):
+        except (NoAnswer, SessionLost) as fault:
             gate.steps.leave(step)
+            if isinstance(fault, Held):  # (who is held reads on)
+                continue
             raise
         except Fault as fault:
             if step.user != asked.user and isinstance(fault, Refused) and is_refused(fault, "ACCESS"):

@@ -74,7 +74,7 @@ def line_to(front: str) -> type[Line]:
 
         def ask(self, method: str, target: str, body: bytes) -> Answer:
             status, self.text = self._answered(method, target, body)
-            return Answer(status, reply_of(self.text))
+            return Answer(status, reply_of(self.text), self.is_held)
 
         _watch = staticmethod(lambda _: None)  # (the other end is on this machine)
 
@@ -184,7 +184,7 @@ class Seat(Slot):
             return super()._attempt(*how)
 
     def need_done(self, answer, command=None):
-        if answer.reply is None:
+        if answer.reply is None and not answer.is_held:
             self.front_status = answer.status
         return super().need_done(answer, command)
 
