@@ -418,7 +418,7 @@ class Upload:
         folder = f"{self.path}/{self.its.folder}"
         taken, over = ([f"{folder}/{it}" for it in sorted(some)] for some in (
             self.there & {*self.its.pieces}, self.there - {*self.its.pieces}))
-        if not spares.are_as_new(self.room, taken, self.whole):
+        if not self.fit(taken):
             return self.put_anew()
         try:
             if len(over) <= len(self.its.pieces):
@@ -426,6 +426,11 @@ class Upload:
         except Refused:
             pass
         remove_levels(self.room, [over])
+
+    def fit(self, taken: list[str]) -> bool:
+        """(What another request moves meanwhile is looked at again: its file may have gone too, or be back.)"""
+        return spares.are_as_new(self.room, taken, self.whole) or (
+            text_at(self.room, self.path) == self.its.text() and spares.are_as_new(self.room, taken, self.whole))
 
     def put_anew(self) -> None:
         """The version once more, where it stands, in pieces that are made for it."""

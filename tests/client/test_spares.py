@@ -79,6 +79,26 @@ class Counted(Behind):
             self.prints("put", "in", "/a", want="/a: 65537 bytes\n")
         self.assertEqual(said, [b"/a: 65537 bytes\n"])
 
+    def test_pieces_that_are_elsewhere_for_a_moment_are_not_written_anew(self):
+        """Somebody moves the file as its pieces are looked at, and it has its name again before its manifest is."""
+        with self.behind() as room, self.behind(state=self.path("mover")) as mover:
+            for seed in range(4):
+                files.write(room, "/a", some(2 * PIECE, seed))  # (which does first what is left of the one before)
+            moves, lock = [("STAT", 3, "/a", "/b"), ("READ", 2, "/b", "/a")], threading.RLock()
+            with Asked() as asked:
+                ask = Slot.ask
+
+                def moved(slot, command):
+                    with lock:
+                        if slot in room.slots.values() and moves and moves[0][:2] == (
+                                command["cmd"], command["path"].count("/")):
+                            mover.rename(*moves.pop(0)[2:])
+                    return ask(slot, command)
+                with mock.patch.object(Slot, "ask", moved):
+                    room.settle()
+            self.assertEqual((moves, asked.made), ([], 0))
+            self.need_tidy(room, "/a", "moved")
+
     def test_what_is_refused_behind_is_told_and_no_fault(self):
         self.file("in", some(PIECE + 1, 1))
         with mock.patch.object(Upload, "tidy", side_effect=Refused({"code": 2, "error": "ACCESS", "bit": 2})):
