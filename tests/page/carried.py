@@ -189,8 +189,8 @@ def overtaken(club, browser, differs):
     """Somebody else writes a version while one's own is under way: the user is asked."""
     lossy = club.lossy
     path = "/big/of 196608"
-    data = dice.randbytes(2 * PIECE + 1)
     for words, is_mine in ("Replace", True), ("Keep mine as a copy", False):
+        data = dice.randbytes(2 * PIECE + 1)
         club.go(f"#open/club{path.replace(' ', '%20')}")
         browser.sees("Upload a new version")
         browser.until("the rest of before", lambda: browser.script(BEHIND))
