@@ -69,6 +69,10 @@ class Stream:
             if self.is_over:
                 break
 
+    def ends(self):
+        """Where each message ends. (Behind the last one others may stand, which nobody reads.)"""
+        return ends([*self.messages[:-1], self.messages[-1][: read_of(self.messages[-1])]])
+
     def tried(self):
         """The numbers of the messages that are tried."""
         every = EVERY if len(self.messages) > SHORT else 1
@@ -81,7 +85,7 @@ def ends(pieces):
 
 
 def read_of(message):
-    """So many bytes of it are read: the last message of a connection may have others behind it."""
+    """So many bytes of it are read."""
     head = message.partition(b"\r\n\r\n")[0]
     length = re.search(rb"\ncontent-length: *([0-9]+)", head.lower())
     return min(len(head) + 4 + int(length[1]), len(message)) if length else len(message)
@@ -118,7 +122,7 @@ class Player:
         """The reader fails once these bytes of the stream were taken. That a message is none may be seen before it
         ends."""
         is_bad, count = stream.end == BAD, len(stream.messages)
-        before = min(bisect.bisect_right(ends(stream.messages), taken), count - is_bad)
+        before = min(bisect.bisect_right(stream.ends(), taken), count - is_bad)
         due = [(READ_FAILED, b"".join(stream.answers[:before]))]
         if stream.is_over and before == count - is_bad:
             due = due * is_bad + [(stream.end, stream.due)]
@@ -136,13 +140,12 @@ class Player:
         assert (stream.name, at, *found) == (stream.name, at, WRITE_FAILED, stream.due[:before])
 
     def play(self, stream):
-        sent, due = [0, *ends(stream.messages)], [0, *ends(stream.answers)]
+        sent, due = [0, *stream.ends()], [0, *ends(stream.answers)]
         self.byte_by_byte(stream)
         for at in stream.tried():
             dice = random.Random(f"{SEED} {stream.name} {at}")
-            length = read_of(stream.messages[at])
-            if length > 1:
-                self.is_cut(stream, at, sent[at] + dice.randrange(1, length))
+            if sent[at + 1] - sent[at] > 1:
+                self.is_cut(stream, at, dice.randrange(sent[at] + 1, sent[at + 1]))
             self.reader_fails(stream, dice.randrange(sent[at], sent[at + 1]))
             self.reader_fails(stream, sent[at + 1])
             self.writer_fails(stream, dice.randrange(due[at], due[at + 1]))
