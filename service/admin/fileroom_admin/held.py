@@ -65,6 +65,11 @@ class Bounds:
         found = [its["groups"][it] for it in groups if it in its.get("groups", {})]
         return min(found, key=[*BOUNDS].index) if found else its.get("room", USUAL)
 
+    def are_set(self, room):
+        """Whether somebody set one there that holds anybody."""
+        its = self.set.get(room, {})
+        return {its.get("room", "none"), *its.get("groups", {}).values(), *its.get("users", {}).values()} != {"none"}
+
     def lines(self, room):
         its = self.set.get(room, {})
         yield f"{room}  {its.get('room', USUAL)}"

@@ -12,6 +12,7 @@ import time
 from . import dav, paces, rosters, warned
 from .changes import JOURNAL, sum_in
 from .commands import OF_ROOM, end_of, of_room
+from .held import JAILS, Bounds
 from .owned import made_at
 from .places import (CHANGES, FRONT_FILES, HERE, LISTEN, LOGINS, SEARCHED, WORKERS, Fault, read, said, said_before,
                      sample)
@@ -229,6 +230,16 @@ class Findings:
                      f"fileroom-admin log {room} --user {user} shows what; fileroom-admin user release {room} {user}; "
                      f"fileroom-admin bound {room} many --user {user}")
 
+    def counted(self):
+        """(Who has set no bound is not asked to have fail2ban.)"""
+        rooms = [it for it in self.places.rooms() if Bounds(self.places).are_set(it)]
+        told = said_before("fail2ban", "fail2ban-client", "status")[1] if rooms else ""
+        lacking = {*JAILS} - {*re.findall(r"[\w-]+", told)}
+        if rooms and lacking:
+            self.add(f"{', '.join(rooms)}: bounds are set, and nobody is held at them: fail2ban has no jail "
+                     f"{', '.join(sorted(lacking))}", "docs/RUNNING.md, What a login may ask in a day, has the lines; "
+                     "journalctl -u fail2ban shows why it does not run")
+
     def owner(self, path):
         if not self.places.is_machine:
             return
@@ -318,6 +329,7 @@ def look(it, hours):
         it.part(task)
     if not places.rooms():
         it.add("there is no room", "fileroom-admin room add NAME OWNER GROUP, or room import FILE")
+    it.part(it.counted)
     for room in places.rooms():
         it.part(it.room, room)
         it.part(it.held, room)
