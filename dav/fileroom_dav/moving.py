@@ -86,7 +86,7 @@ def put_over(gate, visit: Visit, room: str, source: str, target: str) -> None:
     with set_aside(gate, visit, room, source) as aside:
         its = thing_at(visit, aside)
         put_as_named(gate, visit, room, target, bytes_of(visit, its))
-        pool.remove_file(visit, aside)
+        pool.remove(visit, aside, files.remove_file)
     gate.asides.gone(room, visit.settings.user, source)
 
 

@@ -62,7 +62,7 @@ class Upload(files.Upload):
 
     def from_pool(self) -> list[str]:
         """Into a file of the caller's own."""
-        one = next(settled(self.room, self.room.bin), None)
+        one = self.fitting(list(settled(self.room, self.room.bin)))
         if one is None:
             return []
         try:
@@ -74,27 +74,26 @@ class Upload(files.Upload):
         except Refused:  # (another request has it)
             return []
 
+    def fitting(self, found: list[str]) -> str | None:
+        """The one with the number of documents that is nearest to that of the pieces: from half of it to twice, but
+        where the pool is full. (Of one of many more those that are over are removed, and a file of its size makes them
+        anew.)"""
+        need = len(self.its.pieces)
+        told = self.room.ask_all([{"cmd": "LIST", "keep": False, "path": it} for it in found])
+        has = {path: len(it["names"]) for path, it in zip(found, told) if it["code"] == 0}
+        fit = [it for it in has if len(has) >= MOST or has[it] <= 2 * need <= 4 * has[it]]
+        return min(fit, key=lambda it: abs(has[it] - need), default=None)
 
-def remove(room: Room, path: str) -> None:
-    """For good, with all that is in it."""
+
+def remove(room: Room, path: str, removes: Callable[[Room, str], object] = files.remove_all) -> None:
+    """For good, with all that is in it, or what else `removes` does."""
     try:
         room.remove(path)
     except Refused as fault:
         if not is_refused(fault, "NOTEMPTY"):
             raise
         give(room, path)
-        files.remove_all(room, path)
-
-
-def remove_file(room: Room, path: str) -> None:
-    """For good, and nothing that is in it and no part of it."""
-    try:
-        room.remove(path)
-    except Refused as fault:
-        if not is_refused(fault, "NOTEMPTY"):
-            raise
-        give(room, path)
-        files.remove_file(room, path)
+        removes(room, path)
 
 
 def give(room: Room, path: str) -> None:

@@ -456,22 +456,34 @@ def back(visit: Visit, path: str, to: str) -> bool:
 # What a stop left
 
 def settle(gate, visit: Visit, asked: Asked) -> None:
-    """Before a request of who began it is served, or of somebody else to that folder who may."""
-    for step in gate.steps.claim(asked.room, asked.user, {asked.path, above(asked.path)}):
-        try:
-            with gate.changing(asked.room, step.path), gate.changing(asked.room, step.aside or step.path):
-                put_right(visit, step)
-        except (NoAnswer, SessionLost) as fault:
+    """Before a request of who began it is served, or of somebody else to that folder who may. What it does not come to
+    is left for the next one."""
+    claimed = gate.steps.claim(asked.room, asked.user, {asked.path, above(asked.path)})
+    try:
+        while claimed:
+            if settle_one(gate, visit, asked, claimed[0]):
+                gate.steps.end(claimed.pop(0))
+            else:
+                gate.steps.leave(claimed.pop(0))
+    finally:
+        for step in claimed:
             gate.steps.leave(step)
-            if isinstance(fault, Held):  # (who is held reads on)
-                continue
-            raise
-        except Fault as fault:
-            if step.user != asked.user and isinstance(fault, Refused) and is_refused(fault, "ACCESS"):
-                gate.steps.leave(step)
-                continue
-            say(f"room {step.room}: {of_what(step)}: {fault}")
-        gate.steps.end(step)
+
+
+def settle_one(gate, visit: Visit, asked: Asked, step: Step) -> bool:
+    """Whether nothing is left to do."""
+    try:
+        with gate.changing(asked.room, step.path), gate.changing(asked.room, step.aside or step.path):
+            put_right(visit, step)
+    except Held:  # (who is held reads on)
+        return False
+    except (NoAnswer, SessionLost):
+        raise
+    except Fault as fault:
+        if step.user != asked.user and isinstance(fault, Refused) and is_refused(fault, "ACCESS"):
+            return False
+        say(f"room {step.room}: {of_what(step)}: {fault}")
+    return True
 
 
 def put_right(visit: Visit, step: Step) -> None:
