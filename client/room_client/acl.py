@@ -5,7 +5,7 @@ from collections.abc import Callable
 from . import words
 from .documents import need_path
 from .faults import BadWords, Refused
-from .files import carried, large_at
+from .files import carried, large_at, secure
 from .local import read_local
 from .room import Room
 from .showing import show
@@ -33,10 +33,13 @@ def acl(room: Room, asked) -> None:
     need_path(asked.path)
     if asked.action is None:
         return show_list(room, asked)
-    new = new_list(room, asked, widened if large_at(room, asked.path) else list)
+    large = large_at(room, asked.path)
+    new = new_list(room, asked, widened if large else list)
     if new is None:
-        return show(asked, {"code": 0}, f"{shown(asked.path)}: that is there already, and nothing was set")
-    show(asked, room.set_list(asked.path, *new), f"{shown(asked.path)}: list set")
+        show(asked, {"code": 0}, f"{shown(asked.path)}: that is there already, and nothing was set")
+    else:
+        show(asked, room.set_list(asked.path, *new), f"{shown(asked.path)}: list set")
+    secure(room, asked.path, large)
 
 
 def widened(entries: list[dict]) -> list[dict]:

@@ -3,7 +3,7 @@ import base64
 from collections.abc import Callable, Iterable, Sequence
 from dataclasses import dataclass
 
-from . import manifest as form, spares
+from . import manifest as form, parts, spares
 from .faults import ACCESS, Fault, NotWhole, OtherVersion, Refused, refused
 from .manifest import MOST, Manifest, read_manifest
 from .room import MOST_BYTES, Room, unheard
@@ -13,12 +13,13 @@ from .words import FILE, FOLDER, INHERITED, TO_FILES, TO_FOLDERS, shown
 TRIES = 5  # of a reader that meets one new version after another
 # On a document's list, and what the folder that takes its place has to allow beside it, or to deny.
 ALLOWED_BESIDE = {0x1: 0x20, 0x2: 0x66}
-DENIED_BESIDE = {0x2: 0x46, 0x4: 0x46}
+DENIED_BESIDE = {0x1: 0x20, 0x2: 0x46, 0x4: 0x46}
 WRITE, APPEND = 0x2, 0x4
 TOO_LARGE = "a file has at most 16 MiB (16,777,216 bytes): split it; nothing was sent"
 DEEPEST = 14  # names of the path of a large file
 MOST_KEPT = 50  # bytes of a name that a mark follows
 MOST_TRIED = 2  # spares
+PREPARED = "somebody may write it, whatever its list says, by an owner or a list of its manifest"
 
 
 def folder_of(path: str) -> tuple[str, str]:
@@ -95,7 +96,10 @@ def read(room: Room, path: str, heard: Callable[[dict], None] = unheard) -> byte
         text = text_at(room, path)
         if text is None or read_manifest(text) is None:
             raise fault
-    return of_version(room, path, text, lambda its: pieces_of(room, path, its, heard))
+    data = of_version(room, path, text, lambda its: pieces_of(room, path, its, heard))
+    if not parts.manifest_follows(room, path):
+        room.say(f"{shown(path)}: {PREPARED}: save it anew")
+    return data
 
 
 def of_version(room: Room, path: str, text: bytes, gathers: Callable[[Manifest], object]):
@@ -390,6 +394,7 @@ class Upload:
 
     def tidy(self, names: dict[str, str]) -> None:
         """What was the version until now is the spare of the next one."""
+        self.keep_manifest(self.its)
         old = read_manifest(self.before) if self.before else None
         gone = old and form.GONE + old.folder.removeprefix(form.PIECES)
         kept = {old.folder, gone} if old and self.empty(old.folder, gone) else set()
@@ -397,9 +402,15 @@ class Upload:
         self.clear_others({*names, gone} - {None}, {self.its.folder, *kept})
 
     def tidy_same(self) -> None:
+        self.keep_manifest(read_manifest(self.before))
         spare = next((it for it in self.spares() if spares.is_empty(self.room, f"{self.path}/{it}") or
                       self.empty(it, it)), None)
         self.clear_others(self.names, {read_manifest(self.before).folder, spare})
+
+    def keep_manifest(self, its: Manifest) -> None:
+        """(What was made now is as a new one is.)"""
+        if self.before is not None:
+            keep_manifest(self.room, self.path, its)
 
     def empty(self, name: str, gone: str) -> bool:
         """Whether these pieces lie there without bytes, under the other name."""
@@ -419,7 +430,9 @@ class Upload:
         taken, over = ([f"{folder}/{it}" for it in sorted(some)] for some in (
             self.there & {*self.its.pieces}, self.there - {*self.its.pieces}))
         if not self.fit(taken):
-            return self.put_anew()
+            if self.put_anew(self.its.text()):
+                self.room.say(f"{shown(self.path)}: somebody had prepared a piece of it: it was written anew")
+            return
         try:
             if len(over) <= len(self.its.pieces):
                 return spares.empty(self.room, over)
@@ -432,19 +445,19 @@ class Upload:
         return spares.are_as_new(self.room, taken, self.whole) or (
             text_at(self.room, self.path) == self.its.text() and spares.are_as_new(self.room, taken, self.whole))
 
-    def put_anew(self) -> None:
-        """The version once more, where it stands, in pieces that are made for it."""
-        bad, self.before = self.its.folder, self.its.text()
-        if text_at(self.room, self.path) != self.before:
-            return
+    def put_anew(self, text: bytes) -> bool:
+        """The version once more, in pieces that are made for it, if it stands, with that manifest. Whether it did."""
+        bad, self.before = self.its.folder, text
+        if text_at(self.room, self.path) != text:
+            return False
         self.its = Manifest.of(self.data)
         self.put_pieces(self.path)
         self.share(self.made_pieces())
-        if text_at(self.room, self.path) != self.before:
-            return clear(self.room, self.path, self.its.folder)
-        self.put_manifest(self.path, False)
-        clear(self.room, self.path, bad)
-        self.room.say(f"{shown(self.path)}: somebody had prepared a piece of it: it was written anew")
+        stands = text_at(self.room, self.path) == text
+        if stands:
+            self.put_manifest(self.path, False)
+        clear(self.room, self.path, bad if stands else self.its.folder)
+        return stands
 
     def clear_others(self, names: Iterable[str], kept: set) -> None:
         for name in {*names} - kept:
@@ -527,6 +540,83 @@ def carried(entry: dict) -> dict:
         if entry["mask"] & bit:
             mask |= extra[bit]
     return entry | {"flag": entry["flag"] & ~INHERITED | TO_FILES | TO_FOLDERS, "mask": mask}
+
+
+# What a large file is made of follows it
+
+def keep_manifest(room: Room, path: str, its: Manifest | None) -> bool:
+    """Whether the manifest follows its file, if it has to be made anew for that; `its` is as it was seen last."""
+    if parts.manifest_follows(room, path):
+        return True
+    try:
+        now = make_manifest_anew(room, path)
+    except Refused as fault:
+        room.say(f"{shown(path)}: {PREPARED}, and it cannot be made anew: {fault}")
+        return False
+    other = "" if read_manifest(now) == its else "; and another version came meanwhile: look at it"
+    room.say(f"{shown(path)}: somebody could write it later, by an owner or a list of its manifest: that was made anew"
+             f"{other}")
+    return True
+
+
+def make_manifest_anew(room: Room, path: str) -> bytes:
+    """What it has. (The new one is there, and the file's owner's, before the old one goes. Between the two renames the
+    file has none. What lies in a folder of this name no other writer clears who began before.)"""
+    manifest, folder = f"{path}/{form.NAME}", f"{path}/{form.other_name(form.PIECES)}"
+    new, old = (f"{folder}/{it:03d}" for it in range(2))
+    text, its = room.read(manifest), room.stat(path)
+    room.ask({"cmd": "MKDIR", "path": folder}, is_step=True)
+    try:
+        room.create(new, text)
+        if its["owner"] != room.settings.user:
+            room.chown(new, its["owner"], its["group"])
+        room.rename(manifest, old)
+        return take_place(room, new, old, manifest, text)
+    finally:
+        if form.NAME in room.children(path):  # (else it has all that there is of one)
+            clear(room, path, folder.rpartition("/")[2])
+
+
+def take_place(room: Room, new: str, old: str, path: str, text: bytes) -> bytes:
+    """The new one has what the old one had as it lost its name. Otherwise that has it again, or one of these bytes."""
+    try:
+        now = room.read(old)
+        if now != text:
+            room.write(new, now)
+            text = now
+        room.rename(new, path)
+        return text
+    except Refused:
+        try:
+            has_room(room, old, path)
+        except Refused as fault:
+            if not refused_as(fault, "NOENT"):
+                raise
+            room.create(path, text)
+        raise
+
+
+def secure(room: Room, path: str, before: Manifest | None) -> None:
+    """A large file has another list, or is to have another owner: what it is made of is as if it was made now, or what
+    keeps it from that is told. (Whoever may not read its manifest sees by the names alone that it is one.)"""
+    inside, = room.ask_all([{"cmd": "LIST", "path": path}])
+    if not form.is_large(dict(inside.get("names", ()))) or not keep_manifest(room, path, before):
+        return
+    try:
+        text = room.read(f"{path}/{form.NAME}")
+        its = read_manifest(text)
+        if its and not parts.pieces_follow(room, path, its):
+            write_anew(room, path, its, text)
+    except (NotWhole, OtherVersion, Refused) as fault:
+        room.say(f"{shown(path)}: somebody may be able to damage it, whatever its list says: {fault}")
+
+
+def write_anew(room: Room, path: str, its: Manifest, text: bytes) -> None:
+    upload = Upload(room, path, of_version(room, path, text, lambda it: pieces_of(room, path, it, unheard)), unheard)
+    upload.its, upload.whole = its, room.stat(path)
+    if its.is_of(upload.data) and upload.put_anew(text):
+        room.say(f"{shown(path)}: somebody could damage it later, by an owner or a list of its pieces: it was written "
+                 "anew")
 
 
 # Owners

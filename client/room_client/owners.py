@@ -3,7 +3,7 @@ from collections.abc import Iterator, Sequence
 
 from .documents import there
 from .faults import BadWords, Refused, refused
-from .files import give, large_at
+from .files import give, large_at, secure
 from .room import Room
 from .showing import Told, show
 from .trash import TOP, places_of
@@ -24,7 +24,8 @@ def chown(room: Room, asked) -> None:
         return below(room, asked, path, owner, group)
     if asked.giver:
         raise BadWords("--from is for -r")
-    large = large_at(room, path)
+    secure(room, path, large_at(room, path))
+    large = large_at(room, path)  # (its pieces may be others by now)
     refusal = large and give(room, path, large, owner, group)
     if refusal:
         raise refusal
