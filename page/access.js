@@ -1,10 +1,13 @@
 /** The view of an access list. */
-import { FOLDER, LARGE, MOST_ENTRIES, REACH, RIGHTS, ROOT, Refusal, SETS, WHOM, addressOf, asOwn, ask, bothWords,
-  button, carried, checkbox, faultLine, folderOf, follows, input, isDeny, isForNobody, isInherited, isNamed, link, make,
-  nameText, newEntry, orFault, ownOf, personText, select, sentence, setOf, shown, t, tellFault, whomFault, whomOf,
-  withFollows, withWhom } from "./common.js";
+import { FOLDER, LARGE, MOST_ENTRIES, REACH, RIGHTS, ROOT, SETS, WHOM, Refusal, addressOf, asOwn, ask, bothWords,
+  button, carried, checkbox, entriesOf, faultLine, folderOf, follows, inFolder, input, isDeny, isForNobody,
+  isInherited, isNamed, isPrivate, link, make, nameText, newEntry, orFault, ownOf, personText, rightsIn, select,
+  sentence, setOf, shown, t, tellFault, whomFault, whomOf, whomText, withFollows, withWhom } from "./common.js";
 import { head } from "./heads.js";
-import { helpThem, shutOut } from "./questions.js";
+import { NAME } from "./manifest.js";
+import { helpThem, letAll, named, origins, setBack, setList, shutOut } from "./questions.js";
+import { NOBODY } from "./reading.js";
+import { secure } from "./secure.js";
 import { SharePanel } from "./share.js";
 import { standing } from "./stand.js";
 import { standingAt } from "./trees.js";
@@ -105,6 +108,7 @@ class ListView {
   constructor(app, place, standing, list, roster) {
     Object.assign(this, { app, place, standing, list, roster, aclflag: list.aclflag, own: ownOf(list), opened: null });
     this.copied = []; // of what was handed down
+    this.changes = []; // of lists, which can be set back
     this.element = make("div.typed");
     this.element.isUnsaved = () => this.text !== this.start;
     this.start = this.text;
@@ -122,7 +126,7 @@ class ListView {
     const [own, rest] = [this.own.map((it, at) => this.entry(it, at)), this.inherited];
     const above = folderOf(this.place.path);
     this.element.replaceChildren(this.taking(), make("h2", t.ownEntries),
-      own.length ? make("ol.entries", own) : make("p", t.nothingThere),
+      own.length ? make("ol.entries", own) : make("p", t.isEmpty),
       make("p.tools", button(t.addEntry, () => this.add())),
       make("section.handed", { hidden: !rest.length }, make("h2", t.handedTitle),
         make("p", t.handedBehind, link(addressOf({ ...this.place, path: above }), nameText(above))),
@@ -193,8 +197,9 @@ class ListView {
   async end(news) {
     const object = { path: this.place.path, kind: this.standing.kind };
     const found = await this.app.attempt(t.listOf(shown(object.path)), () => shutOut(this.app, object, news));
-    const told = found ? await helpThem(this.app, object, news, found) : "";
-    await this.app.done(`${t.listSet} ${told}`.trim());
+    const changes = this.changes.splice(0);
+    const told = found ? await helpThem(this.app, object, news, found, changes) : "";
+    await this.app.done(`${t.listSet} ${told}`.trim(), null, this.undo(changes));
   }
 
   news() {
@@ -207,20 +212,63 @@ class ListView {
     return this.save(news);
   }
 
+  /** For its owner alone, whatever the folder above hands down. */
+  makePrivate() {
+    const { kind, owner } = this.standing;
+    this.aclflag = withFollows(this.aclflag, false);
+    return this.setTo(entriesOf("all", { id: "user", name: owner }, kind), []);
+  }
+
+  /** Tells in the panel from where people have what is handed down, and who does not get there. */
+  async tellMore(panel) {
+    const { app, place, list } = this;
+    const object = { path: place.path, kind: this.standing.kind };
+    for (const [it, folder] of await origins(app.room, place.path, this.inherited)) {
+      panel.tellFrom(whomOf(it), t.fromAbove, link(addressOf({ ...place, path: folder }), nameText(folder)));
+    }
+    const entries = list.entries.filter((it) => !isDeny(it));
+    const found = await shutOut(app, object, entries);
+    for (const its of Map.groupBy(found, ({ whom }) => JSON.stringify(whom)).values()) {
+      const [isBarred, who] = [its.some((it) => it.folders.length), named(its)];
+      const words = isBarred ? t.cannotReach(who) : t.lacksStill(who, rightsIn(its[0].lacks, object.kind));
+      panel.tellShut(its[0].whom, words, isBarred && (() => this.allow(object, its)));
+    }
+  }
+
+  async allow(object, found) {
+    const changes = [];
+    const { whom } = found[0];
+    const entries = this.list.entries.filter((it) => !isDeny(it) && isSame(whomOf(it), whom));
+    const isDone = await this.app.attempt(t.allowIn, () => letAll(this.app, object, entries, found, changes));
+    if (isDone) await this.app.done(t.allCan([whomText(whom)]), null, this.undo(changes));
+  }
+
+  /** What sets lists back. */
+  undo(changes) {
+    return async () => {
+      await setBack(this.app.room, changes);
+      await this.app.done(t.listBack);
+    };
+  }
+
   leave() {
     this.element.classList.remove("typed");
     return this.app.show(standing());
   }
 
-  async set() {
-    await this.app.room.run("SETLIST", this.place.path, { aclflag: this.aclflag, entries: this.own });
+  async set(before = this.list) {
+    const { app: { room }, place: { path } } = this;
+    const isLarge = this.standing.kind === LARGE;
+    const manifest = isLarge && await room.asideIfAllowed("READ", inFolder(path, NAME));
+    this.changes.push(await setList(room, path, before, { aclflag: this.aclflag, entries: this.own }));
     this.start = this.text;
+    if (isLarge) await secure(room, path, manifest?.data, { ...NOBODY, fail: tellFault });
   }
 
   async settle(now) {
     const parts = [[t.theirs, ownOf(now)], [t.yours, this.own]].map(([title, entries]) =>
       [make("h3", title), sentences(entries, this.standing)]);
-    const chosen = await ask({ title: t.changed, task: () => this.set(), words: [t.nobodyKnows, parts],
+    const chosen = await ask({ title: t.changed, task: () => this.set(now), words: [t.nobodyKnows, parts],
       does: t.setAllTheSame, others: [{ words: t.takeTheirs, value: "theirs" }] });
     if (chosen === "theirs") await this.app.show(standing());
     return chosen === true;
@@ -234,7 +282,14 @@ export async function showAccess(app, place) {
   const roster = await app.room.users();
   const view = new ListView(app, place, its, list, roster);
   view.draw();
-  const panel = new SharePanel(its, view.own, roster, (own, news) => view.setTo(own, news));
+  const detail = () => {
+    more.open = true;
+    more.querySelector("summary").focus();
+  };
+  const panel = new SharePanel(its, { own: view.own, handed: view.inherited }, roster, { detail, user: app.user,
+    set: (own, news) => view.setTo(own, news),
+    makePrivate: its.owner === app.user && !isPrivate(list, app.user) && (() => view.makePrivate()) });
+  view.tellMore(panel).catch(() => {}); // (what is not known is not told)
   const about = make("p.about", its.owner && t.owned(personText(its.owner), its.group));
   const more = make("details.exceptions", { open: isDetailed }, make("summary", t.details), about,
     make("p", t.aboutList), view.element);

@@ -5,7 +5,7 @@ import { ADD_FILE, ADD_FOLDER, ALL, APPEND, DELETE, DELETE_CHILD, EXIST, FILE, F
   shown, t, tellFault, toBase64, toText } from "./common.js";
 import { download, downloadFolder } from "./downloads.js";
 import { writeCopy } from "./files.js";
-import { copyTo, move, putBack, remove } from "./moving.js";
+import { copyTo, move, putBack, remove, wayBack } from "./moving.js";
 import { makeLike, placeIn } from "./overflow.js";
 import { isTrash, toldBy } from "./trash.js";
 import { filesButton, newVersion } from "./uploads.js";
@@ -153,7 +153,7 @@ class Editing {
 
 async function edit(app, path, bytes, text) {
   const it = new Editing(app, path, bytes, text);
-  const isDone = await ask({ title: t.doTo(t.edit, shown(lastName(path))), does: t.replace,
+  const isDone = await ask({ title: t.doTo(t.edit, shown(lastName(path))), does: t.save,
     fields: [[t.text, it.field]], faultOf: () => tooLong(it.bytes), task: () => it.replace() });
   if (isDone) await app.done(it.words);
 }
@@ -165,5 +165,7 @@ async function rename(app, path) {
   const isDone = await ask({ title: t.doTo(t.rename, shown(lastName(path))), does: t.rename,
     fields: [[t.heads.name, to]], faultOf: () => (isPath() ? pathFault(target()) : nameFault(clean(to.value))),
     task: () => app.room.run("RENAME", path, { to: target() }) });
-  if (isDone) await app.done(t.isNow(shown(path), shown(target())), { from: path, to: target() });
+  if (!isDone) return;
+  const now = target();
+  await app.done(t.isNow(shown(path), shown(now)), { from: path, to: now }, wayBack(app, new Map([[path, now]])));
 }

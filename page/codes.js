@@ -1,6 +1,6 @@
 /** What the room refuses: its codes, and each in words with the remedy (docs/CODES.md). */
-import { shown } from "./names.js";
-import { FILE, FOLDER, rightsIn } from "./rights.js";
+import { personText, shown } from "./names.js";
+import { FILE, FOLDER, PASS_THROUGH, READ, rightsIn } from "./rights.js";
 import { t } from "./words.js";
 
 export const [NOENT, NOTDIR, ISDIR, EXIST, ACCESS, NOTEMPTY, TOO_DEEP, FOLDER_FULL] = [1, 2, 3, 4, 5, 6, 10, 11];
@@ -9,13 +9,15 @@ const OF_DOCUMENTS = new Set(["READ", "WRITE", "APPEND"]);
 /** By name, as far as the user may see: `owner` is the object's, `above` that of its folder. */
 function whomToAsk({ user, owner, above }) {
   if (owner && owner === user) return t.isYours;
-  if (owner) return t.askOwner(owner);
-  return above && above !== user ? t.askAbove(above) : t.askAnyOwner;
+  if (owner) return t.askOwner(personText(owner));
+  return above && above !== user ? t.askAbove(personText(above)) : t.askAnyOwner;
 }
 
 function lackedRight({ bit, path }, command, whose) {
   const kind = OF_DOCUMENTS.has(command.cmd) && path === command.path ? FILE : FOLDER;
-  return `${t.lacksRight(shown(path), rightsIn(bit, kind))} ${whomToAsk(whose)}`;
+  const words = [READ, PASS_THROUGH].includes(bit) ? t.noAccess(shown(command.path ?? path)) :
+    t.lacksRight(shown(path), rightsIn(bit, kind));
+  return `${words} ${whomToAsk(whose)}`;
 }
 
 const wordsOf = (reply, command, whose) => (reply.code === ACCESS ? lackedRight(reply, command, whose) :

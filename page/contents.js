@@ -1,14 +1,13 @@
 /** The view of what is in a folder, or of a document. */
 import { asButton, makeDocument, makeFolder, offered, offersFor, rightsAt, textOffers } from "./actions.js";
-import { ACCESS, ADD_FILE, ADD_FOLDER, FILE, FOLDER, LARGE, READ, ROOT, Refusal, UNFINISHED, addressOf, button, byName,
+import { ACCESS, ADD_FILE, ADD_FOLDER, FILE, FOLDER, LARGE, READ, Refusal, UNFINISHED, addressOf, button, byName,
   faultLine, folderOf, fromBase64, inFolder, lastName, link, make, menuButton, openMenu, orFault, personText, pointOf,
   shown, t, toText } from "./common.js";
-import { takeFiles } from "./drag.js";
 import { head } from "./heads.js";
 import { NAME, beside, isPart } from "./manifest.js";
 import { emptyTrash } from "./moving.js";
 import { canShow, isPdf, isPicture, nothing, preview } from "./preview.js";
-import { manifestAt, readFile } from "./reading.js";
+import { NOBODY, manifestAt, readFile } from "./reading.js";
 import { Things } from "./things.js";
 import { sizeWords } from "./transfers.js";
 import { beforeWords, isOwnTrash, isTrash, ownTrash, withoutPool } from "./trash.js";
@@ -44,11 +43,9 @@ async function leftWords(names) {
   return faultLine(t.leftHere(called.length ? called : t.someDocument));
 }
 
-async function trashTool(app, { path, room }, isEmpty) {
-  const trash = (path === ROOT || isOwnTrash(app, path)) && (await ownTrash(app)).path;
-  if (!trash) return null;
-  if (path === ROOT) return link(addressOf({ room, path: trash }), t.trashOf(app.user));
-  return !isEmpty && path === trash && button(t.emptyTrash, () => emptyTrash(app, path));
+async function trashTool(app, { path }, isEmpty) {
+  const isTheirs = !isEmpty && isOwnTrash(app, path) && (await ownTrash(app)).path === path;
+  return isTheirs && button(t.emptyTrash, () => emptyTrash(app, path));
 }
 
 const titleOf = ({ path }) => (isTrash(path) ? t.trashOf(lastName(path)) : undefined);
@@ -71,7 +68,6 @@ async function folder(app, place, stat, rights, found) {
   await things?.inOrder;
   const area = make("div.drops", await leftWords(listed), things?.element ?? make("p.empty", t.nothingThere),
     about(place, stat, t.inIt(names.length)), words && make("p.about", words));
-  if (mayPut) takeFiles(area, app, path);
   area.oncontextmenu = (event) => {
     if (!news.length || event.target !== area) return;
     event.preventDefault();
@@ -103,7 +99,11 @@ async function large(app, place, stat, rights) {
   const its = await manifestAt(app.room, path);
   if (!its) return null;
   const area = make("div");
-  const show = async () => area.replaceChildren(preview(await readFile(app.room, path), lastName(path)));
+  const show = async () => {
+    const told = [];
+    const bytes = await readFile(app.room, path, { ...NOBODY, fail: (it) => told.push(faultLine(it)) });
+    area.replaceChildren(...told, preview(bytes, lastName(path)));
+  };
   const start = await app.room.asideIfAllowed("READ", inFolder(path, its.folder, its.pieces[0]), { keep: false });
   const bytes = start && fromBase64(start.data);
   const isAsked = its.size <= PREVIEWED || bytes && isPdf(bytes);

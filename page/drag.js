@@ -1,5 +1,5 @@
-/** Rows are dragged onto folders and onto the way above; files of the user's disk are dropped. */
-import { folderOf, isWithin, tellIt } from "./common.js";
+/** Rows are dragged onto folders and onto the way above; files of the user's disk are dropped anywhere. */
+import { ROOT, folderOf, isWithin, lastName, make, shown, t, tellIt } from "./common.js";
 import { moveInto } from "./moving.js";
 import { dropped, upload } from "./uploads.js";
 
@@ -41,8 +41,36 @@ function take(element, fits, does) {
 export const takeRows = (element, app, folder, isFolder = () => true) => take(element, (data) =>
   data.types.includes(FORM) && isFolder() && mayGo(folder), () => moveInto(app, dragged, folder));
 
-export const takeFiles = (element, app, folder, isFolder = () => true) => take(element, (data) =>
-  data.types.includes("Files") && isFolder(), async (data) => {
+const hasFiles = (data) => data.types.includes("Files");
+
+async function put(app, folder, data) {
   const chosen = await dropped(data).catch(tellIt);
   if (chosen) await upload(app, folder, chosen);
-});
+}
+
+export const takeFiles = (element, app, folder, isFolder) => take(element, (data) => hasFiles(data) && isFolder(),
+  (data) => put(app, folder, data));
+
+/** Files that are dropped anywhere go into the folder that is shown: a browser would leave the page for them. */
+export function takeDrops(app) {
+  const over = make("p.over", { hidden: true });
+  document.body.append(over);
+  const goal = () => (document.querySelector("dialog[open]") ? null : app.watched?.put && app.watched.path);
+  const hide = () => { over.hidden = true; };
+  addEventListener("dragover", hide, true); // (a row that takes them lets nobody else hear of it)
+  addEventListener("dragover", (event) => {
+    if (!hasFiles(event.dataTransfer)) return;
+    const path = goal();
+    event.preventDefault();
+    event.dataTransfer.dropEffect = path ? "copy" : "none";
+    if (path) over.textContent = t.dropTo(shown(path === ROOT ? app.room.name : lastName(path)));
+    over.hidden = !path;
+  });
+  addEventListener("dragleave", (event) => event.relatedTarget || hide());
+  addEventListener("drop", hide, true);
+  addEventListener("drop", (event) => {
+    if (!hasFiles(event.dataTransfer)) return;
+    event.preventDefault();
+    if (goal()) put(app, goal(), event.dataTransfer);
+  });
+}

@@ -5,6 +5,7 @@ import { clear, clearBeside, fileAt } from "./clearing.js";
 import { EXIST, FILE, ISDIR, MOST_BYTES, NOENT, NOTEMPTY, Refusal, carried, folderOf, forDocument, forEach, inFolder,
   isRefused, lastName, namesOf, orElse, ownList, shown, t, toBase64 } from "./common.js";
 import * as form from "./manifest.js";
+import { give, keepManifest, piecesAt } from "./parts.js";
 import { NOBODY, bytesAt, isSame, isWhole, manifestAt, manifestBytes } from "./reading.js";
 import { areAsNew, clearOver, emptySpare, keepSpare, leaveSpare, takeSpare } from "./spares.js";
 
@@ -33,7 +34,7 @@ export async function writeCopy(room, of, path, bytes, transfer = NOBODY) {
 }
 
 /** One new version of a file that is a folder, or becomes one. A new file gets the list. */
-class Upload {
+export class Upload {
   constructor(room, path, bytes, transfer, list = null) {
     Object.assign(this, { room, path, bytes, transfer, list, names: [], before: null, spare: null,
       called: shown(lastName(path)) });
@@ -200,6 +201,7 @@ class Upload {
   /** Behind a new version: what was before is the next spare, what was taken is looked at, and the rest is cleared. */
   async tidy(names) {
     const { room, path, transfer } = this;
+    if (!this.isMade) await keepManifest(room, path, transfer, toBase64(form.bytesOf(this.its)));
     const old = this.before && form.readManifest(this.before)?.folder;
     const isThere = names.some(([name]) => name === old);
     const spare = isThere ? await leaveSpare(room, path, old, transfer) : null;
@@ -210,6 +212,7 @@ class Upload {
 
   /** Behind a version that stays. */
   async keep() {
+    await keepManifest(this.room, this.path, this.transfer, toBase64(this.before));
     const now = await manifestAt(this.room, this.path);
     const spare = await keepSpare(this.room, this.path, this.names, this.transfer);
     if (now) await this.clearOthers(this.names, now.folder, spare);
@@ -219,19 +222,22 @@ class Upload {
     const { room, transfer, its: { pieces } } = this;
     const taken = pieces.filter((it) => names.has(it));
     const over = [...names].filter((it) => !pieces.includes(it));
-    if (!await areAsNew(room, this.piecesOf(taken), this.stat, transfer)) return this.writeAnew();
+    if (!await areAsNew(room, this.piecesOf(taken), this.stat, transfer, () => this.stands())) return this.writeAnew();
     await clearOver(room, this.piecesOf(over), pieces.length, transfer);
+  }
+
+  async stands(folder = this.its.folder) {
+    return (await manifestAt(this.room, this.path))?.folder === folder;
   }
 
   /** Somebody prepared what was taken: as long as this version stands its bytes go into pieces that are made for it. */
   async writeAnew() {
     const { folder } = this.its;
-    const stands = async () => (await manifestAt(this.room, this.path))?.folder === folder;
-    if (!await stands()) return;
+    if (!await this.stands(folder)) return;
     this.its = { ...this.its, folder: form.otherName(form.PIECES) };
     await this.putPieces(this.path);
     await this.share(this.made());
-    if (!await stands()) return this.clear(this.path, this.its.folder);
+    if (!await this.stands(folder)) return this.clear(this.path, this.its.folder);
     await this.putManifest(this.path, false);
     await this.clear(this.path, folder);
   }
@@ -287,11 +293,4 @@ class Upload {
       throw fault;
     }
   }
-}
-
-const piecesAt = (at, { folder, pieces }) => [pieces.map((it) => inFolder(at, folder, it)), [inFolder(at, folder)]];
-
-/** Gives these paths to somebody, level by level: whoever gave a folder may not pass through it any more. */
-async function give(room, levels, whose) {
-  for (const paths of levels) await forEach(paths, (it) => room.step("CHOWN", it, whose), room.width);
 }

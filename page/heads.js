@@ -22,9 +22,9 @@ const views = (place) => make("nav.views", { "aria-label": t.views }, VIEWS.map(
 }));
 
 /** With a `menu` what concerns the object is a menu of its name; else its views stand below. */
-export function head(place, { title = nameOf(place, place.path), menu, app } = {}) {
+export function head(place, { title = nameOf(place, place.path), menu, app, hasViews = !menu } = {}) {
   const its = menu ? make("h1", menuButton([nameText(title)], { className: "title" }, menu, shown(title))) :
     make("h1", { tabIndex: -1 }, nameText(title));
   const line = make("div.head", place.path !== ROOT && way(place, app), its);
-  return menu ? [line] : [line, views(place)];
+  return hasViews ? [line, views(place)] : [line];
 }

@@ -2,13 +2,14 @@
 export const help = `
 # Ordner und Dokumente
 Wählen Sie einen Namen, um ihn zu öffnen; der Knopf ⋯ einer Zeile zeigt, was Sie damit tun dürfen. Ein Text fasst 65.536
-  Bytes, eine hochgeladene Datei 16 MiB, ein Ordner 256 Dinge, ein Pfad 16 Namen, ein Name 64 Buchstaben: Umlaute zählen
-  doppelt.
-**Anhängen** fügt am Ende eines Dokuments Zeilen an, auch wo jemand anderes gleichzeitig anfügt. **Bearbeiten** ersetzt
-  alles und zeigt beide Texte, wenn es jemand inzwischen geändert hat. **Neue Fassung hochladen** ersetzt es durch eine
-  Datei und behält auf Wunsch die alte daneben: von selbst bewahrt der Raum keine alten Fassungen und keine Zeiten auf.
+  Bytes, eine hochgeladene Datei 16 MiB, ein Ordner 256 Elemente, ein Pfad 16 Namen, ein Name 64 Buchstaben: Umlaute
+  zählen doppelt.
+**Text hinzufügen** setzt am Ende eines Dokuments Zeilen an, auch wo es jemand anderes gleichzeitig tut. **Bearbeiten**
+  ersetzt alles und zeigt beide Texte, wenn es jemand inzwischen geändert hat. **Neue Fassung hochladen** ersetzt es
+  durch eine Datei und behält auf Wunsch die alte daneben: von selbst bewahrt der Raum keine alten Fassungen und keine
+  Zeiten auf.
 Was Sie anlegen, auch eine Kopie, gehört Ihnen. **Entfernen** legt Dinge in Ihren Papierkorb, wo Sie einen haben: der
-  Weg dorthin steht ganz oben im Raum. Ein neues Passwort gibt, wer den Raum betreibt.
+  Weg dorthin steht ganz oben auf der Seite. Ein neues Passwort gibt, wer den Raum betreibt.
 Tasten: **Strg /** führt zur Suche, **Alt ↑** zum Ordner darüber, **Strg Z** macht rückgängig; in der Liste sucht **/**,
   **F2** benennt um, **Entf** entfernt, **Strg A** wählt alles, **Strg X** oder **Strg C** und dann **Strg V**
   verschieben oder kopieren in den gezeigten Ordner, und Buchstaben führen zu einem Namen; **Strg S** beendet, was

@@ -3,6 +3,7 @@ import { FOLDER } from "./rights.js";
 
 const SHAPES = {
   folder: "M3 6h6l2 2h10v11H3z",
+  locked: "M6 11h12v9H6zM8 11V8a4 4 0 0 1 8 0v3",
   text: "M6 3h8l4 4v14H6zM14 3v4h4M9 12h6M9 16h6",
   picture: "M3 5h18v14H3zM3 16l5-5 4 4 3-3 6 6M16 9h.01",
   pdf: "M6 3h8l4 4v14H6zM14 3v4h4M9 18v-6h2a1.7 1.7 0 0 1 0 3.4H9",

@@ -47,7 +47,7 @@ export function whomFault(entry, roster) {
 export const forDocument = (entry) => ({ ...entry, flag: entry.flag & GROUP_FLAG });
 
 // What a folder has to allow, or to deny, beside a document's right.
-const BESIDE = [{ 0x1: 0x20, 0x2: 0x66 }, { 0x2: 0x46, 0x4: 0x46 }];
+const BESIDE = [{ 0x1: 0x20, 0x2: 0x66 }, { 0x1: 0x20, 0x2: 0x46, 0x4: 0x46 }];
 const [WRITE, APPEND] = [0x2, 0x4];
 
 /** An entry of a document, as the folder that is a large file needs it. Nothing is added at a large file's end: who may

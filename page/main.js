@@ -4,16 +4,18 @@ import { lookAgain, looksAgain, turnLooking } from "./beside.js";
 import * as busy from "./busy.js";
 import { useClipboard } from "./clipboard.js";
 import { LANGUAGES, ROOT, Refusal, Room, addressOf, ask, button, choose, closeAll, end, faultLine, isMenuOpen,
-  isUnsaved, isWithin, language, learnNames, make, namesOf, onSubmit, openMenu, part, pass, pathOf,
+  isUnsaved, isWithin, language, lastName, learnNames, make, namesOf, onSubmit, openMenu, part, pass, pathOf,
   placeOf, say, settle, shown, t, tellFault, untilClosed, watch } from "./common.js";
 import { showContents } from "./contents.js";
-import { searchFor, showFind } from "./find.js";
+import { takeDrops } from "./drag.js";
+import { forgetFound, searchFor, showFind } from "./find.js";
 import { head } from "./heads.js";
 import { showHelp } from "./help.js";
 import { isPart } from "./manifest.js";
 import { showMatrix } from "./matrix.js";
 import { logOut, sessionOfTab, userNow } from "./session.js";
 import { arrive, leave, standing } from "./stand.js";
+import { ownTrash } from "./trash.js";
 import { warn } from "./warned.js";
 import { fileOfFront } from "./wire.js";
 
@@ -71,12 +73,13 @@ class App {
   /** Tells what was done, and shows what is there then; `moved` is where what was shown is now. */
   async done(words, moved = null, undo = null) {
     const here = placeOf(location.hash);
+    forgetFound();
     const undoIt = undo && (() => this.attempt(t.undo, undo));
     if (here && moved && isWithin(here.path, moved.from)) {
       this.saying = [words, undoIt]; // (the next place tells it)
       location.replace(addressOf({ room: here.room, path: moved.to }));
     } else {
-      const back = standing();
+      const back = standing(moved?.to);
       say(words, undoIt);
       await this.show(back);
     }
@@ -87,7 +90,7 @@ class App {
     await untilClosed();
     while (isMenuOpen()) await new Promise((goOn) => setTimeout(goOn, 100));
     await this.shown;
-    if (placeOf(location.hash)?.view === "open") await this.show(standing());
+    if (this.place.view === "open") await this.show(standing());
   }
 
   /** The address has changed: words of before are of another place, but for those that led here. */
@@ -116,8 +119,16 @@ class App {
       this.room = await this.openRoom(place.room);
       return await (VIEWS.get(place.view) ?? showContents)(this, place);
     } catch (fault) {
-      return [...head(place), faultLine(fault.message)];
+      return [...head(place, { hasViews: false }), faultLine(fault.message)];
     }
+  }
+
+  /** The way to the user's trash, where there is one. */
+  async linkTrash(room) {
+    const its = part("trash");
+    const { path } = this.room && await ownTrash(this).catch(() => ({})) || {};
+    its.hidden = !path;
+    if (path) its.href = addressOf({ room, path });
   }
 
   get place() {
@@ -141,8 +152,9 @@ class App {
       part("main").dataset.place = addressOf(place); // (for tests: what is shown, once it is)
       part("rooms").textContent = shown(place.room);
       part("rooms").ariaLabel = t.about(t.room, shown(place.room));
-      document.title = `${shown(place.path)} – ${place.room}`;
+      document.title = place.path === ROOT ? place.room : `${shown(lastName(place.path))} – ${place.room}`;
       warn(this.user, place.room);
+      this.linkTrash(place.room);
     });
     if (turn === this.turn) then();
   }
@@ -191,13 +203,17 @@ async function start() {
   await learnNames();
   const app = new App(user, rooms);
   userMenu(user);
-  part("search").onsubmit = onSubmit(() => searchFor(app, part("search").querySelector("input").value));
+  part("search").onsubmit = onSubmit(() => {
+    const { value } = part("search").querySelector("input");
+    if (value.trim()) searchFor(app, value.trim());
+  });
   part("rooms").onclick = () =>
     openMenu(part("rooms"), rooms.map((room) => ({ words: room, href: addressOf({ room, path: ROOT }) })), t.room);
   watch(() => part("main").querySelector(".typed")?.isUnsaved());
   addEventListener("hashchange", () => app.come());
   lookAgain(app);
   useClipboard(app);
+  takeDrops(app);
   return app.show();
 }
 

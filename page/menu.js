@@ -7,7 +7,9 @@ let open = null;
 export const isMenuOpen = () => open !== null;
 
 function itemElements(it, close) {
-  const how = { role: "menuitem", tabIndex: -1, className: it.isApart ? "apart" : "", ...it.lang && { lang: it.lang } };
+  const how = { role: "menuitem", tabIndex: -1, className: it.isApart ? "apart" : "", ...it.lang && { lang: it.lang },
+    ...it.about && { title: it.about },
+    ...it.isNow !== undefined && { role: "menuitemradio", "aria-checked": it.isNow } };
   if (it.href) return [Object.assign(link(it.href, it.words), { onclick: close }, how)];
   const files = it.chosen && pickFiles(it.words, it.files, (chosen) => {
     close();
@@ -25,7 +27,7 @@ class Menu {
   constructor(anchor, items, label, at) {
     Object.assign(this, { anchor, at });
     const elements = items.flatMap((it) => itemElements(it, () => this.close()));
-    this.items = elements.filter((it) => it.role === "menuitem");
+    this.items = elements.filter((it) => it.role?.startsWith("menuitem"));
     this.element = make("div.menu", { role: "menu", popover: "auto", "aria-label": label },
       make("p.menu-title", { "aria-hidden": "true" }, label), elements);
     this.element.onkeydown = (event) => this.key(event);

@@ -42,10 +42,11 @@ async function askWhere(app, paths, { words, does, start = folderOf(paths[0]), c
   return isDone && goals();
 }
 
-const wayBack = (app, places) => async () => {
+export const wayBack = (app, places) => async () => {
   const paths = [...places.keys()];
   await withEach(t.undo, paths, (it) => app.room.aside("RENAME", places.get(it), { to: it }));
-  await app.done(t.isBack(named(paths), paths.length));
+  const moved = paths.length === 1 ? { from: places.get(paths[0]), to: paths[0] } : null;
+  await app.done(t.isBack(named(paths), paths.length), moved);
 };
 
 async function moveTo(app, paths, goals) {

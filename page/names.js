@@ -40,4 +40,12 @@ export async function learnNames() {
 }
 
 export const displayName = (user) => (Object.hasOwn(people, user) ? people[user] : "");
-export const personText = (user) => (displayName(user) ? `${user} (${displayName(user)})` : user);
+
+/** The users whom a text means: by login, by name, or by both as they are shown. */
+export function usersBy(text, users) {
+  const wanted = text.toLowerCase();
+  if (users.includes(text)) return [text];
+  return users.filter((it) => [it, displayName(it), personText(it)].some((one) => one.toLowerCase() === wanted));
+}
+
+export const personText = (user) => (displayName(user) ? `${displayName(user)} (${user})` : user);

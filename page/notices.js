@@ -1,24 +1,33 @@
-/** What is told at the top: a fault until it is closed, or what it is about goes well; a word until the next. */
+/** What is told over the page, below: a fault until it is closed, or what it is about goes well; a word for some
+ * seconds, and one that can be undone until the next. */
 import { button, listOf, make, part } from "./dom.js";
 import { t } from "./words.js";
 
 const MOST_SHOWN = 5; // faults of one thing that are shown unasked
+const WHILE = 6_000; // milliseconds that a word stays, and longer where it is pointed at
 const section = part("notices");
 const told = section.parentNode;
-new ResizeObserver(() => { document.documentElement.style.scrollPaddingTop = `${told.offsetHeight + 8}px`; })
+new ResizeObserver(() => { document.documentElement.style.scrollPaddingBottom = `${told.offsetHeight + 8}px`; })
   .observe(told);
 
 function put(name, how, ...children) {
   const it = make(name, how, ...children);
   (it.querySelector("p") ?? it).append(" ", button(t.close, () => it.remove(), "small"));
   section.prepend(it); // (the newest is seen first, where there are more than have room)
+  return it;
+}
+
+function goLater(it) {
+  setTimeout(() => (it.matches(":hover, :focus-within") ? goLater(it) : it.remove()), WHILE);
 }
 
 export const pass = () => section.querySelectorAll(".good").forEach((it) => it.remove());
 
 export function say(words, undo = null) {
   pass();
-  if (words) put("div.good", {}, words, undo && [" ", button(t.undo, undo, "small undo")]);
+  if (!words) return;
+  const it = put("div.good", {}, words, undo && [" ", button(t.undo, undo, "small undo")]);
+  if (!undo) goLater(it);
 }
 
 /** What this is about went well: its faults go, and a list of faults with the last that is in it. */

@@ -32,14 +32,19 @@ export function pathFault(path) {
   return names.map(nameFault).find((it) => it !== "") ?? "";
 }
 
-export const addressOf = ({ view = "open", room, path }) =>
-  `#${[view, room, ...namesOf(path)].map(encodeURIComponent).join("/")}`;
+/** `word` is what a search looks for, `isHere` whether below this folder alone. */
+export const addressOf = ({ view = "open", room, path, word, isHere }) =>
+  `#${[view, room, ...namesOf(path)].map(encodeURIComponent).join("/")}` +
+  (view === "find" && (word || isHere) ? `?${isHere ? "in" : "all"}=${encodeURIComponent(word ?? "")}` : "");
 
 export function placeOf(address) {
   try {
-    const [view, room, ...names] = address.replace(/^#/, "").split("/").map(decodeURIComponent);
+    const [way, asked = ""] = address.replace(/^#/, "").split("?");
+    const [view, room, ...names] = way.split("/").map(decodeURIComponent);
+    const [how, word] = asked.split("=").map(decodeURIComponent);
     const isPath = !names.length || pathFault(pathOf(names)) === "";
-    return room && isPath ? { view, room, path: pathOf(names) } : null;
+    const search = view === "find" ? { word: word ?? "", isHere: how === "in" } : {};
+    return room && isPath ? { view, room, path: pathOf(names), ...search } : null;
   } catch {
     return null;
   }

@@ -77,7 +77,7 @@ export function preview(bytes, name) {
   if (isPdf(bytes)) return pdf(bytes, name);
   const text = toText(bytes);
   if (text === null) return nothing();
-  if (text === "") return make("p", t.nothingThere);
+  if (text === "") return make("p", t.isEmpty);
   return make("div", make("pre", { tabIndex: 0 }, text.slice(0, MOST_TEXT)),
     text.length > MOST_TEXT && make("p", t.beginning));
 }

@@ -1,6 +1,6 @@
 /** What users may do with objects, as the room says; and a way for those who cannot get there. */
 import { FOLDER, LARGE, PASS_THROUGH, ask, askedOf, byWhom, foldersAbove, forEach, givenHere, inFolder, isDeny,
-  listOf, make, ofLarge, once, ownOf, rightsIn, shown, t, whomText, withWhom } from "./common.js";
+  listOf, make, ofLarge, once, ownOf, rightsIn, shown, t, whomOf, whomText, withWhom } from "./common.js";
 import { NAME } from "./manifest.js";
 import { lookInto } from "./trees.js";
 
@@ -86,10 +86,26 @@ export async function shutOut(app, { path, kind }, entries) {
   return found;
 }
 
-function named(all) {
+export function named(all) {
   const users = [...new Set(all.map(({ user }) => user))].sort();
   const more = users.length - MOST_NAMED;
   return more > 1 ? [...users.slice(0, MOST_NAMED), t.others(more)] : users;
+}
+
+/** Sets a list, and gives what sets it back. */
+export async function setList(room, path, before, { aclflag, entries }) {
+  await room.run("SETLIST", path, { aclflag, entries });
+  const after = await room.asideIfAllowed("GETLIST", path);
+  return { path, before, after: JSON.stringify(after) };
+}
+
+/** Sets lists back, the last first, where nobody else has set them since. */
+export async function setBack(room, changes) {
+  for (const { path, before, after } of changes.toReversed()) {
+    const now = await room.run("GETLIST", path);
+    if (JSON.stringify(now) !== after) throw new Error(t.about(shown(path), t.changed));
+    await room.run("SETLIST", path, { aclflag: before.aclflag, entries: ownOf(before) });
+  }
 }
 
 /** Lets them pass through a folder, and no more: behind what is denied there, which still counts. */
@@ -100,23 +116,45 @@ async function letPass(room, folder, all) {
   const news = [...whoms.values()].map((whom) => withWhom({ type: 0, flag: 0, mask: PASS_THROUGH, who: "" }, whom));
   const at = own.findIndex((it) => !isDeny(it));
   own.splice(at < 0 ? own.length : at, 0, ...news);
-  await room.run("SETLIST", folder, { aclflag: list.aclflag, entries: own });
+  return setList(room, folder, list, { aclflag: list.aclflag, entries: own });
 }
 
-/** Tells who cannot get there and why, and lets them pass if wanted. Gives the end in words. */
-export async function helpThem(app, object, entries, found) {
+const byFolder = (found) => Map.groupBy(found.flatMap((it) => it.folders.map((folder) => ({ ...it, folder }))),
+  (it) => it.folder);
+
+/** Lets those who were found to be shut out pass, which is added to `changes`. */
+export async function letAll(app, object, entries, found, changes) {
+  for (const [folder, those] of byFolder(found)) changes.push(await letPass(app.room, folder, those));
+  const left = await shutOut(app, object, entries);
+  if (left.length) throw new Error(t.stillShut(named(left)));
+}
+
+/** From which folder each entry that is handed down comes, as far as the lists above may be seen. */
+export async function origins(room, path, handed) {
+  const [found, left] = [[], new Set(handed)];
+  const textOf = (it) => JSON.stringify([it.type, it.mask, whomOf(it)]);
+  for (const folder of foldersAbove(path).toReversed()) {
+    const list = left.size ? await room.asideIfAllowed("GETLIST", folder) : null;
+    if (!list) break;
+    const its = new Set(ownOf(list).map(textOf));
+    for (const it of [...left].filter((one) => its.has(textOf(one)))) {
+      found.push([it, folder]);
+      left.delete(it);
+    }
+  }
+  return found;
+}
+
+/** Tells who cannot get there and why, and lets them pass if wanted, which is added to `changes`. Gives the end in
+ * words. */
+export async function helpThem(app, object, entries, found, changes) {
   const allCan = t.allCan(byWhom(entries).map(([whom]) => whomText(whom)));
   if (!found.length) return entries.length ? allCan : "";
-  const all = found.flatMap((it) => it.folders.map((folder) => ({ ...it, folder })));
-  const folders = Map.groupBy(all, (it) => it.folder);
+  const folders = byFolder(found);
   const lacking = found.filter((it) => it.lacks);
   const told = [...[...folders].map(([folder, those]) => t.shutOutAt(named(those), shown(folder))),
     ...lacking.map((it) => t.lacksStill(it.user, rightsIn(it.lacks, object.kind)))];
-  const pass = async () => {
-    for (const [folder, those] of folders) await letPass(app.room, folder, those);
-    const left = await shutOut(app, object, entries);
-    if (left.length) throw new Error(t.stillShut(named(left)));
-  };
+  const pass = () => letAll(app, object, entries, found, changes);
   const isDone = await ask({ title: t.notAll, does: folders.size > 0 && t.letPass, task: pass, stays: t.close,
     words: [t.listSet, listOf(told), folders.size > 0 && make("p.about", t.passWords)] });
   return folders.size && isDone ? allCan : t.cannot(named(found));

@@ -1,5 +1,5 @@
 /** Files are read: a small one is a document, a large one a folder with pieces (docs/FILES.md). */
-import { ISDIR, NOENT, NOTDIR, Refusal, forEach, fromBase64, inFolder, isRefused, orElse, orFault, shown, t,
+import { ISDIR, NOENT, NOTDIR, Refusal, forEach, fromBase64, inFolder, isRefused, orElse, orFault, ownList, shown, t,
   toBase64 } from "./common.js";
 import * as form from "./manifest.js";
 
@@ -17,6 +17,17 @@ export async function manifestAt(room, path) {
   return bytes && form.readManifest(bytes);
 }
 
+/** Whether it has no list of its own, and the file's owner and group, as far as one may look at the file. (One that is
+ * gone was moved or removed meanwhile.) */
+export async function manifestFollows(room, path) {
+  const look = (cmd, at) => room.session.askAside({ cmd, path: at });
+  const [whole, list, its, itsList] = await Promise.all([path, inFolder(path, form.NAME)].flatMap((at) =>
+    ["STAT", "GETLIST"].map((cmd) => look(cmd, at))));
+  if ([NOENT, NOTDIR].includes(its.code)) return true;
+  const isOwners = whole.code || !its.code && its.owner === whole.owner && its.group === whole.group;
+  return Boolean(isOwners && (list.code || !itsList.code && !ownList(itsList)));
+}
+
 export const isSame = (one, other) =>
   (one === null || other === null ? one === other : toBase64(one) === toBase64(other));
 
@@ -30,7 +41,11 @@ async function readLarge(room, path, transfer) {
   let text = await manifestBytes(room, path);
   for (let times = 0; times < TRIES && text; times += 1) {
     const bytes = await wholeOf(room, path, form.readManifest(text), transfer);
-    if (bytes) return bytes;
+    if (bytes) {
+      const isTold = transfer === NOBODY || await manifestFollows(room, path); // (of small pictures nobody is)
+      if (!isTold) transfer.fail(t.prepared(shown(path)));
+      return bytes;
+    }
     const before = text;
     text = await manifestBytes(room, path);
     if (isSame(before, text)) throw new Error(t.damaged(shown(path)));

@@ -26,7 +26,7 @@ export const ALL = RIGHTS.reduce((mask, it) => mask | it.bit, 0);
 export const [VIEW, EDIT, CHANGE] = [0x1200a9, 0x1200af, 0x1301ef];
 
 export const SETS = [["view", VIEW], ["edit", EDIT], ["change", CHANGE], ["all", ALL]]
-  .map(([name, mask]) => ({ name, mask, does: name === "all" ? t.presets.all : t.levels[name][0] }));
+  .map(([name, mask]) => ({ name, mask, does: t.sets[name] }));
 
 /** The set that a mask is. (The right to remove its old pieces makes no other one of a large file's.) */
 export const setOf = (mask, kind) => SETS.find((it) => ((it.mask ^ mask) & ~(kind === LARGE ? DELETE_CHILD : 0)) === 0);

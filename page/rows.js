@@ -7,8 +7,9 @@ import { FILE, FOLDER, LARGE, UNFINISHED, addressOf, button, inFolder, link, mak
 import { download } from "./downloads.js";
 import { dragRow, takeFiles, takeRows } from "./drag.js";
 import { icon, isForDisk, kindBy } from "./icons.js";
+import { putBack } from "./moving.js";
 import { sizeWords } from "./transfers.js";
-import { beforeWords, nameAt } from "./trash.js";
+import { beforeWords, isOwnTrash, nameAt, toldBy } from "./trash.js";
 import { lookInto } from "./trees.js";
 
 const LIKE_FILE = /\.(?=\d*[a-z])\w{1,5}$/i; // (no date)
@@ -19,31 +20,36 @@ async function lookAt(room, path, kind) {
   const sized = (its, size) => ({ kind: its, words: size === undefined ? "" : sizeWords(size), size });
   if (kind !== FOLDER) return sized(FILE, (await room.asideIfAllowed("STAT", path))?.size);
   const { kind: found, names, its } = await lookInto(room, path);
-  if (!names || found === UNFINISHED) return { kind: found, words: "" };
+  if (!names || found === UNFINISHED) return { kind: found, words: "", isShut: !names };
   return found === LARGE ? sized(LARGE, its?.size) :
     { kind: FOLDER, words: t.inIt(names.length), size: names.length };
 }
 
 export class Row {
-  constructor(things, [name, kind], pictures) {
-    const { app, place } = things;
-    const path = inFolder(place.path, name);
+  constructor(things, [name, kind, folder = things.place.path]) {
+    const { app, place, pictures } = things;
+    const path = inFolder(folder, name);
     const [called, key] = [nameAt(path), `${place.room}${path}`];
-    Object.assign(this, { things, app, name, kind, pictures, path, called, key });
+    Object.assign(this, { things, app, name, kind, folder, pictures, path, called, key });
     this.isFolder = kind === FOLDER && (seenAs.get(key) ?? (LIKE_FILE.test(called) ? LARGE : FOLDER)) === FOLDER;
     this.picture = pictures.placeOf(this.called);
     this.tick = make("input", { type: "checkbox", tabIndex: -1, "aria-label": t.choose(shown(this.called)) });
     this.link = link(addressOf({ room: place.room, path }), nameText(this.called));
     Object.assign(this.link, { tabIndex: -1, draggable: false, className: "name" });
+    this.back = toldBy(path) && isOwnTrash(app, place.path) && button(t.putBack, () => putBack(app, path),
+      { tabIndex: -1, "aria-label": `${t.putBack} ${shown(this.called)}` });
     this.more = button("⋯", () => this.open(), { tabIndex: -1, "aria-label": t.moreFor(shown(this.called)),
       "aria-haspopup": "menu", "aria-expanded": "false", className: "small" });
     this.kindCell = make("td.kind");
     this.sizeCell = make("td.size");
     const before = beforeWords(path);
+    const way = () => link(addressOf({ room: place.room, path: folder }), nameText(folder));
+    this.where = things.isFound ? Object.assign(way(), { tabIndex: -1 }) : null;
+    const below = [before, things.isFound && make("span.place", nameText(folder))].filter(Boolean);
     this.element = make("tr", { "aria-selected": "false" }, make("td.tick", this.tick),
       make("th", { scope: "row" }, make("div", this.picture,
-        before ? make("div", this.link, make("div.about", before)) : this.link)),
-      this.kindCell, this.sizeCell, make("td.own", this.more));
+        below.length ? make("div", this.link, make("div.about", below)) : this.link)),
+      this.where && make("td.where", this.where), this.kindCell, this.sizeCell, make("td.own", this.back, this.more));
     this.element.row = this;
     this.showKind();
     dragRow(this);
@@ -53,13 +59,16 @@ export class Row {
   }
 
   get stops() {
-    return [this.tick, this.link, this.more];
+    return [this.tick, this.link, this.where, this.back, this.more].filter(Boolean);
   }
 
   showKind() {
     this.kindName = kindBy(this.called, this.isFolder ? FOLDER : FILE);
-    this.kindCell.textContent = this.its?.kind === UNFINISHED ? t.unfinished : t.kinds[this.kindName];
-    if (!this.picture.querySelector("img, canvas")) this.picture.replaceChildren(icon(this.kindName));
+    const isShut = Boolean(this.its?.isShut); // (whether it is a folder or a large file is not told then)
+    this.kindCell.textContent = isShut ? t.shutKind : this.its?.kind === UNFINISHED ? t.unfinished :
+      t.kinds[this.kindName];
+    const picture = icon(isShut ? "locked" : this.kindName);
+    if (!this.picture.querySelector("img, canvas")) this.picture.replaceChildren(picture);
     const isDocument = (this.its ?? this).kind !== FOLDER;
     this.link.onclick = isDocument && isForDisk(this.called) ? (event) => this.give(event) : null;
   }
@@ -99,7 +108,8 @@ export class Row {
 
   async offers() {
     const [its, own] = await Promise.all([this.look(), this.rights()]);
-    return offersFor(this.app, this.path, its.kind, { own, above: this.things.rights.own, size: its.size });
+    const above = this.things.rights?.own ?? await rightsOn(this.app.room, this.folder);
+    return offersFor(this.app, this.path, its.kind, { own, above, size: its.size });
   }
 
   async open(at) {

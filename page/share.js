@@ -1,63 +1,136 @@
-/** The panel by which an object is shared, by words for what is mostly given. */
-import { FOLDER, MOST_ENTRIES, button, displayName, entriesOf, input, isDeny, make, menuButton, onSubmit, personText,
-  presetsOf, select, sharesOf, t, whomOf, whomText } from "./common.js";
+/** The panel by which an object is shared: who has access, by what, and whether they get there. */
+import { FOLDER, MOST_ENTRIES, byWhom, button, checkbox, entriesOf, givenHere, inOrder, isDeny, levelOf, make,
+  menuButton, onSubmit, personText, presetsOf, select, sharesOf, t, usersBy, whomOf, whomText } from "./common.js";
+import { whomField } from "./people.js";
 
-/** Whom a text names: a group where it begins so or no user has that name; null where nobody is. */
+/** Whom a text names, a group where it begins so or no user has that name: `{whom}`, or a `fault`. */
 function whomBy(text, roster) {
   const groups = new Set(Object.values(roster ?? {}).flat());
   const isGroup = text.startsWith(t.groupMark);
   const name = isGroup ? text.slice(t.groupMark.length).trim() : text;
-  if (text.toLowerCase() === t.whom["EVERYONE@"]) return { id: "EVERYONE@", name: "" };
-  if (!roster) return name ? { id: isGroup ? "group" : "user", name } : null;
-  if (!isGroup && Object.hasOwn(roster, name)) return { id: "user", name };
-  return groups.has(name) ? { id: "group", name } : null;
+  const users = isGroup ? [] : usersBy(name, Object.keys(roster ?? {}));
+  if (!name) return { fault: t.noWhom };
+  if (text.toLowerCase() === t.whom["EVERYONE@"]) return { whom: { id: "EVERYONE@", name: "" } };
+  if (!roster) return { whom: { id: isGroup ? "group" : "user", name } };
+  if (users.length > 1) return { fault: t.severalAre(name, users.map(personText)) };
+  if (users.length) return { whom: { id: "user", name: users[0] } };
+  return groups.has(name) ? { whom: { id: "group", name } } : { fault: t.noSuch(text) };
 }
 
 const isSame = (one, other) => one.id === other.id && one.name === other.name;
+const keyOf = (whom) => JSON.stringify(whom);
 
 export class SharePanel {
-  /** `set` sets the own entries, and gets those that are new. */
-  constructor({ kind, owner }, own, roster, set) {
+  /** Of an object with its `own` entries and those that are `handed` down to it. `set` sets the own entries, and gets
+   * those that are new; `detail` shows the exact entries; with `makePrivate` that is offered. */
+  constructor({ kind, owner, group }, { own, handed }, roster, does) {
     const { shares, others } = sharesOf(own, kind);
-    Object.assign(this, { kind, owner, own, roster: roster ?? {}, isWhole: roster !== null, set, shares });
+    Object.assign(this, { kind, owner, group, own, roster: roster ?? {}, isWhole: roster !== null, shares, ...does });
     this.presets = Object.keys(presetsOf(kind)).map((it) => [it, t.presets[it]]);
-    const count = others.flatMap((it) => it.entries).length;
+    this.told = new Map(); // by whom, where it is told that they do not get there
+    this.from = new Map(); // by whom, where it is told from where they have it
+    const above = byWhom(handed.filter((it) => !isDeny(it))).filter(([{ id }]) => !(owner && id === "OWNER@"));
+    const denied = byWhom([...own, ...handed].filter(isDeny));
+    const isAll = shares.some((it) => this.isOwners(it));
+    const isAlone = shares.length === Number(isAll) && !others.length && !above.length;
     this.element = make("section.share", make("h2", t.sharedWith),
-      shares.length ? make("ul.shares", shares.map((it) => this.row(it))) : make("p", t.whom[""]),
-      this.form(), count > 0 && make("p.about", t.exceptions(count)), this.ofOwner());
+      make("ul.given", owner && make("li", make("span", personText(owner)), isAll ? t.isOwnerOfAll : t.isOwner)),
+      shares.length > Number(isAll) &&
+        make("ul.shares", shares.filter((it) => !this.isOwners(it)).map((it) => this.row(it))),
+      make("ul.given", others.filter(({ entries }) => !entries.every(isDeny)).map((it) => this.custom(it)),
+        above.map(([whom, its]) => this.above(whom, its)), denied.map(([whom]) => this.denied(whom))),
+      isAlone && make("p", owner ? t.ownerAlone : t.whom[""]), this.form(),
+      this.makePrivate && make("p.tools", button(t.makePrivate, this.makePrivate)), this.ofOwner());
+  }
+
+  isOwners({ whom, name }) {
+    return whom.id === "user" && whom.name === this.owner && name === "all";
+  }
+
+  wordsOf(whom) {
+    const whose = { "OWNER@": this.owner, "GROUP@": this.group }[whom.id];
+    return whom.id === "user" ? personText(whom.name) : whomText(whom, whose);
+  }
+
+  /** A line with room for what is told of these later. */
+  line(whom, ...parts) {
+    this.told.set(keyOf(whom), make("div.about"));
+    return make("li", parts, this.told.get(keyOf(whom)));
+  }
+
+  takeButton(whom, words) {
+    return button("×", () => this.give(whom, null), { className: "small", "aria-label": t.takeFrom(words) });
   }
 
   row({ whom, name }) {
-    const words = whomText(whom.id === "user" ? { ...whom, name: personText(whom.name) } : whom);
-    const items = this.presets.map(([it, its]) => ({ words: its, does: () => this.give(whom, it) }));
-    return make("li", make("span", words),
+    const words = this.wordsOf(whom);
+    const items = this.presets.map(([it, its]) => ({ words: its, isNow: it === name,
+      about: (t.levels[it] ?? t.levels.change)[1], does: () => this.give(whom, it) }));
+    return this.line(whom, make("span", words),
       menuButton(t.presets[name], { title: t.mayWhat(words) }, () => items, t.mayWhat(words)),
-      button("×", () => this.give(whom, null), { className: "small", "aria-label": t.takeFrom(words) }));
+      this.takeButton(whom, words));
+  }
+
+  custom({ whom }) {
+    const words = this.wordsOf(whom);
+    return this.line(whom, make("span", words), button(t.custom, this.detail, { title: t.mayWhat(words) }),
+      this.takeButton(whom, words));
+  }
+
+  above(whom, entries) {
+    this.from.set(keyOf(whom), make("span.from"));
+    return this.line(whom, make("span", this.wordsOf(whom)),
+      make("span.about", levelOf(givenHere(entries), this.kind).word, " ", this.from.get(keyOf(whom))));
+  }
+
+  denied(whom) {
+    return make("li.denied", make("span", this.wordsOf(whom)), button(t.denied, this.detail));
+  }
+
+  /** Tells from where somebody has it. */
+  tellFrom(whom, ...words) {
+    this.from.get(keyOf(whom))?.replaceChildren(...words);
+  }
+
+  /** Tells that they do not get there, and lets them where that can be. */
+  tellShut(whom, words, allow) {
+    this.told.get(keyOf(whom))?.replaceChildren(words, ...allow ? [" ", button(t.allowIn, allow, "small")] : []);
   }
 
   form() {
     const groups = new Set(Object.values(this.roster).flat());
-    const names = [t.whom["EVERYONE@"], ...Object.keys(this.roster), ...[...groups].map((it) => t.groupMark + it)];
-    const whom = input("", { list: "whoms", "aria-label": t.who, placeholder: t.who });
+    const people = Object.keys(this.roster).map(personText).sort(inOrder);
+    const { element, field: whom } = whomField([...people, ...[...groups].sort(inOrder).map((it) => t.groupMark + it),
+      t.whom["EVERYONE@"]]);
     const what = select(this.presets, "view", () => {}, { "aria-label": t.may });
     this.fault = make("p.fault", { role: "alert" });
-    const form = make("form.row", whom, make("span", t.may), what, make("button.main", t.share), make("datalist",
-      { id: "whoms" }, names.map((value) => make("option", { value, label: displayName(value) }))));
+    const keeps = this.mayKeep() && checkbox(this.owner === this.user ? t.keepMine : t.keepFull(personText(this.owner)),
+      true, () => {});
+    const form = make("form.row", element, what, make("button.main", t.share));
     form.onsubmit = onSubmit(() => {
-      const text = whom.value.trim();
-      const found = whomBy(text, this.isWhole ? this.roster : null);
-      this.fault.textContent = found ? "" : text ? t.noSuch(text) : t.noWhom;
-      if (found) this.give(found, what.value);
+      const found = whomBy(whom.value.trim(), this.isWhole ? this.roster : null);
+      this.fault.textContent = found.fault ?? "";
+      const isKept = keeps && keeps.firstChild.checked && what.value !== "view";
+      if (found.whom) this.give(found.whom, what.value, isKept ? this.allOfOwner() : []);
       else whom.focus();
     });
-    return make("div", form, this.fault);
+    return make("div", form, keeps, this.fault);
   }
 
-  give(whom, name) {
+  allOfOwner() {
+    return entriesOf("all", { id: "user", name: this.owner }, this.kind);
+  }
+
+  /** Whether the owner of a folder that is shared for the first time may have no rights on what others add to it. */
+  mayKeep() {
+    return this.kind === FOLDER && this.owner && !this.shares.length;
+  }
+
+  give(whom, name, more = []) {
     const had = this.own.filter((it) => !isDeny(it) && isSame(whomOf(it), whom));
     const news = name ? entriesOf(name, whom, this.kind) : [];
-    const own = !had.length ? [...this.own, ...news] :
-      this.own.flatMap((it) => (it === had[0] ? news : had.includes(it) ? [] : [it]));
+    const own = [...had.length ? this.own.flatMap((it) => (it === had[0] ? news : had.includes(it) ? [] : [it])) :
+      [...this.own, ...news], ...isSame(whom, whomOf(more[0] ?? { who: "" })) ? [] : more];
     if (own.length > MOST_ENTRIES) this.tellFull(whom, name, own.length);
     else this.set(own, news);
   }
@@ -86,8 +159,9 @@ export class SharePanel {
   ofOwner() {
     if (this.kind !== FOLDER || !this.owner) return null;
     const whom = { id: "user", name: this.owner };
-    const isGiven = this.shares.some((it) => isSame(it.whom, whom) && it.name === "all");
-    return !isGiven && make("p.about", t.othersMake(this.owner), " ",
-      button(t.giveOwner(this.owner), () => this.give(whom, "all"), "small"));
+    const isGiven = this.shares.some((it) => this.isOwners(it));
+    const its = personText(this.owner);
+    return !isGiven && make("p.about", t.othersMake(its), " ",
+      button(t.giveOwner(its), () => this.give(whom, "all"), "small"));
   }
 }

@@ -30,8 +30,12 @@ export async function takeSpare(room, path, stat, names) {
   return null;
 }
 
-/** Whether these documents are as new ones would be. */
-export async function areAsNew(room, paths, stat, transfer) {
+/** Whether these documents are as new ones would be. (What another request moves meanwhile is looked at again, where
+ * their version `stands`: its file may have gone too, or be back.) */
+export const areAsNew = async (room, paths, stat, transfer, stands) =>
+  await lookedAt(room, paths, stat, transfer) || await stands() && lookedAt(room, paths, stat, transfer);
+
+async function lookedAt(room, paths, stat, transfer) {
   let areAll = true;
   await forEach(paths, async (it) => {
     transfer.check();

@@ -13,16 +13,18 @@ function focused() {
   return { words, count, row: it.closest("tr")?.rowIndex };
 }
 
-/** Gives what leads back to where the page is now, once it is drawn anew. */
-export function standing() {
+/** Gives what leads back to where the page is now, once it is drawn anew: to the row of `path`, where one is named. */
+export function standing(path = null) {
   const [from, top] = [focused(), scrollY];
   return () => {
-    const same = from && within().filter((it) => wordsOf(it) === from.words)[from.count];
-    const rows = part("main").querySelector("table")?.rows ?? [];
+    const rows = [...part("main").querySelector("table")?.rows ?? []];
+    const its = path && rows.find((it) => it.row?.path === path)?.row.link;
+    const same = its || from && within().filter((it) => wordsOf(it) === from.words)[from.count];
     const row = from?.row === undefined ? null : rows[Math.min(from.row, rows.length - 1)];
     const head = part("main").querySelector("h1 button, h1");
     (same ?? row?.querySelector("td button") ?? head)?.focus({ preventScroll: true });
     scrollTo({ top, behavior: "instant" });
+    if (its) its.scrollIntoView({ block: "nearest" });
   };
 }
 

@@ -1,4 +1,4 @@
-/** The table of what is in a folder: heads sort, keys walk, several rows are chosen. */
+/** The table of what is in a folder, or was found: heads sort, keys walk, several rows are chosen. */
 import { DELETE, DELETE_CHILD, button, forEach, inOrder, make, pointOf, t, tellIt } from "./common.js";
 import { downloadAll } from "./downloads.js";
 import { copyTo, move, putAllBack, remove } from "./moving.js";
@@ -13,7 +13,10 @@ const BY = {
   name: () => 0,
   kind: (one, other) => one.kindName === other.kindName ? 0 : inOrder(t.kinds[one.kindName], t.kinds[other.kindName]),
   size: (one, other) => (one.its?.size ?? -1) - (other.its?.size ?? -1),
+  where: (one, other) => inOrder(one.folder, other.folder),
 };
+const HEADS = ["name", "kind", "size"];
+const HEADS_FOUND = ["name", "where", "kind", "size"];
 
 class ChosenBar {
   constructor(things) {
@@ -41,7 +44,7 @@ class ChosenBar {
     this.words.textContent = rows.length ? t.chosen(rows.length) : "";
     this.element.hidden = !rows.length;
     document.querySelector("#main .tools.makers")?.toggleAttribute("hidden", rows.length > 0);
-    const mayRemove = this.things.rights.own & DELETE_CHILD ||
+    const mayRemove = this.things.rights?.own & DELETE_CHILD ||
       (await Promise.all(rows.map((it) => it.rights()))).every((it) => it & DELETE);
     if (turn !== this.turn) return;
     for (const { key, its } of this.buttons) its.hidden = !mayRemove && key !== "copy" && key !== "download";
@@ -115,18 +118,21 @@ class GridKeys {
   }
 }
 
+/** `names` are `[NAME, KIND]`, or what was found `[NAME, KIND, FOLDER]`; `rights` are those on the folder, or null. */
 export class Things {
   constructor(app, place, names, rights) {
-    Object.assign(this, { app, place, rights, last: null });
+    Object.assign(this, { app, place, rights, last: null, isFound: rights === null });
     const [by, isDown] = (localStorage.getItem(SORT) ?? "name").split(" ");
-    this.sort = { by: by in BY ? by : "name", isDown: Boolean(isDown) };
-    const pictures = new SmallPictures(app.room);
-    this.rows = names.map((it) => new Row(this, it, pictures));
+    this.sort = { by: HEADS.includes(by) ? by : "name", isDown: Boolean(isDown) };
+    this.pictures = new SmallPictures(app.room);
+    this.rows = names.map((it) => new Row(this, it));
     this.bodies = [make("tbody"), make("tbody")]; // folders, and documents behind them
     this.bar = new ChosenBar(this);
-    this.element = make("table.things", { role: "grid", "aria-label": t.contents, "aria-multiselectable": "true" },
+    const tag = isOwnTrash(app, place.path) ? "table.things.thrown" : "table.things";
+    this.element = make(tag, { role: "grid", "aria-label": t.contents, "aria-multiselectable": "true" },
       this.head(), this.bodies);
     this.element.onclick = (event) => this.click(event);
+    this.element.ondblclick = (event) => this.open(event);
     this.element.oncontextmenu = (event) => this.menu(event);
     this.draw();
     this.keys = new GridKeys(this);
@@ -137,7 +143,7 @@ export class Things {
   head() {
     this.all = make("input", { type: "checkbox", tabIndex: -1, "aria-label": t.chooseAll });
     this.all.onchange = () => this.choose(this.all.checked ? this.rows : []);
-    this.heads = Object.keys(BY).map((by) => {
+    this.heads = (this.isFound ? HEADS_FOUND : HEADS).map((by) => {
       const its = button(t.heads[by], () => this.sortBy(by), { tabIndex: -1 });
       return { by, button: its, cell: make(`th.${by}`, { scope: "col" }, its) };
     });
@@ -185,13 +191,21 @@ export class Things {
   }
 
   watch() {
-    const seen = new IntersectionObserver((entries) => {
+    this.seen = new IntersectionObserver((entries) => {
       for (const { target } of entries.filter((it) => it.isIntersecting)) {
-        seen.unobserve(target);
+        this.seen.unobserve(target);
         target.row.look().catch(tellIt);
       }
     });
-    for (const it of this.rows) seen.observe(it.element);
+    for (const it of this.rows) this.seen.observe(it.element);
+  }
+
+  /** One more, behind all others: they stay where they are. */
+  add(entry) {
+    const row = new Row(this, entry);
+    this.rows.push(row);
+    this.bodies[1].append(row.element);
+    this.seen.observe(row.element);
   }
 
   choose(rows) {
@@ -230,6 +244,11 @@ export class Things {
       this.last = row;
     }
     row.link.focus({ preventScroll: true });
+  }
+
+  open(event) {
+    const row = event.target.closest("tr")?.row;
+    if (row && !event.target.closest("a, button, input, [popover]")) row.link.click();
   }
 
   menu(event) {

@@ -27,7 +27,7 @@ class Transfer {
   }
 
   quiet() {
-    return { ...NOBODY, check: () => this.check() };
+    return { ...NOBODY, check: () => this.check(), fail: (words) => this.fail(words) };
   }
 
   /** Of what goes on behind the answer faults alone are told, once it has ended. */

@@ -47,11 +47,14 @@ function nameInTrash(path, now) {
   return cut();
 }
 
-export async function toTrash(room, path, trash) {
+export const toTrash = (room, path, trash) => placedInTrash(path, trash, (to) => room.run("RENAME", path, { to }));
+
+/** Does the task with the first free name in the trash of what is at the path. Gives that name's path. */
+export async function placedInTrash(path, trash, task) {
   for (let more = 0; ; more += 1) {
     const to = inFolder(trash, nameInTrash(path, new Date(Date.now() + more * 1_000)));
     try {
-      await room.run("RENAME", path, { to });
+      await task(to);
       return to;
     } catch (fault) {
       if (isRefused(fault, TOO_DEEP)) throw new Error(t.trashDeep);

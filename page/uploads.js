@@ -7,6 +7,7 @@ import { DEEPEST, sizeFault } from "./manifest.js";
 import { makeLike, mayOverflow } from "./overflow.js";
 import { readFile } from "./reading.js";
 import { sizeWords, transferring } from "./transfers.js";
+import { placedInTrash, trashOf } from "./trash.js";
 
 const MOST_TOLD = 10; // of many names or faults
 const AT_ONCE = 3; // files; the pieces of each go beside each other too
@@ -132,7 +133,7 @@ function beforeWords(replaced) {
   const [one, ...others] = replaced;
   if (!one) return "";
   return t.tookPlace(others.length ? t.countOf(replaced.length) : shown(lastName(one.path)),
-    one.kept ? t.keptUnder(shown(lastName(one.kept))) : t.notKept);
+    one.trash ? t.keptInTrash : one.kept ? t.keptUnder(shown(lastName(one.kept))) : t.notKept);
 }
 
 async function sendAll(app, transfer, wanted, folder) {
@@ -147,6 +148,7 @@ async function sendAll(app, transfer, wanted, folder) {
     const { path, file, isNew } = it;
     transfer.check();
     try {
+      if (it.trash) it.kept = await keepInTrash(room, path, it.trash);
       const at = await writeFile(room, path, new Uint8Array(await file.arrayBuffer()), transfer, isNew);
       settle(aboutOf(room, path));
       [count, size] = [count + 1, size + file.size];
@@ -159,7 +161,16 @@ async function sendAll(app, transfer, wanted, folder) {
   const failed = files.length - count;
   if (failed && !isOne) transfer.title = t.failedOf(failed, files.length);
   if (failed && count === 0) return "";
-  return t.uploaded(count, sizeWords(size), transfer.seconds) + beforeWords(replaced);
+  const where = app.place.path === folder ? "" : t.areIn(shown(folder));
+  return t.uploaded(count, sizeWords(size), transfer.seconds) + where + beforeWords(replaced);
+}
+
+/** True where both are to stay; else the trash in which the old one is kept, "skip", or null where all is left. */
+async function askOfClashes(app, clashes) {
+  const { path: trash } = await trashOf(app);
+  return ask({ title: t.thereAlready(clashes.length), words: listed(clashes.map(({ path }) => shown(path))),
+    does: t.keepBoth, others: [...trash ? [{ words: t.replaceAndKeep, value: { trash } }] : [],
+      { words: t.replace, value: { trash: null } }, { words: t.leaveOut, value: "skip" }] });
 }
 
 async function wantedOf(app, folder, chosen) {
@@ -169,15 +180,13 @@ async function wantedOf(app, folder, chosen) {
   const isThere = await Promise.all(wanted.map(async ({ path, file }) =>
     file && (await folders.names(folderOf(path))).has(lastName(path))));
   const clashes = wanted.filter((_, at) => isThere[at]);
-  const answer = !clashes.length || await ask({ title: t.thereAlready(clashes.length),
-    words: listed(clashes.map(({ path }) => shown(path))), does: t.replace,
-    others: [{ words: t.keepBoth, value: "both" }, { words: t.leaveOut, value: "skip" }] });
+  const answer = clashes.length ? await askOfClashes(app, clashes) : true;
   if (answer === null) return [];
   if (answer === "skip") wanted = wanted.filter((it) => !clashes.includes(it));
   const taken = new Set(wanted.map((it) => it.path));
   for (const it of clashes) {
-    if (answer === "both") it.path = await folders.free(it.path, taken);
-    else Object.assign(it, { isNew: false, replaces: true });
+    if (answer === true) it.path = await folders.free(it.path, taken);
+    else Object.assign(it, { isNew: false, replaces: true, trash: answer.trash });
   }
   const over = await overfull(wanted, folder, folders);
   return !over.length || await mayOverflow(over, wanted, folders) ? wanted : [];
@@ -191,6 +200,9 @@ export async function upload(app, folder, chosen) {
     tellFault(t.about(t.uploadTo(shown(folder)), fault.message));
   }
 }
+
+const keepInTrash = (room, path, trash) => placedInTrash(path, trash, async (to) =>
+  writeCopy(room, path, to, await readFile(room, path)));
 
 async function keepOld(room, path) {
   const beside = await freePath(room, besideIt(path, t.before(new Date().toISOString().slice(0, 10))));

@@ -1,4 +1,4 @@
-/** What the owner of a room is warned of, whom alone the front tells it. */
+/** What the owner of a room is warned of, whom alone the front tells it; and who tries a build that is not proved. */
 import { button, make, once, part, t } from "./common.js";
 import { fileOfFront } from "./wire.js";
 
@@ -11,6 +11,7 @@ const ask = () => fileOfFront("/warnings.json").then((it) => JSON.parse(it ?? "{
 
 const inDays = (words) => (days) => Number.isInteger(days) && words(days < 1 ? t.lessThanADay : t.someDays(days));
 const WORDS = { numbers_days: inDays(t.numbersEnd), memory_days: inDays(t.memoryEnds), disk_days: inDays(t.diskEnds),
+  unproved: (is) => is === true && t.isUnproved,
   held: (users) => Array.isArray(users) && users.length > 0 && t.areHeld(users.map(String), users.length) };
 
 function line(words, key) {
