@@ -11,9 +11,9 @@ import sys
 
 from served import HERE, text_of
 
-sys.path.append(os.path.join(HERE, "page"))
+sys.path.append(os.path.join(HERE, "around"))
 from browser import Browser
-from club import make_new
+from page.club import make_new
 
 OWN, NAMES = "192.168.1.4/24", ("room.lan", "192.168.1.5")
 LACKS = {"chromium": "chromium", "chromedriver": "chromium-driver", "certutil": "libnss3-tools"}

@@ -126,9 +126,9 @@ def client(standby, tally, dice, folder):
 
 def page(standby, tally, dice, folder):
     """A user of the page: it says that the room is being started again, and goes on by itself."""
-    sys.path.append(os.path.join(HERE, "page"))
+    sys.path.append(os.path.join(HERE, "around"))
     from browser import Browser
-    from club import append, make_document
+    from page.club import append, make_document
     standby.serve(standby.machines[0])
     port = front(os.path.join(folder, "front"), Relay(standby.where).port).port
     browser = Browser(folder)
