@@ -1,0 +1,173 @@
+"""Where the office is: a room of some years on a machine below a folder, with front, gateway, fail2ban and its nights.
+
+Users' passwords are NAME-word. Of services the room itself is stopped and started; all else of a night is what
+fileroom-backup@.service has, in its order.
+"""
+import contextlib
+import glob
+import json
+import os
+import re
+import shutil
+import socket
+import sqlite3
+import subprocess
+import sys
+import threading
+
+from between import Between
+from nginx import Front
+from served import HERE, PROGRAM, Room, end_with_parent, started_here, text_of, until
+
+TOP = os.path.join(HERE, "..")
+SERVICE, PAGE = os.path.join(TOP, "service"), os.path.join(TOP, "page")
+GATEWAY = os.path.join(TOP, "dav", "fileroom-dav")
+UNIT = os.path.join(SERVICE, "fileroom-backup@.service")
+DAV_UNIT = os.path.join(SERVICE, "dav", "fileroom-dav.service")
+PYTHON = "/usr/bin/python3"  # (Debian's, which has Debian's packages)
+ADMIN = os.path.join(SERVICE, "admin", "fileroom-admin")
+OWNER, GROUP = "boss", "all"
+PAST = 600_000  # numbers that the room has used: by this more than half, nearly all of what is gone
+JAILS = re.compile("fileroom-(?:made|sent)-(?:few|usual|many)")
+
+
+def roster_of(users):
+    return "[users]\n" + "".join(f"{user} = {json.dumps(groups)}\n" for user, groups in users.items())
+
+
+class Place:
+    def __init__(self, folder, users):
+        self.folder, self.users = folder, users
+        self.tools = self.at("tools")
+        self.env = {**os.environ, "FILEROOM": PROGRAM, "PATH": f"{self.tools}:{os.environ['PATH']}:/usr/sbin"}
+        self.make_room()
+        self.front = Front(self.at("root/etc/nginx/fileroom"), {it: f"{it}-word" for it in users},
+                           {"plans": self.room.port}, PAGE, dav=self.at("gate.sock"), connections=4096)
+        self.start_gateway()
+        self.make_tools()
+        self.ban = None
+
+    def at(self, path):
+        return os.path.join(self.folder, path)
+
+    def write(self, path, text, mode=0o644):
+        os.makedirs(os.path.dirname(self.at(path)), exist_ok=True)
+        with open(self.at(path), "w", encoding="utf-8") as file:
+            file.write(text)
+        os.chmod(self.at(path), mode)
+
+    def make_room(self):
+        self.room = Room(self.at("root/var/lib/fileroom/plans"), "", OWNER, GROUP)
+        self.room.roster = self.at("root/etc/fileroom/plans.toml")
+        self.write(self.room.roster, roster_of(self.users))
+        self.write("root/etc/fileroom/plans.env", "")
+        os.makedirs(self.at("root/var/backups/fileroom"))
+        with contextlib.closing(sqlite3.connect(self.room.db)) as table, table:
+            table.execute("UPDATE room SET next = ?", (PAST + 1,))
+        self.room.start()
+        os.makedirs(self.at("root/run/fileroom"))
+        listener = socket.socket(socket.AF_UNIX)
+        listener.bind(self.at("root/run/fileroom/plans.sock"))
+        listener.listen(64)
+        Between(listener, self.room.port)
+
+    def start_gateway(self):
+        words = [PYTHON, "-B", GATEWAY, self.at("root/etc/nginx/fileroom/work/dav.sock"), self.at("state"),
+                 self.at("gate.sock")]
+        its = dict(re.findall("(?m)^Environment=([A-Z_]+)=([0-9]+)$", text_of(DAV_UNIT)))
+        with open(self.at("gateway.log"), "w") as log:
+            self.gateway = subprocess.Popen(words, preexec_fn=end_with_parent, env={**os.environ, **its}, stderr=log)
+        started_here.append(self.gateway)
+        until(lambda: os.path.exists(self.at("gate.sock")))
+
+    def make_tools(self):
+        """What fail2ban's action and `fileroom-admin` call."""
+        for name, text in ("fileroom-admin", f'exec {sys.executable} -B {ADMIN} --root {self.at("root")} "$@"'), (
+                "fail2ban-client", f'exec /usr/bin/fail2ban-client -s {self.at("ban/sock")} "$@"'), (
+                "systemctl", "exit 0"), ("nginx", "exit 0"):
+            self.write(f"tools/{name}", f"#!/bin/sh\n{text}\n", 0o755)
+
+    def admin(self, *words):
+        done = subprocess.run([self.at("tools/fileroom-admin"), *words], env=self.env, capture_output=True, text=True)
+        return done.returncode, done.stdout + done.stderr
+
+    # A night.
+
+    def night(self, **env):
+        """The status of each part but the room's own, and what they say."""
+        status, told = [], ""
+        for line in re.findall(r"(?m)^ExecStart(?:Pre)?=[-+]*(.*)$", text_of(UNIT)):
+            words = line.replace("%i", "plans").replace(" /", f" {self.at('root')}/").split()
+            if words[0].endswith("fileroom-rest"):
+                self.room.start() if "--end" in words else self.room.kill()
+                continue
+            done = subprocess.run([os.path.join(SERVICE, os.path.basename(words[0])), *words[1:]],
+                                  env={**self.env, "KEEP": "2", **env}, capture_output=True, text=True)
+            status.append(done.returncode)
+            told += done.stdout + done.stderr
+        self.admin("warn")
+        return status, told
+
+    def sessions_of_dav(self):
+        """The names of those that the gateway has."""
+        found = set()
+        for path in glob.glob(self.at("state/sessions/plans/*")):
+            with contextlib.suppress(FileNotFoundError, ValueError), open(path, encoding="utf-8") as file:
+                found.add((os.path.basename(path), json.load(file).get("name")))
+        return found
+
+    def copied(self):
+        """The room's file and its log, while nobody asks for anything."""
+        shutil.rmtree(self.at("copy"), ignore_errors=True)
+        os.mkdir(self.at("copy"))
+        for end in "", "-wal":
+            if os.path.exists(self.room.db + end):
+                shutil.copy(self.room.db + end, self.at(f"copy/room.db{end}"))
+        return self.at("copy/room.db")
+
+    def is_quiet(self, seconds=2.0):
+        """Whether the room does nothing for a while."""
+        ran = f"/proc/{self.room.server.pid}/schedstat"
+        before = text_of(ran)
+        threading.Event().wait(seconds)
+        return text_of(ran) == before
+
+    # Who is held.
+
+    def begin_to_count(self):
+        """By fail2ban, anew, as on another day: with the filters, jails and action as they are shipped."""
+        if not shutil.which("fail2ban-server"):
+            return False
+        self.end_counting()
+        etc = self.at("ban/etc")
+        shutil.copytree("/etc/fail2ban", etc, symlinks=True)
+        shutil.rmtree(os.path.join(etc, "jail.d"))
+        self.write("ban/etc/fail2ban.local", "[Definition]\ndbfile = :memory:\n")
+        for name, to in (("made", "filter.d/fileroom-made"), ("sent", "filter.d/fileroom-sent"),
+                         ("hold", "action.d/fileroom-hold"), ("bounds", "jail.d/bounds")):
+            text = text_of(os.path.join(SERVICE, "fail2ban", f"{name}.conf"))
+            log = self.at("root/etc/nginx/fileroom/work/changes.log")
+            self.write(f"ban/etc/{to}.conf", text.replace("/var/log/fileroom/changes.log", log))
+        words = ["fail2ban-server", "-f", *self.ban_words(), "-p", self.at("ban/pid"), "--logtarget",
+                 self.at("ban/log"), "start"]
+        self.ban = subprocess.Popen(words, env=self.env, stdout=subprocess.DEVNULL, stderr=subprocess.DEVNULL,
+                                    preexec_fn=end_with_parent)
+        started_here.append(self.ban)
+        return until(lambda: len(JAILS.findall(self.ban_says("status"))) == 6)
+
+    def ban_words(self):
+        return ["-c", self.at("ban/etc"), "-s", self.at("ban/sock")]
+
+    def ban_says(self, *words):
+        return subprocess.run(["/usr/bin/fail2ban-client", *self.ban_words(), *words], capture_output=True,
+                              text=True).stdout
+
+    def end_counting(self):
+        if self.ban:
+            self.ban.terminate()
+            self.ban.wait()
+        shutil.rmtree(self.at("ban"), ignore_errors=True)
+
+    def held(self):
+        folder = self.at("root/etc/nginx/fileroom/held")
+        return sorted(os.listdir(folder)) if os.path.isdir(folder) else []
