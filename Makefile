@@ -6,7 +6,7 @@ BUILT := $(if $(FILEROOM),,build)
 
 .PHONY: try demo quick build test wrong growth failing full wire tables upgrade crash hostile front soak client page
 .PHONY: decisions power wrong-around wrong-definitions
-.PHONY: bench dist deb install uninstall service firstday standby machine
+.PHONY: bench dist deb install uninstall service firstday standby machine office
 
 # Serves a room with sample folders, the front and the page, until Ctrl-C: with build/fileroom where `make build` made
 # it, and else with the quick build, which proves nothing. It goes again; with FOLDER=.. it is kept there.
@@ -56,8 +56,7 @@ wrong-definitions:
 # Refuses each growth of memory in turn, over questions, a room, runs and all examples. `make test` tries a sample of
 # those of the examples. Needs the player of examples, as `rt run` in crates/test_examples leaves it.
 growth: $(BUILT)
-	RT='$(RT)' tests/growth/run
-	RT='$(RT)' tests/growth/examples --every 1
+	RT='$(RT)' EVERY=1 pytest-3 tests/program/test_growth.py tests/program/test_growth_in_examples.py
 
 # Fails reads and writes in turn, over every example. `make test` tries a sample in long streams.
 failing: $(BUILT)
@@ -98,13 +97,13 @@ power: $(BUILT)
 hostile: $(BUILT)
 	STREAMS=50000 pytest-3 tests/program/test_hostile.py
 
-# The client of client/ against a served room: commands, refusals, lost answers, and kills of both.
+# The client of client/ against a served room: commands, refusals, lost answers, and stops at each step.
 client: $(BUILT)
-	tests/client/run
+	pytest-3 tests/around/client
 
 # Forty clients with a password each through nginx with the files of front/, and kills. Needs nginx and openssl.
 front: $(BUILT)
-	tests/front/run
+	pytest-3 tests/around/front
 
 # A room on three machines, of which some die: namespaces, GlusterFS, and the settings of service/standby. By hand, and
 # not part of `make test`. Needs root, glusterfs-server, btrfs-progs and nftables; for RUNNING's lines, and
@@ -117,6 +116,12 @@ standby: $(BUILT)
 # done, and then attacked. By hand, and not part of `make test`. Needs root, systemd-container and debootstrap.
 machine: $(BUILT)
 	lab/machine/run
+
+# An office of fifty for ten days, or a smaller one by the environment, as the head of the script has it. By hand, and
+# not part of `make test`: it takes hours. Needs nginx, openssl, nodejs, fail2ban, chromium, chromium-driver, and what
+# WebDAV takes.
+office: $(BUILT)
+	lab/office/run
 
 # A million requests to one served room: its memory stays, and so does the time of a request. `make test` sends 40,000.
 soak: $(BUILT)
@@ -133,8 +138,8 @@ firstday: $(BUILT)
 # Tries the page's modules in node, and the page in a browser. Needs nodejs, nginx-light, chromium and chromium-driver,
 # and says so where they are not installed.
 page: $(BUILT)
-	tests/page/modules/run
-	tests/page/run
+	tests/around/page/modules/run
+	pytest-3 tests/around/page
 
 # Times and counts the program's works; the program beside a server in C over libsqlite3; the instructions of both, and
 # as a room grows; and draws the pictures of docs/FIGURES.md. Needs sqlite3, strace, valgrind, gcc, libsqlite3-dev,
@@ -170,4 +175,4 @@ uninstall:
 # Installs below a folder of its own, looks at the units, kills a served room, and brings it back from a backup; kills
 # `fileroom-admin` at each of its steps (`make test` at one in four).
 service: $(BUILT)
-	tests/service/run
+	EVERY=1 pytest-3 tests/around/service

@@ -15,6 +15,7 @@ import pytest
 HERE = os.path.dirname(os.path.abspath(__file__))
 sys.path[:0] = [os.path.join(HERE, "lib"), os.path.join(HERE, "..", "tools")]
 sys.dont_write_bytecode = True
+pytest.register_assert_rewrite("players")
 import given
 import served
 from parts import below, send
@@ -30,6 +31,7 @@ class Run:
     def __init__(self):
         self.folder = tempfile.mkdtemp(prefix="fileroom-")
         self.temporary, self.told, self.counts = os.path.join(self.folder, "tmp"), [], []
+        self.lasting = []  # processes that one fixture has for several files
         os.mkdir(self.temporary)
 
 
@@ -44,6 +46,7 @@ def stopped(number, _):
 @pytest.hookimpl(tryfirst=True)
 def pytest_configure(config):
     config.run = Run()
+    config.addinivalue_line("markers", "without_program: a test that needs no program")
     config.option.basetemp = os.path.join(config.run.folder, "tests")
     os.environ["TMPDIR"] = tempfile.tempdir = config.run.temporary
     signal.signal(signal.SIGTERM, stopped)
@@ -52,8 +55,9 @@ def pytest_configure(config):
     served.end_with_parent(signal.SIGTERM)
 
 
-def pytest_sessionstart(session):
-    if not (session.config.option.collectonly or os.access(served.PROGRAM, os.X_OK)):
+def pytest_collection_finish(session):
+    needed = [it for it in session.items if not it.get_closest_marker("without_program")]
+    if needed and not (session.config.option.collectonly or os.access(served.PROGRAM, os.X_OK)):
         pytest.exit(f"there is no {served.PROGRAM}: run make build", 1)
 
 
@@ -103,13 +107,19 @@ def pytest_unconfigure(config):
 
 # What is left
 
+def left_of(lasting):
+    """The processes that are not these, nor below them."""
+    lasting = {it.pid for pid in lasting for it in below(pid)} | {*lasting}
+    return [it for it in below(os.getpid()) if it.pid not in lasting]
+
+
 @pytest.hookimpl(trylast=True)
 def pytest_runtest_teardown(item, nextitem):
-    """A file of tests leaves no process, and nothing in the temporary folder."""
+    """A file of tests leaves no process but those that last, and nothing in the temporary folder."""
     if nextitem and nextitem.fspath == item.fspath:
         return
     until = time.monotonic() + MOMENT
-    while (left := below(os.getpid())) and time.monotonic() < until:
+    while (left := left_of(item.config.run.lasting if nextitem else [])) and time.monotonic() < until:
         time.sleep(0.05)
     told = [" ".join(it.words()) for it in left]
     for it in left:
@@ -119,6 +129,12 @@ def pytest_runtest_teardown(item, nextitem):
 
 
 # What tests are given
+
+@pytest.fixture(scope="session")
+def lasting(request):
+    """Names a process that outlasts a file of tests, until the fixture ends that has it."""
+    return request.config.run.lasting.append
+
 
 @pytest.fixture
 def tell(request):

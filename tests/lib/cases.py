@@ -431,17 +431,3 @@ class Played:
         its = dict(it.rsplit(" ", 1) for it in want.split(", ")) if want != "nothing" else {}
         odd = {"/": "/", "?": "?" if self.words("unfinished") else "/"}
         return {name: odd[it] if it in odd else self.player.size_words(int(it)) for name, it in its.items()}
-
-
-def play(player, port, differs):
-    """All cases, in the room at a port. Those that a player cannot play are told, each with its reason."""
-    judge = Judge(port)
-    for number, case in enumerate(TABLE["case"]):
-        why = case.get("not", {}).get(player.name)
-        if why:
-            print(f"cases: not by the {player.name}: {case['name']}: {why}", flush=True)
-        elif not ONLY or re.search(ONLY, case["name"]):
-            Played(number, case, player, judge, differs).play()
-
-
-ONLY = os.environ.get("CASES", "")  # a pattern of names, for who looks at some alone

@@ -1,8 +1,8 @@
 """Clients of a room that is killed and started again.
 
 Many at once send each request again at random, and append their pieces to a document of their own and to one that all
-share: `tests/front/run` plays them through the front, `lab/machine/inside` on a booted machine. One alone (`Pieces`)
-knows what is in flight as the room ends: `tests/program/test_crash.py`, `tests/service/run`.
+share: `tests/around/front` plays them through the front, `lab/machine/inside` on a booted machine. One alone (`Pieces`)
+knows what is in flight as the room ends: `tests/program/test_crash.py`, `tests/around/service`.
 """
 import base64
 import json
@@ -34,6 +34,31 @@ class SharedTally(Tally):
             except BaseException as fault:  # (SystemExit too: a thread would end by it without a word)
                 self.differs(name, repr(fault), "its end")
         return threading.Thread(target=counted, daemon=True)
+
+
+class Beside:
+    """Calls that run beside each other. What ends one before its time is raised at the end."""
+
+    def __init__(self, calls):
+        self.faults = []
+        self.threads = [threading.Thread(target=self._play, args=(it,), daemon=True) for it in calls]
+        for it in self.threads:
+            it.start()
+
+    def _play(self, call):
+        try:
+            call()
+        except BaseException as fault:  # (SystemExit too: a thread would end by it without a word)
+            self.faults.append(fault)
+
+    def goes_on(self):
+        return any(it.is_alive() for it in self.threads)
+
+    def end(self):
+        for it in self.threads:
+            it.join()
+        if self.faults:
+            raise self.faults[0]
 
 
 class Caller:
@@ -69,17 +94,20 @@ class Client(Caller):
     """A caller that sends each request again at random: its answer is then the same."""
     shared = SHARED
 
-    def __init__(self, once, number, seed, pieces, tally):
+    def __init__(self, once, number, seed, pieces):
         super().__init__(once, f"{number:032x}")
-        self.number, self.pieces, self.tally = number, pieces, tally
+        self.number, self.pieces = number, pieces
         self.dice = random.Random(f"{seed} client {number}")
+
+    def need(self, what, got, want):
+        assert got == want, f"client {self.number}: {what} was answered {got!r:.300} and not {want!r:.300}"
 
     def ask(self, method, target, body):
         got = super().ask(method, target, body)
         if self.dice.random() < 0.3:
             again = self.once(method, target, body)
             if again and again.status not in AGAIN:
-                self.tally.differs(f"client {self.number}, again", (again.status, again.body), (got.status, got.body))
+                self.need(f"again {target}", (again.status, again.body), (got.status, got.body))
         return got
 
     def append(self, path, piece):
@@ -93,13 +121,12 @@ class Client(Caller):
         return [f"{self.number:04d}.{n:04d}" for n in range(self.pieces)]
 
     def play(self):
-        self.tally.differs("OPEN", self.open().body, b'{"code":0,"slots":1}')
+        self.need("OPEN", self.open().body, b'{"code":0,"slots":1}')
         made = self.slot({"cmd": "CREATE", "path": self.own(), "data": ""}).body
-        self.tally.differs("CREATE", made, b'{"code":0,"size":0}')
+        self.need("CREATE", made, b'{"code":0,"size":0}')
         for n, name in enumerate(self.names()):
             piece = f"{name};".encode()
-            got = self.append(self.own(), piece)
-            self.tally.differs("APPEND", got, b'{"code":0,"size":%d}' % ((n + 1) * len(piece)))
+            self.need(f"APPEND {n}", self.append(self.own(), piece), b'{"code":0,"size":%d}' % ((n + 1) * len(piece)))
             self.append(self.shared, piece)
 
 
@@ -155,28 +182,12 @@ class Pieces:
             self.need(got == want, f"{path} holds {got!r} and not {want!r}")
 
 
-def play_with_kills(room, clients, kills, seed, tally):
-    """Plays the clients beside each other, and kills the room at random, so many times at most."""
-    threads = [tally.thread(f"client {it.number}", it.play) for it in clients]
-    for it in threads:
-        it.start()
-    dice, killed = random.Random(f"{seed} kills"), 0
-    while any(it.is_alive() for it in threads):
-        if killed < kills:
-            time.sleep(dice.random() / 5)
-            room.kill()
-            room.start()
-            killed += 1
-        else:
-            time.sleep(0.05)
-    tally.differs("killed while they asked", killed > 0, True)
-
-
-def look(reader, clients, tally):
-    """Nothing is lost, and nothing there twice."""
-    shared = reader.read(clients[0].shared)
-    tally.differs("what all share has each piece once", sorted(shared), [name for it in clients for name in it.names()])
-    for it in clients:
-        own = [name for name in shared if name.startswith(f"{it.number:04d}")]
-        tally.differs("a client's pieces, in order", own, it.names())
-        tally.differs("a client's own file", reader.read(it.own()), it.names())
+def look(reader, clients, own=slice(None)):
+    """What is there of the clients' pieces, and what is to be: nothing is lost, and nothing there twice or in another
+    order. (Of documents of their own those of some clients.)"""
+    found = {}
+    for it in reader.read(clients[0].shared):
+        found.setdefault(it.partition(".")[0], []).append(it)
+    due = {f"{it.number:04d}": it.names() for it in clients}
+    return ((found, {it.number: reader.read(it.own()) for it in clients[own]}),
+            (due, {it.number: it.names() for it in clients[own]}))

@@ -66,3 +66,8 @@ class Front:
     def once(self, user, method, target, body=b"", more=(), source="127.0.0.1"):
         """The answer to one message over a connection of its own, or None where there was none."""
         return one_answer(self.port, message(None, method, target, body, fields=self.fields(user, more)), source)
+
+    def status(self, *words, **how):
+        """That of the answer, or None where there was none."""
+        got = self.once(*words, **how)
+        return got and got.status

@@ -1,4 +1,5 @@
-"""Scenes of what is typed and what is said of it, as texts; tests/client/commands.txt tells their form."""
+"""Scenes of what is typed and what is said of it, as texts; tests/around/client/commands.txt tells their
+form."""
 import re
 import subprocess
 

@@ -3,7 +3,7 @@
 STREAMS random streams (streams.py) go through `replay`: what is written and the status are the model's. Each again with
 a few bytes changed: its messages before the change are answered as they were, and it ends in order. The first SERVED go
 through `serve` over a file too, where at the end the rows are the model's, each list is whole, and SQLite finds nothing
-wrong. (Many clients at once, with kills: tests/front/run.)
+wrong. (Many clients at once, with kills: tests/around/front.)
 """
 import base64
 import collections

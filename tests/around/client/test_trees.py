@@ -1,0 +1,140 @@
+"""Several files and folders, names, and an editor: put, get, cp, find, sync, edit. (What each prints: trees.txt.)"""
+import glob
+import json
+import os
+import sys
+import tempfile
+from unittest import mock
+
+import pytest
+from given import each
+from room_client import trees
+from room_client.slots import Slot
+
+from .desk import COMMAND, EVERYBODY, Desk
+
+pytestmark = pytest.mark.front
+
+
+def here(desk, top):
+    """What is below a folder here: the bytes of files, None for folders."""
+    paths = glob.glob("**", root_dir=desk.path(top), recursive=True, include_hidden=True)
+    return {it: None if os.path.isdir(desk.path(f"{top}/{it}")) else desk.read(f"{top}/{it}") for it in paths if it}
+
+
+def test_names_that_are_none_here(desk):
+    """(This room takes no such names: one that tells them is played.)"""
+    with desk.room() as room:
+        room.mkdir("/d")
+        room.mkdir("/d/up")
+        for name, data in ("up/x", b"out"), ("here", b"out"), ("a", b"in"):
+            room.create(f"/d/{name}", data)
+    before, asked = here(desk, "."), Slot.ask
+
+    def ask(slot, command):
+        text = json.dumps(asked(slot, json.loads(json.dumps(command).replace("/d/..", "/d/up"))))
+        return json.loads(text.replace('"up"', '".."').replace('"here"', '"."'))
+
+    for words in (["get", "-r", "/d", "to"], ["sync", "room:/d", "to"]):
+        with mock.patch.object(Slot, "ask", ask):
+            status, _, err = desk.does(*words)
+        assert status == 0
+        for it in ".", "..":
+            assert f"room: /d/{it} is left out: no file here can have that name\n" in err
+        assert here(desk, "to") == {"a": b"in"}
+        assert {it for it in here(desk, ".") if it not in before and "json" not in it} <= {"to", "to/a"}
+
+
+def test_put_of_what_was_looked_at(desk):
+    """Swapped between the look and the reading, so that the client would read elsewhere."""
+    for name in "private", "photos/a.txt", "photos/2026/lake.jpg", "photos/2026/June/b.txt":
+        desk.file(name, b"a secret")
+    os.mkdir(desk.path("photos/empty"))
+    made = trees.make_folders
+
+    def swap(*words):
+        os.remove(desk.path("photos/a.txt"))
+        os.symlink(desk.path("private"), desk.path("photos/a.txt"))
+        os.rename(desk.path("photos/2026"), desk.path("photos/before"))
+        os.symlink(desk.path("photos/before"), desk.path("photos/2026"))
+        return made(*words)
+    with mock.patch.object(trees, "make_folders", swap):
+        status, out, err = desk.does("put", "-r", "photos", "/other")
+    assert (status, out, err.count("\n")) == (5, "", 3), err
+    desk.prints("find", "/other", "*", want="/other/2026/\n/other/2026/June/\n/other/empty/\n")
+
+
+def test_names_are_composed_and_trimmed_as_they_are_made(desk):
+    desk.prints("put", "-", "/a\u0308 ", stdin=b"x", want="/\u00e4: 1 bytes\n")
+    desk.prints("mkdir", "/ d ", want="/d: made\n")
+    desk.prints("mv", "/a\u0308", "/d /o\u0308", want="/\u00e4 is now /d/\u00f6\n")
+    desk.prints("get", "/d/o\u0308", want="x")
+    with desk.room() as room:
+        room.create("/u\u0308", b"of another client")
+    desk.prints("get", "/u\u0308", want="of another client")
+    desk.file("up/e\u0301", b"1")
+    desk.prints("put", "-r", "up", "/up", want="/up/\u00e9: 1 bytes\n")
+    desk.prints("sync", "up", "room:/up", want="1 same\n")
+
+
+def test_names_of_a_twin_take_nobodys_place(desk):
+    """What bob, who may add things, has made under a name that, put back, would be another's."""
+    names = {"plan": b"ann's", "caf\u00e9": b"ann's too"}
+    with desk.room() as room:
+        room.set_list("/", 0, [EVERYBODY | {"who": "OWNER@"}, EVERYBODY | {"mask": 0x1200AF}])
+        room.mkdir("/s")
+        for name, data in names.items():
+            room.create(f"/s/{name}", data)
+    with desk.room("bob") as bob:
+        for name in " plan", "cafe\u0301":
+            bob.create(f"/s/{name}", b"bob's")
+    status, out, err = desk.does("sync", "room:/s", "s")
+    assert (status, out) == (0, "got caf\u00e9\ngot plan\n2 got\n")
+    assert err.count("put back, it would take the place of another one in the room") == 2, err
+    assert desk.does("get", "-r", "/s", "t")[1] == "9 bytes to t/caf\u00e9\n5 bytes to t/plan\n"
+    for name in " plan", "cafe\u0301", " new", "new ":  # (as a client of before left them)
+        desk.file(f"s/{name}", b"bob's")
+    status, out, err = desk.does("sync", "s", "room:/s")
+    assert (status, out) == (0, "2 same\n")
+    assert err.count("another one gets the same name in the room") == 4, err
+    for name in "plan", "new ":
+        os.remove(desk.path(f"s/{name}"))
+    for words in ("sync", "s", "room:/s"), ("put", "-r", "s", "/s"):
+        status, out, err = desk.does(*words)
+        assert status == 1
+        assert "EXIST (4) at /s/plan" in err
+    with desk.room() as room:
+        assert {it: room.read(f"/s/{it}") for it in [*names, "new"]} == names | {"new": b"bob's"}
+
+
+# What an editor was given lies in a folder of its own, which goes once it was put
+
+ADDS = 'printf " two" >>"$1"'
+
+
+@each("does, status, out, says, stands, left", [
+    ("adds", ADDS, 0, "/a.txt: 7 bytes\n", "", "one two", []),
+    ("nothing", ":", 0, "nothing was changed\n", "", "one", []),
+    ("fails", f"{ADDS}; exit 3", 5, "", "ended with status 3: nothing was put; it is in {tmp}", "one", [b"one two"]),
+    ("is slow", f"{ADDS}; meanwhile", 7, "", "what you wrote is in {tmp}", "theirs", [b"one two"])])
+def test_edit(desk, does, status, out, says, stands, left):
+    with desk.room() as room:
+        room.create("/a.txt", b"one")
+        room.set_list("/", 1, [EVERYBODY])
+    words = [sys.executable, COMMAND, *Desk.words_of(desk, "bob"), "put", desk.file("theirs", b"theirs"), "/a.txt"]
+    editor = does.replace("meanwhile", f"{' '.join(words)} >&2")
+    tmp = desk.path("tmp")
+    os.mkdir(tmp)
+    with mock.patch.object(tempfile, "tempdir", tmp), mock.patch.dict(os.environ, VISUAL=f"sh -c '{editor}' x"):
+        got = desk.does("edit", "/a.txt")
+    assert got[:2] == (status, out), got[2]
+    assert says.format(tmp=tmp) in got[2]
+    assert [[desk.read(f"tmp/{it}/{one}") for one in os.listdir(f"{tmp}/{it}")] for it in os.listdir(tmp)] == [
+        [it] for it in left]
+    desk.prints("get", "/a.txt", want=stands)
+
+
+def test_edit_of_a_new_file(desk):
+    with mock.patch.dict(os.environ, EDITOR=f"sh -c '{ADDS}' x"):
+        desk.prints("edit", "/new", want="/new: 4 bytes\n")
+    desk.prints("get", "/new", want=" two")

@@ -1,0 +1,298 @@
+"""What the gateway keeps in its files: locks, what lies aside, steps under way, times, sessions. Its parts by
+themselves."""
+import contextlib
+import errno
+import os
+import time
+from unittest import mock
+
+import pytest
+from fileroom_dav import app, faults, locks, saving, seats, seen, spool, steps, visit
+from room_client.faults import NoAnswer
+
+
+@pytest.fixture
+def said(capsys):
+    """What was said beside since it was asked for last."""
+    return lambda: capsys.readouterr().err
+
+
+class Locked:
+    """Locks in a folder, by the clock of a start of the machine, and by one that can be set."""
+
+    def __init__(self, folder):
+        self.path, self.now, self.wall, self.boot = folder / "locks", 1000.0, 1000.0, "one"
+        self.its = self.anew()
+
+    def anew(self):
+        """As a gateway that is started has them."""
+        return locks.Locks(str(self.path), lambda: self.now, lambda: self.wall, lambda: self.boot)
+
+    def take(self, path, user="ann", seconds=60, its=None):
+        return (its or self.its).take("plans", path, user, False, False, "me", seconds)
+
+
+@pytest.fixture
+def locked(tmp_path):
+    return Locked(tmp_path)
+
+
+def test_locks_end(locked):
+    its = locked.its
+    lock = locked.take("/a", seconds=30)
+    locked.take("/b", seconds=60)
+    locked.now = 1029.0
+    assert its.foreign("plans", "/a", "bob", set()) == lock
+    lock = its.refresh(lock, 30)
+    locked.now = 1058.0
+    assert its.foreign("plans", "/a", "bob", set()) == lock
+    locked.now = 1059.0
+    assert its.foreign("plans", "/a", "bob", set()) is None
+    assert its.named("plans", lock.token, "ann") is None
+    for it in its, (its := locked.anew()):
+        assert it.foreign("plans", "/b", "bob", set())
+    locked.now = 1060.0
+    locked.take("/a", user="bob", its=its)
+    for it in its, locked.anew():
+        assert [one.user for one in it.at("plans", "/a") + it.at("plans", "/b")] == ["bob"]
+
+
+@pytest.mark.parametrize("seconds, is_held", [(59.0, True), (60.0, False)])
+def test_locks_end_though_the_clock_is_set_back(locked, seconds, is_held):
+    """By the seconds that went by: also over a start of the gateway."""
+    locked.take("/a")
+    locked.wall -= 3600.0
+    locked.now += seconds
+    assert [bool(it.at("plans", "/a")) for it in (locked.its, locked.anew())] == [is_held] * 2
+
+
+@pytest.mark.parametrize("gone_by, set_to, left", [
+    (40.0, -3600.0, 20.0), (40.0, 0.0, 20.0), (40.0, 15.0, 5.0), (0.0, -1.0, 60.0), (40.0, 3600.0, 0.0)])
+def test_locks_over_a_start_of_the_machine(locked, gone_by, set_to, left):
+    locked.take("/b")
+    locked.now, locked.wall = locked.now + gone_by, locked.wall + gone_by
+    assert locked.anew().at("plans", "/b")
+    locked.now, locked.wall, locked.boot = 5.0, locked.wall + set_to, "two"
+    assert [it.end for it in locked.anew().at("plans", "/b")] == [5.0 + left] * bool(left)
+
+
+def test_the_clock_of_locks(tmp_path):
+    now = app.Gate("/none", str(tmp_path)).locks.now()
+    assert abs(now - time.clock_gettime(time.CLOCK_BOOTTIME)) < 60
+
+
+def test_the_clock_is_noted_while_locks_are_asked_for(locked):
+    """So that what went by before a start of the machine counts, whatever its clock says then."""
+    locked.take("/a", seconds=1800)
+    locked.now = 2700.0
+    locked.its.foreign("plans", "/a", "bob", set())
+    locked.now, locked.wall, locked.boot = 5.0, 1.0, "two"
+    assert [it.end for it in locked.anew().at("plans", "/a")] == [105.0]
+
+
+STAMP = locks.Stamp("b", 1.0, 1.0)
+LOCK = locks.Lock("t", "plans", "/a", "ann", False, False, "", 60, 1060.0)
+
+
+@pytest.mark.parametrize("bad", [
+    b"\xff\0\n", b"[" * 100_000, b'{"gone": 5}', b'[{"token": "x"}]', b'["x"]', b"7", b'[{"token": "cut',
+    *(locks.line_of([vars(LOCK) | it]) for it in ({"room": []}, {"end": "x"}, {"path": 5}))],
+    ids=lambda it: ascii(it[:40]))
+def test_a_damaged_file_of_locks(locked, said, bad):
+    """It is set aside under another name, which one line says, and what could be read of it holds."""
+    lock, good = locked.take("/a"), locked.path.read_bytes()
+    locked.path.write_bytes(bad.rstrip() + b"\n" + good)
+    assert locked.anew().at("plans", "/a") == [lock]
+    aside, = locked.path.parent.glob("locks.damaged-*")
+    text = said()
+    assert (text.count("\n"), aside.name in text) == (1, True), text
+    assert aside.read_bytes() == bad.rstrip() + b"\n" + good
+
+
+def test_a_folder_in_the_place_of_locks(locked, said):
+    os.remove(locked.path)
+    os.mkdir(locked.path)
+    locked.take("/a", its=locked.anew())
+    assert said().count(".damaged-") == 1
+    assert locked.anew().at("plans", "/a")
+    assert said() == ""
+
+
+NAMES = "locks", "asides", "steps", "seen"
+STEP = steps.Step("back", "plans", "ann", "/a", "/b", key="k")
+
+
+@pytest.mark.parametrize("bad", [b"\0" * 5000, b"[" * 100_000, b'[{"room": 5, "user": [], "path": {}}]'],
+                         ids=["zeros", "deep", "types"])
+def test_a_gateway_starts_with_damaged_files(tmp_path, said, bad):
+    """Of each kind: what could be read of them stays, and the rest is there to be looked at."""
+    for name in NAMES:
+        (tmp_path / name).write_bytes(bad + b"\n" + locks.line_of([vars(STEP)]) * (name == "steps"))
+    for count in len(NAMES), 0:
+        gate = app.Gate("/none", str(tmp_path))
+        assert [*gate.steps.kept.values()] == [STEP]
+        assert gate.seen.times("plans", {"/a": "sum"}) == {"/a": mock.ANY}
+        assert said().count("damaged-") == count
+
+
+@pytest.mark.parametrize("name, what, of", [
+    ("locks", LOCK, "seconds"), ("locks", LOCK, "end"), ("locks", STAMP, "clock"), ("locks", STAMP, "wall"),
+    ("asides", steps.Aside("plans", "ann", "/a", "/b", "k", 9e9), "end")])
+def test_a_number_of_many_digits(tmp_path, said, name, what, of):
+    """One that no clock has: nothing is computed with it."""
+    its = vars(what) | {of: 10 ** 400}
+    (tmp_path / name).write_bytes(locks.line_of(its if isinstance(what, locks.Stamp) else [its]))
+    gate = app.Gate("/none", str(tmp_path))
+    assert (gate.locks.held, gate.asides.kept, said().count("damaged-")) == ({}, [], 1)
+
+
+def test_two_thousand_locks(locked):
+    """Taken, found again after a kill, and freed, in seconds; another's do not count."""
+    since, held = time.process_time(), []
+    for it in range(2000):
+        held.append(locked.take(f"/f{it % 8}/{it}", seconds=1800))
+        assert time.process_time() - since < 5, it
+    with pytest.raises(faults.Busy):
+        locked.take("/one/more")
+    locked.take("/one/more", user="bob")
+    again = locked.anew()
+    for it in held:
+        assert again.foreign("plans", it.path, "bob", {it.token}) == it
+        assert again.foreign("plans", it.path, "ann", {it.token}) is None
+        again.drop([it.token])
+    assert (len(again.held), [*again.rooms["plans"]]) == (1, ["/one/more"])
+    assert os.path.getsize(locked.path) < 3 * 400 * locks.MOST_OVER
+    assert [*locked.anew().held] == [*again.held]
+    assert time.process_time() - since < 10  # (it takes one)
+
+
+def test_locks_of_before(locked):
+    """(The file was a list, written anew each time.)"""
+    locked.path.write_bytes(locks.line_of([vars(LOCK)]).rstrip())
+    assert locked.anew().at("plans", "/a") == [LOCK]
+
+
+class Aside:
+    def __init__(self, path):
+        self.path, self.time = str(path), 0.0
+        self.its = self.anew()
+
+    def anew(self):
+        return steps.Asides(self.path, now=lambda: self.time)
+
+    def move(self, source, target, user="ann", owner="ann"):
+        with self.its.moving("plans", user, source, target, owner):
+            pass
+
+    def of(self, path, user="ann"):
+        return [it.aside for it in self.anew().of("plans", user, path)]
+
+
+@pytest.fixture
+def aside(tmp_path):
+    return Aside(tmp_path / "it")
+
+
+def test_ten_minutes(aside):
+    aside.move("/a", "/a~")
+    aside.time = 599.0
+    assert (aside.of("/a"), aside.of("/a", "bob")) == (["/a~"], [])
+    aside.time = 600.0
+    assert aside.of("/a") == []
+
+
+def test_one_user_leaves_room_to_others(aside):
+    aside.move("/b", "/b~", "bob", "bob")
+    for at in range(2 * steps.MOST_OF_ONE):
+        aside.move(f"/{at}", f"/{at}~")
+    assert len(aside.its.kept) == steps.MOST_OF_ONE + 1
+    assert (aside.of("/b", "bob"), aside.of("/0")) == (["/b~"], [])
+
+
+def test_names_change(aside):
+    """It follows what is moved again, and ends where that has its name back, or was not moved."""
+    aside.move("/a", "/a~")
+    aside.move("/a~", "/b")
+    assert aside.of("/a") == ["/b"]
+    aside.move("/b", "/a", owner=None)
+    assert aside.its.kept == []
+    with pytest.raises(ValueError), aside.its.moving("plans", "ann", "/a", "/a~", "ann"):
+        raise ValueError
+    assert aside.its.kept == []
+
+
+def test_a_step_on_a_full_disk(tmp_path):
+    """What cannot be on record is not begun, and the caller is told to come later."""
+    its = steps.Steps(str(tmp_path / "it"))
+    with mock.patch.object(steps, "write_all", side_effect=OSError(errno.ENOSPC, "")), pytest.raises(faults.Busy):
+        its.begin(STEP)
+    assert its.kept == {}
+
+
+def test_a_step_is_on_disk_before_it_is_begun(tmp_path, said):
+    its = steps.Steps(str(tmp_path / "it"))
+    with its.under_way(steps.Step("back", "plans", "ann", "/a", "/b"), None) as step:
+        again = steps.Steps(str(tmp_path / "it"))
+        assert "left by a stop in room plans: /a may lie as /b" in said()
+        assert its.claim("plans", "ann", set()) == []
+        for room, user, folders in ("other", "ann", {"/"}), ("plans", "bob", {"/x"}):
+            assert again.claim(room, user, folders) == []
+        assert again.claim("plans", "bob", {"/"}) == [step]
+        assert again.claim("plans", "ann", {"/"}) == []
+    assert steps.Steps(str(tmp_path / "it")).kept == {}
+
+
+def test_what_is_not_come_to_is_left(tmp_path):
+    """The room answers neither to the first of two, nor is the other one begun: both are there for the next."""
+    its = steps.Steps(str(tmp_path / "it"))
+    both = [its.begin(steps.Step("back", "plans", "ann", it, f"{it}~")) for it in ("/a", "/b")]
+    for it in both:
+        its.leave(it)
+    gate = mock.Mock(steps=its, changing=lambda *_: contextlib.nullcontext())
+    for fault in NoAnswer("none"), ValueError("one of ours"):
+        with mock.patch.object(saving, "put_right", side_effect=fault), pytest.raises(type(fault)):
+            saving.settle(gate, None, mock.Mock(room="plans", user="ann", path="/c"))
+    assert sorted(it.path for it in its.claim("plans", "ann", set())) == ["/a", "/b"]
+
+
+def test_the_next_version_is_later(tmp_path):
+    its = seen.Seen(str(tmp_path / "seen"), now=lambda: 1000.0)
+    for sum_, when in ("a", 1000), ("b", 1001), ("b", 1001), ("c", 1002):
+        assert its.times("plans", {"/it": sum_}) == {"/it": when}
+
+
+def test_times_on_a_full_disk(tmp_path):
+    """They are lost, and nothing else."""
+    its = seen.Seen(str(tmp_path / "seen"))
+    pages, = its.table.execute("PRAGMA page_count").fetchone()
+    its.table.execute(f"PRAGMA max_page_count = {pages}")
+    for at in range(3):
+        sums = {f"/{'n' * 60}{at}-{it}": "s" for it in range(500)}
+        assert its.times("plans", sums).keys() == sums.keys()
+
+
+def test_an_answer_on_a_full_disk():
+    with mock.patch.object(os, "pwrite", side_effect=OSError(errno.ENOSPC, "")), pytest.raises(faults.Busy):
+        spool.filled(9, lambda put: put(0, b"x"))
+
+
+def test_no_file_is_of_two_users(tmp_path):
+    its, found = seats.Seats("/none", str(tmp_path), 1.0), []
+    for user in "ann", "ann.0", "ann.0.1", "ann.boot", ".", "..", "...":
+        for number in range(seats.SEATS):
+            path = its.visit("plans", user, "word", number).settings.state
+            assert os.path.dirname(os.path.normpath(path)) == str(tmp_path / "sessions/plans")
+            found += [path, *(f"{path}.{end}" for end in ("lock", "boot", "new", *range(8)))]
+    assert len(found) == len(set(found))
+
+
+def test_what_is_kept_of_a_slot(tmp_path):
+    """A small request is written in its place, and a large one takes the file's place: both are read back."""
+    path = str(tmp_path / "ann@0")
+    for kept, is_page in ("a", False), ("bb", True), ("c" * 90_000, False), ("", False), ("d", True):
+        with contextlib.closing(visit.KeptState(path, "http://x", "ann", 1.0)) as state:
+            before = os.path.exists(path) and os.stat(path).st_ino
+            state.record(kept)
+            assert (os.stat(path).st_ino == before) == is_page, kept[:9]
+        with contextlib.closing(visit.KeptState(path, "http://x", "ann", 1.0)) as again:
+            assert again.kept[0] == state.kept[0]

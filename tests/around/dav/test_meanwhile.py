@@ -1,0 +1,67 @@
+"""What somebody else does between two requests of one method: what they made or wrote stays."""
+import contextlib
+
+import pytest
+
+from .desk import ANNS, BOB_READS, BOB_WRITES, asks, make_folders
+
+
+@contextlib.contextmanager
+def meanwhile(desk, cmd, path, does):
+    """Ann does this past the gateway as its command at this path is on its way to the room."""
+    def happens():
+        with desk.room() as room:
+            does(room)
+    with desk.before(asks(cmd, f'"path":"{path}"'), happens):
+        yield
+
+
+def test_what_a_look_costs(desk):
+    """Requests to the front. rclone asks so, with Depth 1, for each file that it put."""
+    desk.play("ann MKCOL /look 201; ann PUT /look/it 201 > x")
+    for path, names, most in ("/look/it", 1, 1), ("/look/none", 0, 1), ("/look/", 2, 2), ("/look", 2, 2):
+        before = desk.loser.count
+        assert len(desk.ask("ann", "PROPFIND", path, Depth="1").hrefs) == names
+        assert desk.loser.count - before <= most, path
+
+
+def test_a_copy_that_may_not_replace(desk):
+    desk.does("ann", "PUT", "/source", 201, b"mine")
+    with meanwhile(desk, "CREATE", "/target", lambda room: room.create("/target", b"theirs")):
+        desk.does("ann", "COPY", "/source", 412, to="/target", Overwrite="F")
+    assert desk.get("ann", "/target") == b"theirs"
+
+
+def test_a_copied_folder_that_may_not_replace(desk):
+    desk.play("ann MKCOL /from 201; ann PUT /from/it 201 > mine")
+    with meanwhile(desk, "MKDIR", "/to", lambda room: (room.mkdir("/to"), room.create("/to/it", b"theirs"))):
+        desk.does("ann", "COPY", "/from", 412, to="/to", Overwrite="F")
+    assert desk.get("ann", "/to/it") == b"theirs"
+
+
+@pytest.mark.parametrize("size, cmd", [(3, "WRITE"), (70_000, "MKDIR")])
+def test_a_moved_file_that_changes(desk, size, cmd):
+    """Its newer bytes do not go with the name that it had."""
+    old, new = f"/old{size}", f"/new{size}"
+    desk.does("ann", "PUT", old, 201, b"old")
+    desk.does("ann", "PUT", new, 201, b"n" * size)
+    with meanwhile(desk, cmd, old, lambda room: room.put(new, b"newer")):
+        desk.does("ann", "MOVE", new, 204, to=old)
+    assert (desk.get("ann", new), desk.get("ann", old)) == (b"newer", b"n" * size)
+
+
+def test_what_others_put_into_a_copy(desk):
+    """Of a copy that is refused goes what it made, and nothing else."""
+    with desk.room() as room:
+        make_folders(room, mixed=[ANNS, BOB_READS], both=[ANNS, BOB_WRITES])
+        room.mkdir("/mixed/a")
+        room.create("/mixed/a/b", b"b" * 9)
+        room.create("/mixed/z", b"hers")
+        room.set_list("/mixed/z", 0, [])
+    with meanwhile(desk, "CREATE", "/both/copy/a/b", lambda room: room.create("/both/copy/a/theirs", b"t")):
+        desk.does("bob", "COPY", "/mixed", 403, to="/both/copy")
+    with desk.room() as room:
+        assert room.children("/both/copy") == {"a": "folder"}
+        assert room.children("/both/copy/a") == {"theirs": "file"}
+    desk.does("bob", "COPY", "/mixed", 403, to="/both/none")
+    desk.does("bob", "PROPFIND", "/both/none", 404, Depth="0")

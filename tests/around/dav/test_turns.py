@@ -1,0 +1,318 @@
+"""Whose turn it is: threads, the processor, what comes behind answers, what is asked again. The gateway's parts by
+themselves."""
+import contextlib
+import socket
+import threading
+import time
+import types
+from concurrent.futures import ThreadPoolExecutor
+from unittest import mock
+
+import pytest
+from fileroom_dav import app, behind, faults, seats, tree, turns, visit
+from nginx import login
+from room_client import slots
+from room_client.faults import SessionLost
+from served import WAIT, until
+
+put = visit.put
+SOON = 5  # seconds
+
+
+class Channel:
+    """A connection as waitress has it."""
+
+    def __init__(self, user):
+        self.said, self.service = [], "it is served"
+        self.server = types.SimpleNamespace(trigger=types.SimpleNamespace(pull_trigger=self.said.append))
+        self.requests = [types.SimpleNamespace(headers={"AUTHORIZATION": login(user, "x").partition(": ")[2]})]
+
+
+def test_turns_to_threads():
+    """Of a login some are at work, some wait, and who comes beyond is told so; another's are next."""
+    its, beyond = turns.Turns(None), Channel("ann")
+    for _ in range(turns.MOST_AT_WORK + turns.MOST_WAITING):
+        its.append(Channel("ann"))
+    its.append(Channel("bob"))
+    assert len(its) == turns.MOST_AT_WORK + 1
+    assert [its.popleft().login for _ in range(len(its))] == ["ann"] * turns.MOST_AT_WORK + ["bob"]
+    its.append(beyond)
+    assert (len(its), beyond.said) == (0, [beyond.service])
+    assert beyond.requests[0].error.to_response()[:2] == (
+        "503 Service Unavailable", [mock.ANY, ("Retry-After", faults.LATER)])
+    for _ in range(turns.MOST_WAITING):
+        its.ended("ann")
+        assert (its.popleft().login, len(its)) == ("ann", 0)
+    for user in ["ann"] * turns.MOST_AT_WORK + ["bob"]:
+        its.ended(user)
+    assert (its.counts, its.waiting) == ({}, {})
+
+
+def test_one_login_is_told_at_once(tmp_path):
+    gate, goes, said = app.Gate("/none", str(tmp_path)), threading.Event(), []
+    gate.seats = types.SimpleNamespace(visits=lambda *_: goes.wait(20) and app.Reply(204))
+
+    def ask(user):
+        environ = {"REQUEST_METHOD": "GET", "PATH_INFO": "/dav/plans/x",
+                   "HTTP_AUTHORIZATION": login(user, "word").partition(": ")[2]}
+        gate(environ, lambda status, fields: said.append((user, status[:3], dict(fields).get("Retry-After"))))
+    with ThreadPoolExecutor(20) as crew:
+        for _ in range(turns.MOST_AT_WORK):
+            crew.submit(ask, "ann")
+        assert until(lambda: gate.at_work.counts["ann"] == turns.MOST_AT_WORK)
+        ask("ann")
+        assert said == [("ann", "503", faults.LATER)]
+        bob = crew.submit(ask, "bob")
+        assert until(lambda: gate.at_work.counts["bob"] or bob.done())
+        assert len(said) == 1
+        goes.set()
+    assert sorted(said[1:]) == [("ann", "204", None)] * turns.MOST_AT_WORK + [("bob", "204", None)]
+    assert gate.at_work.counts == {}
+
+
+@pytest.fixture
+def floor():
+    """By a clock that is set."""
+    with mock.patch.object(turns, "PATIENCE", 60):
+        it = turns.Floor(now=lambda: it.clock)
+        it.clock = 0.0
+        yield it
+
+
+def count_of(floor):
+    """How many wait."""
+    return sum(map(len, floor.waiting.values()))
+
+
+def test_turns_to_compute(floor):
+    """One thread at a time, and next is who computed least of late, however many of another wait."""
+    order, crew = [], []
+
+    def computes(user, seconds, among):
+        with floor.of(user), floor.of(user):
+            order.append(user)
+            floor.clock += seconds
+            assert floor.login == user
+            among()
+
+    def comes(user, seconds=1.0, among=lambda: None):
+        crew.append(threading.Thread(target=computes, args=(user, seconds, among), daemon=True))
+        count = count_of(floor)
+        crew[-1].start()
+        until(lambda: count_of(floor) > count)
+
+    def others_come():
+        """(While eve computes.)"""
+        for user in "eve", "eve", "fay", "fay":
+            comes(user)
+        comes("ann", 0.1, lambda: comes("ann", 0.1))
+    computes("eve", 1.0, others_come)
+    for it in crew:
+        it.join(60)
+    assert order == ["eve", "fay", "ann", "ann", "eve", "fay", "eve"]
+    assert (floor.login, floor.waiting, floor.spent) == (None, {}, {})
+
+
+def test_who_computed_nothing_is_owed_nothing(floor):
+    order, floor.spent = [], {"eve": 90.0, "gus": 90.0}
+
+    def computes(user):
+        with floor.of(user):
+            order.append(user)
+            floor.clock += 1.0
+    with ThreadPoolExecutor(4) as crew, floor.of("gus"):
+        for at, user in enumerate(["fay", "fay", "fay", "eve"]):
+            crew.submit(computes, user)
+            until(lambda: count_of(floor) > at)
+    assert order == ["fay", "eve", "fay", "fay"]
+
+
+def test_nobody_waits_long_for_one():
+    floor = turns.Floor()
+
+    def beside():
+        with floor.of("fay"):
+            return floor.login, floor.holder, floor.waiting
+    with ThreadPoolExecutor(1) as crew, floor.of("eve"):
+        assert crew.submit(beside).result(20) == ("eve", None, {})
+    assert (floor.login, floor.waiting) == (None, {})
+
+
+def test_long_answers_are_made_in_parts(floor):
+    """Where others wait, after a moment."""
+    order = []
+
+    def computes():
+        with floor.of("fay"):
+            order.append("fay")
+    with ThreadPoolExecutor(1) as crew, floor.of("eve"):
+        crew.submit(computes)
+        until(lambda: floor.waiting)
+        for _ in range(2):
+            floor.pause()
+            order.append("eve")
+            floor.clock += 2 * turns.LONGEST
+        floor.pause()
+    assert order == ["eve", "fay", "eve"]
+
+
+def test_a_wait_is_nobodys_turn():
+    """Before the next attempt, and for a place."""
+    floor, seen = turns.Floor(), []
+    pace = visit.UserPace("eve", floor)
+    with floor.of("eve"), mock.patch.object(slots.time, "sleep", side_effect=lambda _: seen.append(floor.login)):
+        pace.rest(1.0)
+        assert (seen, floor.login) == ([None], "eve")
+
+    def waits():
+        with floor.of("eve"), pace.place():
+            seen.append(floor.login)
+    with ThreadPoolExecutor(1) as crew, pace.place(), pace.place():
+        crew.submit(waits)
+        until(lambda: pace.places._cond._waiters)
+        seen.append(floor.login)
+    assert (seen, floor.login) == ([None, None, "eve"], None)
+
+
+def test_hashes_and_the_disk_are_nobodys_turn(tmp_path):
+    """A file that is replaced waits for the disk, a page in its place does not."""
+    floor, seen = turns.Floor(), []
+    its = mock.Mock(size=9, pieces=["000"], is_of=lambda _: seen.append(floor.login) or True)
+    one = types.SimpleNamespace(pace=visit.UserPace("eve", floor))
+    state = visit.KeptState(str(tmp_path / "state"), "http://x", "eve", 1.0)
+    with contextlib.closing(state), floor.of("eve"), mock.patch.object(tree, "filled", return_value=b"x"), (
+            mock.patch.object(visit, "put", side_effect=lambda *how: (seen.append(floor.login), put(*how)))):
+        assert tree.pieces_of(one, "/a", its, range(1)) == b"x"
+        visit.Seat(0, mock.Mock(), None, state, one.pace, None)
+        state.save(state.session)
+        state.record("short", 0)
+        state.record("x" * 90_000, 0)
+    assert (seen, floor.login) == ([None, None, "eve", None], None)
+
+
+@contextlib.contextmanager
+def front_saying(gate, *statuses, meanwhile=lambda: None):
+    """A front that answers a connection each so. What comes by them behind the answers."""
+    behind = []
+
+    def answers():
+        for status in statuses:
+            peer, _ = front.accept()
+            with peer:
+                peer.recv(4096)
+                meanwhile()
+                peer.sendall(b"HTTP/1.1 %s\r\nContent-Length: 2\r\n\r\n{}" % status)
+                behind.append(peer.recv(1))
+    with socket.socket(socket.AF_UNIX) as front:
+        front.bind(gate)
+        front.listen()
+        one = threading.Thread(target=answers, daemon=True)
+        one.start()
+        yield behind
+        one.join(20)
+
+
+ANN = types.SimpleNamespace(user="ann", password="word")
+
+
+def test_the_floor_is_free_while_the_front_answers(tmp_path):
+    """And it is the caller's before, and behind."""
+    gate, seen = app.Gate(str(tmp_path / "front"), str(tmp_path)), []
+
+    def look():
+        until(lambda: gate.floor.login is None)
+        seen.append(gate.floor.login)
+
+    def done(asked):
+        seen.append(gate.floor.login)
+        gate.need_login(asked, "/whoami")
+        seen.append(gate.floor.login)
+        return app.Reply(204)
+    with front_saying(str(tmp_path / "front"), b"200 OK", meanwhile=look), mock.patch.object(gate, "done", done):
+        gate.in_turn(ANN)
+    assert (seen, gate.floor.login) == (["ann", None, "ann"], None)
+
+
+def test_a_login_is_asked_for_again(tmp_path):
+    """Where the front lets no more through for now; and no connection is held in the wait."""
+    with front_saying(str(tmp_path / "front"), b"429 Too Many Requests", b"503 Service Unavailable", b"200 OK") as said:
+        assert app.Gate(str(tmp_path / "front"), str(tmp_path)).need_login(ANN, "/whoami") == b"{}"
+    assert said == [b""] * 3
+
+
+@pytest.mark.parametrize("has_changed, times", [(False, 2), (True, 1)])
+def test_a_visit_is_not_repeated_after_a_change(tmp_path, has_changed, times):
+    """Where the room does not know the session any more, what was done by it is not done a second time."""
+    its, count = seats.Seats("/none", str(tmp_path), 1.0), []
+    visit_ = mock.MagicMock(has_changed=has_changed, front_status=0, left=[])
+    visit_.__exit__.return_value = False
+
+    def does(_):
+        count.append(1)
+        raise SessionLost({"code": 20, "error": "BADSESSION"})
+    with mock.patch.object(seats.Seats, "visit", return_value=visit_), pytest.raises(faults.Answered):
+        its.visits("plans", "ann", "word", does)
+    assert (len(count), its.taken) == (times, set())
+
+
+@pytest.fixture
+def work():
+    """What is behind answers, all of which ends at once, or in time."""
+    its = types.SimpleNamespace(queue=behind.Behind(), may_end=threading.Event(), at_work=[])
+
+    def add(login):
+        its.queue.add(login, lambda: (its.at_work.append(login), its.may_end.wait(WAIT)))
+
+    def wait_for(count):
+        until(lambda: len(its.at_work) >= count, SOON)
+        time.sleep(0.1)
+        return sorted(its.at_work)
+    its.add, its.wait_for = add, wait_for
+    yield its
+    its.may_end.set()
+
+
+def test_one_of_a_login_is_behind_at_a_time(work):
+    for it in "ann", "ann", "ann", "bob":
+        work.add(it)
+    assert work.wait_for(2) == ["ann", "bob"]
+    work.may_end.set()
+    assert work.wait_for(4) == ["ann", "ann", "ann", "bob"]
+
+
+def test_few_threads_behind(work):
+    for at in range(2 * behind.MOST_AT_ONCE):
+        work.add(str(at))
+    assert len(work.wait_for(behind.MOST_AT_ONCE)) == behind.MOST_AT_ONCE
+
+
+def test_few_wait_behind(work):
+    """Of a login, and of all."""
+    for _ in range(behind.MOST_OF_ONE + 1):
+        assert work.queue.has_room("ann")
+        work.add("ann")
+        work.wait_for(1)
+    assert not work.queue.has_room("ann")
+    assert work.queue.has_room("bob")
+    for at in range(behind.MOST + behind.MOST_AT_ONCE):
+        work.add(str(at))
+    assert not work.queue.has_room("bob")
+
+
+def test_a_fault_behind_ends_no_thread(work):
+    work.queue.add("ann", lambda: 1 / 0)
+    work.add("ann")
+    assert work.wait_for(1) == ["ann"]
+
+
+def test_a_stop_of_what_is_behind(work):
+    """It waits for what it has, not for long, and nothing more is taken."""
+    work.add("ann")
+    work.wait_for(1)
+    begin = time.monotonic()
+    work.queue.stop(0.3)
+    assert time.monotonic() - begin > 0.2
+    assert not work.queue.has_room("bob")
+    threading.Timer(0.2, work.may_end.set).start()
+    work.queue.stop(WAIT)
+    assert time.monotonic() - begin < SOON

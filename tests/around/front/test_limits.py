@@ -1,0 +1,174 @@
+"""What the front lets one login ask of a room or the gateway: how often, how much, and how many at once, from however
+many addresses. Another login is not held by it, and neither is its owner by a stranger elsewhere who gives its name."""
+import contextlib
+import os
+import socket
+import threading
+import time
+
+import pytest
+from given import each
+from served import first_answer, message, until
+
+from .sides import (BURST, CHECK, OPEN_AT_ONCE, ROOM, SESSION, SLOT, SOON, at_once, begun, begun_by_dav, until_too_many,
+                    values, wrong)
+
+OPENS = [ROOM + SESSION, f"{ROOM}/{SESSION}", f"{ROOM}/.{SESSION}", ROOM + SESSION.replace("s", "%73"),
+         f"{ROOM}/x/..{SESSION}", f"http://a.b{ROOM}{SESSION}"]
+ASKED = 30  # requests from five addresses: more of a login than may be under way
+LIMIT_OF_A_FILE = 1 << 24  # bytes
+A_SECOND = 20  # of these, where a front has 40 and 100: a slow machine shows this too
+HEAVY, HEAVY_AT_ONCE, HEAVY_WAITING = 10_000, 8, 192  # bytes of a body that holds a room, and how many
+DAV_AT_ONCE = 40
+
+
+@each("burst, a_second, asked, addresses, free", [
+    ("requests", BURST, 1, [("GET", "/whoami", 0)], 1, [("GET", "/index.html", 0)]),
+    ("sessions", 30, 0.1, [("POST", it, 2) for it in OPENS], 4,
+     [("DELETE", ROOM + SESSION, 0), ("POST", SLOT + "1", 0)]),
+    ("large bodies", 20, 2, [("POST", CHECK, 1000)], 4, [("POST", CHECK, 999)]),
+    ("large questions", 8, 0.5, [("POST", CHECK, 4000)], 4, [("POST", CHECK, 3999)])])
+def test_a_login_asks_so_much(fronted, burst, a_second, asked, addresses, free):
+    """A front that lets fewer large bodies pass at once, and nobody ask more often than once a second."""
+    front, begin = fronted(rate="1r/s", bulk=20), time.monotonic()
+    once = lambda user, method, target, size, at=0: front.status(
+        user, method, target, bytes(size), source=f"127.0.0.{1 + at % addresses}")
+    strange = threading.Thread(target=at_once, args=(OPEN_AT_ONCE, lambda at: front.once(
+        None, *asked[0][:2], bytes(asked[0][2]), [wrong("u01")], "127.0.0.9")))
+    strange.start()
+    found = until_too_many(lambda at: once("u01", *asked[at % len(asked)], at))
+    passed, most = found.count(200), burst + 2 + a_second * (time.monotonic() - begin)
+    assert set(found) == {200, 429}
+    assert burst <= passed <= most
+    assert [once("u01", *it) for it in free] == [200] * len(free)
+    assert once("u02", *asked[0]) == 200
+    strange.join()
+
+
+# Under way at once
+
+def by_the_gateway(front, user):
+    """The status of a request at the socket where the gateway asks, with its caller's login, or none so soon."""
+    with socket.socket(socket.AF_UNIX) as line:
+        line.settimeout(2)
+        line.connect(os.path.join(front.folder, "work", "dav.sock"))
+        line.sendall(message(None, "POST", f"{SLOT}99", b'{"cmd":"MKDIR","path":"/a"}', fields=front.fields(user)))
+        with contextlib.suppress(TimeoutError):
+            return first_answer(line.recv(1 << 16))[0].status
+    return None
+
+
+def of_addresses(front, begin, count, *words):
+    return [begin(front, "u01", at, f"127.2.0.{1 + at // 6}", *words) for at in range(count)]
+
+
+def under_way(front, behind, begin):
+    """So many of one login are begun that no more of them come to who stands behind the front."""
+    behind.may.clear()
+    lines = of_addresses(front, begin, ASKED)
+    until(lambda: len(behind.came) >= OPEN_AT_ONCE, SOON)
+    time.sleep(1)
+    assert len(behind.came) == OPEN_AT_ONCE
+    return lines
+
+
+def others_pass(front, behind, begin, lines, one_more):
+    """While theirs are under way, whose callers may have left."""
+    other = begin(front, "u02")
+    assert until(lambda: len(behind.came) > OPEN_AT_ONCE, SOON)
+    for it in lines:
+        it.close()
+    time.sleep(1)
+    one_more()
+    behind.may.set()
+    assert other.answer().status == 200
+
+
+def test_under_way_at_a_room(fronted, peer, memory):
+    front = fronted(dav=os.path.join(memory, "no.sock"))
+    lines = under_way(front, peer, begun)
+    assert by_the_gateway(front, "u01") == 429
+
+    def one_more():
+        assert begun(front, "u01").answer().status == 429
+    others_pass(front, peer, begun, lines, one_more)
+
+
+def test_under_way_by_webdav(fronted, gateway):
+    """Who comes beyond is told so before a body is sent. The gateway itself still asks the room for those."""
+    front = fronted(dav=gateway.at)
+    lines = under_way(front, gateway, begun_by_dav)
+    assert by_the_gateway(front, "u01") == 200
+
+    def one_more():
+        got = begun_by_dav(front, "u01", length=LIMIT_OF_A_FILE).answer()
+        assert (got.status, values(got, ["retry-after"])) == (429, {"retry-after": ["5"]})
+    one_more()
+    others_pass(front, gateway, begun_by_dav, lines, one_more)
+
+
+FORMS = [b'{"cmd":"SETLIST","path":"/a","aclflag":0,"entries":[]}', b'{"cmd":"SETLI\\u0053T","path":"/a"}',
+         b'{"path":"/a/b","cmd":"RENAME","to":"/c/b"}', b'{"cmd":"RENAME","path":"/a/b","to":"/a/c/d"}']
+SHORT = [b'{"cmd":"RENAME","path":"/a/b","to":"/a/c"}', b'{"cmd":"MKDIR","path":"/a"}']
+
+
+@pytest.mark.parametrize("form, count", [*((it, 2) for it in FORMS), *((it, 4) for it in SHORT)], ids=ascii)
+def test_long_ones_under_way(front, peer, form, count):
+    """Two SETLISTs or moves to another folder of a login, however they are written; a new name in the same folder is
+    none of them."""
+    peer.may.clear()
+    lines = [begun(front, "u01", at, f"127.2.1.{1 + at}", form) for at in range(4)]
+    until(lambda: len(peer.came) >= count, SOON)
+    time.sleep(0.2)
+    assert len(peer.came) == count
+    for it in lines:
+        it.close()
+
+
+@each("form, is_held", [("SETLIST", FORMS[0], True), ("RENAME in its folder", SHORT[0], False)])
+def test_the_answer_to_a_long_one_is_held_back(front, peer, form, is_held):
+    """Where it took long."""
+    peer.may.clear()
+    line = begun(front, "u01", body=form)
+    until(lambda: peer.came, SOON)
+    time.sleep(1)
+    peer.may.set()
+    begin = time.monotonic()
+    assert line.answer().status == 200
+    assert (time.monotonic() - begin > 1) == is_held
+
+
+# Spread over the second
+
+def beside(begin, asked):
+    """The statuses of what does not wait behind those that are spread, and the seconds since."""
+    return [it() for it in asked], time.monotonic() - begin
+
+
+def test_many_by_webdav(fronted, gateway):
+    """From some at once on they come spread over the second, also to be told that they are too many: who is told so
+    sends a whole file again."""
+    front, many = fronted(dav=gateway.at, rate=f"{A_SECOND}r/s", connections=4096), 3 * DAV_AT_ONCE
+    begin = time.monotonic()
+    lines = of_addresses(front, begun_by_dav, many)
+    others, early = beside(begin, [lambda: begun_by_dav(front, "u02").answer().status])
+    assert {it.answer().status for it in lines} <= {200, 429}
+    took = time.monotonic() - begin
+    assert took >= (many - DAV_AT_ONCE - 1) / A_SECOND
+    assert (others, early < took / 2) == ([200], True)
+
+
+def test_heavy_ones(fronted):
+    """Bodies that hold a room go there spread over the second, of each login by itself, from however many addresses.
+    The next ones wait, more than clients have under way; and what is small does not wait behind them."""
+    front = fronted(heavy=f"{A_SECOND}r/s", connections=4096)
+    begin, many = time.monotonic(), 2 * (HEAVY_AT_ONCE + HEAVY_WAITING)
+    lines = of_addresses(front, begun, many, bytes(HEAVY))
+    others, early = beside(begin, [lambda: front.status("u01", "POST", SLOT + "98", bytes(HEAVY - 1)),
+                                   lambda: front.status("u02", "POST", SLOT + "98", bytes(HEAVY))])
+    found = [it.answer().status for it in lines]
+    took, passed = time.monotonic() - begin, found.count(200)
+    assert set(found) == {200, 429}
+    assert passed >= HEAVY_AT_ONCE + HEAVY_WAITING
+    assert took >= (passed - HEAVY_AT_ONCE - 1) / A_SECOND
+    assert (others, early < took / 2) == ([200, 200], True)

@@ -1,0 +1,90 @@
+"""The front's logs: of changes, also where their callers left; of refusals and of WebDAV little; turned over."""
+import json
+import os
+import shutil
+import subprocess
+import time
+
+import pytest
+from given import each
+from nginx import FOLDER
+from served import text_of, until, whole
+
+from .sides import SLOT, SOON, begun, log_of
+
+REFUSED = b'{"code":5,"error":"a refusal is longer than what is done"}'
+LINE_OF_REFUSAL = 800  # bytes at most, whatever was asked
+GROWN = 257 << 20  # bytes: more than the log of changes may have
+CHANGE = b'{"cmd":"MKDIR","path":"/a"}'
+
+
+def changes_of(front):
+    front.settle()
+    return text_of(log_of(front)).splitlines()
+
+
+def test_changes_whose_callers_left(front, peer):
+    peer.may.clear()
+    lines = [begun(front, "u01", at, f"127.2.0.{at + 1}") for at in range(3)]
+    assert until(lambda: len(peer.came) == len(lines), SOON)
+    for it in lines:
+        it.close()
+    time.sleep(1)
+    assert changes_of(front) == []
+    peer.may.set()
+    until(lambda: len(changes_of(front)) == len(lines), SOON)
+    told = [json.loads(it) for it in changes_of(front)]
+    assert sorted((it["user"], it["from"], it["slot"][-4:], it["asked"]) for it in told) == [
+        ("u01", f"127.2.0.{at + 1}", f"/0/{at}", CHANGE.decode()) for at in range(len(lines))]
+
+
+@each("pad", [("newlines", b"\n"), ("quotes", b'"'), ("control letters", b"\1")])
+def test_a_refusal_is_cut(front, peer, pad):
+    """However it is written."""
+    peer.said = whole(REFUSED)
+    assert front.status("u01", "POST", SLOT + "1", b'{"cmd":"MKDIR","path":"/p' + pad * 900 + b'"}') == 200
+    told = changes_of(front)
+    assert (len(told), len(told[0]) <= LINE_OF_REFUSAL) == (1, True)
+
+
+@pytest.mark.parametrize("target", ["/dav/plans/secret%20plan", "/d%61v/plans/secret%20plan",
+                                    "/x/../dav/plans/secret%20plan"])
+def test_a_path_of_webdav_is_not_told(fronted, memory, target):
+    front = fronted(dav=os.path.join(memory, "no.sock"))
+    assert front.status("u01", "GET", target) == 502
+    front.settle()
+    told = text_of(log_of(front, "access.log")).splitlines()
+    assert (len(told), "dav" in told[0], "secret" in told[0]) == (1, True, False)
+
+
+@pytest.fixture
+def rotate(front, tmp_path):
+    """By logrotate with the front's file, whose systemctl signals this front: whether the log of changes was turned
+    over."""
+    if os.geteuid() != 0 or not shutil.which("logrotate", path="/usr/sbin:/usr/bin"):
+        pytest.skip("this machine lacks logrotate, or root")
+    rules = text_of(os.path.join(FOLDER, "logrotate.conf")).replace("root fileroom-front", "root root")
+    (tmp_path / "rules").write_text(rules.replace("/var/log/fileroom/changes.log", log_of(front)))
+    asked = "kill --signal=USR1 --kill-whom=main nginx"
+    (tmp_path / "systemctl").write_text(f'#!/bin/sh\n[ "$*" = "{asked}" ] && kill -USR1 {front.server.pid}\n')
+    (tmp_path / "systemctl").chmod(0o755)
+    words = ["logrotate", "--state", tmp_path / "state", tmp_path / "rules"]
+
+    def rotated(*how):
+        before = os.stat(log_of(front)).st_ino
+        subprocess.run([*words, *how], env={"PATH": f"{tmp_path}:/usr/sbin:/usr/bin:/sbin:/bin"}, check=True)
+        front.settle()
+        time.sleep(0.5)
+        return os.stat(log_of(front)).st_ino != before
+    return rotated
+
+
+def test_logs_are_turned_over(front, rotate):
+    """nginx writes on in a new log; one that has grown does not wait a day."""
+    for how, is_large, is_turned in (["--force"], False, True), ([], False, False), ([], True, True):
+        front.once("u02", "POST", SLOT + "1", CHANGE)
+        if is_large:
+            os.truncate(log_of(front), GROWN)
+        assert rotate(*how) == is_turned
+    front.once("u02", "POST", SLOT + "2", CHANGE)
+    assert len(changes_of(front)) == 1

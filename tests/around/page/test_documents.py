@@ -1,0 +1,185 @@
+"""Folders and documents: made, read, appended to, edited, renamed, removed, printed; names and texts of markup; all of
+that by keyboard alone."""
+import pytest
+
+from .club import (ADD, BUTTONS, DIALOG, PLACE, TYPED, VIEW, append, appended, edit, make_document, make_new, of_user,
+                   remove)
+from .conftest import complaints
+
+MARKUP = "<img src=x onerror=\"window.ran=1\">&amp;'\"`"
+SCRIPT = f"<script>window.ran=1</script>{MARKUP}"
+RAN = "return [window.ran ?? null, document.images.length]"
+
+
+def test_new_folder_and_new_document(club, browser):
+    club.open()
+    make_new(browser, "New folder")
+    browser.sees("Everyone with access to this folder will have access to it.", "dialog")
+    browser.fill("Name", "plans")
+    browser.press("Create")
+    browser.sees("plans created.")
+    browser.follow("plans")
+    make_document(browser, "may.txt", "first")
+    browser.follow("may.txt")
+    browser.sees("first", "pre")
+    assert club.text("/plans/may.txt") == "first"
+
+
+@pytest.mark.parametrize("before, after", [
+    ("", "c\nd\n"), ("a", "a\nc\nd\n"), ("a\n", "a\nc\nd\n"), ("a\r\nb", "a\r\nb\r\nc\r\nd\r\n")], ids=ascii)
+def test_append_on_lines_of_its_own(club, browser, before, after):
+    """Whose ends are those of the document."""
+    club.lay(("/lines.txt", before.encode()))
+    club.open("/lines.txt")
+    appended(browser, "c\nd")
+    assert club.text("/lines.txt") == after
+    browser.until("it is shown", lambda: browser.text_of("pre").split() == after.split())
+
+
+@pytest.mark.parametrize("saves", [lambda its: its.press("Save"), lambda its: its.chord("ctrl", "s")],
+                         ids=["button", "keys"])
+def test_edit(club, browser, saves):
+    club.lay(("/plans/may.txt", b"first\n"))
+    club.open("/plans/may.txt")
+    edit(browser, "another\ntext\n")
+    saves(browser)
+    browser.sees("Saved.")
+    assert club.text("/plans/may.txt") == "another\ntext\n"
+    browser.sees("another\ntext", "pre")
+
+
+def test_markup_is_text(club, browser):
+    """Names and documents of markup are text, and the policy takes no markup from a script."""
+    club.lay("/plans/june.txt")
+    club.open("/plans")
+    make_document(browser, MARKUP, SCRIPT)
+    browser.sees("created.")
+    for view in "open", "who":
+        club.open("/plans", view)
+        browser.sees(MARKUP, "bdi")
+    club.open("/plans")
+    browser.act("//main//a[contains(., '<img')]", "click")
+    browser.sees(MARKUP, "h1")
+    browser.sees(SCRIPT, "pre")
+    remove(browser)
+    browser.sees("is removed.")
+    assert club.names("/plans") == ["june.txt"]
+    assert browser.script(RAN) == [None, 0]
+    assert complaints(browser) == []
+    taken = "try { document.body.insertAdjacentHTML('beforeend', '<i>'); return true } catch { return false }"
+    assert (browser.script(taken), len(complaints(browser))) == (False, 1)
+
+
+def test_keyboard_alone(club, browser):
+    """A folder is made, opened and removed."""
+    club.lay("/plans/")
+    club.anew("/plans")
+    club.open()
+    browser.sees("plans", "main")
+    tab_to(browser, "+ New")
+    browser.keys("enter", "enter")
+    browser.until("the dialog", lambda: browser.find(DIALOG))
+    browser.keys("keys", "enter")
+    browser.sees("keys created.")
+    browser.sees("keys", ".things")  # (the page is at rest again: until then no key comes to the table)
+    tab_to(browser, "keys")
+    browser.keys("enter")
+    browser.until("the folder", lambda: browser.script(PLACE) == "#open/club/keys")
+    browser.keys("enter", "rr", "enter")
+    browser.until("the dialog", lambda: browser.find(DIALOG))
+    browser.keys("tab", "enter")  # (the button at hand removes nothing for good)
+    browser.sees("/keys is removed.")
+    assert club.names("/") == ["plans"]
+
+
+def tab_to(browser, words):
+    """Strikes the tab key until what has those words has the focus."""
+    for _ in range(30):
+        browser.keys("tab")
+        if browser.script("return document.activeElement.textContent") == words:
+            return
+    raise LookupError(f"the tab key never comes to {words}")
+
+
+def test_print(club, browser):
+    """A document on paper: where it is, whose, and its text, and nothing that is there to be pressed."""
+    club.lay(("/lost.txt", b"text"))
+    club.open("/lost.txt")
+    browser.devtools("Emulation.setEmulatedMedia", media="print")
+    shown = "return [...document.querySelectorAll(arguments[0])].filter((it) => it.checkVisibility()).length"
+    assert [browser.script(shown, it) for it in ("h1, .about, pre", "button, select, .views a")] == [3, 0]
+
+
+# In its dialogs
+
+def test_a_dialog_at_work(club, browser):
+    """A dialog whose request takes a while shows that, and cannot be pressed again."""
+    club.lay("/plans/")
+    club.open("/plans")
+    club.lossy.hold('"MKDIR"')
+    make_new(browser, "New folder")
+    browser.fill("Name", "slow")
+    browser.press("Create")
+    browser.sees("Under way …", "dialog")
+    dim = "return Number(getComputedStyle(document.querySelector('dialog[open] form')).opacity)"
+    browser.until("it is dim", lambda: browser.script(dim) < 0.7)
+    club.lossy.go_on()
+    browser.sees("slow created.")
+
+
+def test_a_refused_dialog(club, browser):
+    """It has the focus where it was: what is typed then arrives, and Escape ends it."""
+    club.lay("/plans/june.txt")
+    club.open("/plans")
+    make_new(browser, "New folder")
+    browser.keys("june.txt", "enter")
+    browser.sees("Something has this name already.", "dialog")
+    browser.keys(" 2")
+    assert browser.script(TYPED) == "june.txt 2"
+    browser.keys("escape")
+    browser.sees("What you typed is not saved.", "dialog")
+
+
+def test_a_name_is_marked_but_for_its_ending(club, browser):
+    club.lay("/b.txt")
+    club.open("/b.txt")
+    browser.press("Rename")
+    browser.until("the name", lambda: browser.find(f"{DIALOG}//input"))
+    marked = "const it = document.querySelector('dialog input'); return [it.value, it.selectionStart, it.selectionEnd]"
+    assert browser.script(marked) == ["b.txt", 0, 1]
+
+
+# Who may not
+
+def test_a_right_that_is_taken_while_she_types(club, browser):
+    """What eve may not do is not offered; the refusal is told, and her text stays."""
+    path = "/plans/june.txt"
+    club.lay((path, b"text"))
+    club.lets("eve", "/plans", VIEW)
+    club.lets("eve", path, ADD, 0)
+    club.log_in("eve")
+    club.open(path)
+    browser.sees("text", "pre")
+    assert browser.script(BUTTONS) == ["Add text", "Download", "Copy"]
+    append(browser, "more", lambda: club.sets(path))
+    browser.sees("You may not append to it (/plans/june.txt). Ask ann.", "dialog")
+    assert (club.text(path), browser.script(TYPED)) == ("text", "more")
+    browser.press("Cancel", DIALOG)
+    browser.press("Discard it")
+
+
+def test_log_out(club, browser):
+    """The browser forgets the login: a request of the page is asked for one again. Back shows nothing and fails not."""
+    club.lay("/plans/")
+    club.anew("/plans")  # (Back from the first would load another page, which waits for a login)
+    ask = ("fetch(new URL('/whoami', location.origin), {signal: AbortSignal.timeout(3000)})"
+           ".then((it) => arguments[0](it.status), () => arguments[0]('waits for a login'))")
+    assert browser.later(ask) == 200
+    club.user = ""
+    of_user(browser, "Log out")
+    browser.sees("You are logged out", "h1")
+    assert browser.later(ask) == "waits for a login"
+    browser.script("history.back()")
+    browser.until("Back", lambda: browser.script("return location.hash") == "#open/club")
+    assert browser.script("return document.querySelector('h1').textContent") == "You are logged out"
+    assert [it for it in browser.complaints() if "TypeError" in it] == []

@@ -1,0 +1,331 @@
+"""A folder as in a file manager: what is seen first, sorting, keys, menus, links, what is seen by itself."""
+import pytest
+
+from .club import (ALL, CHOSEN, DIALOG, FOUND, FRAME, MENU, PIECE, PLACE, ROWS, TEXTS, TOP, VIEW, by_menu, ends, entry,
+                   of_folder, of_user, offers, row, search_in, to_folder)
+
+NAMES = [*FRAME]
+FOCUS = ("const it = document.activeElement; return it.matches('.things .name') ? it.textContent "
+         ": it.getAttribute('aria-label') ?? it.textContent")
+SORTS = "return [...document.querySelectorAll('.things thead th')].map((it) => it.getAttribute('aria-sort'))"
+LINED = ("return [...document.querySelectorAll('.things *')].filter((it) => "
+         "getComputedStyle(it).textDecorationLine === 'underline').map((it) => it.textContent)")
+TOP_ROW = "return document.querySelector('.things tbody tr').getBoundingClientRect().top"
+WIDTH = "return document.documentElement.scrollWidth"
+MENU_AT = ("document.querySelector(arguments[0]).dispatchEvent(new MouseEvent('contextmenu', {bubbles: true, "
+           "cancelable: true, button: 2, clientX: 90, clientY: 300}))")
+BOX = "const it = document.querySelector('.menu').getBoundingClientRect(); return [it.left, it.bottom]"
+TO_SEARCH = "return document.activeElement.closest('#search') !== null"
+AWAY = "document.activeElement.blur()"
+
+
+# What is seen first
+
+@pytest.mark.parametrize("width, height, most", [(1280, 707, 200), (360, 740, 260)], ids=["desktop", "phone"])
+def test_the_first_row_is_near_the_top(club, browser, frame, width, height, most):
+    browser.size(width, height)
+    club.anew(TOP)
+    browser.sees("notes.txt", ".things")
+    assert browser.script(TOP_ROW) <= most
+    assert browser.script(WIDTH) == width
+
+
+def test_the_first_row_is_three_tabs_away(browser, frame):
+    """And a button skips to it."""
+    browser.sees("notes.txt", ".things")
+    assert browser.script(FOCUS) == "frame"
+    browser.keys("tab", "tab", "tab")
+    assert browser.script(FOCUS) == "attic"
+    browser.script("document.activeElement.blur(); document.body.focus(); scrollTo(0, 0)")
+    browser.script("document.getElementById('skip').focus()")
+    browser.keys("enter")
+    assert browser.script(FOCUS) == "attic"
+
+
+@pytest.mark.parametrize("view", ["access", "who", "find"])
+def test_search_is_at_hand(club, browser, frame, view):
+    club.open(TOP, view)
+    assert browser.script("return document.querySelector('header input').checkVisibility()")
+
+
+def test_only_the_name_under_the_mouse_is_underlined(browser, frame):
+    for place, names in ("//thead//th[.//button='Name']", []), ("//a[.='attic']", ["attic"]), ("//*[@id='user']", []):
+        browser.point(place)
+        assert browser.script(LINED) == names
+
+
+def test_icons_tell_kinds(browser, frame):
+    icons = "return [...document.querySelectorAll('.things .icon')].map((it) => it.classList[1])"
+    assert browser.script(icons) == ["folder", "folder", "pdf", "writing", "table", "text"]
+
+
+# Order
+
+def test_heads_sort(club, browser, frame):
+    """They tell it, and it is kept."""
+    assert (browser.script(ROWS), browser.script(SORTS)) == (NAMES, ["ascending", "none", "none"])
+    by_size = ["attic", "cellar", "notes.txt", "letter.docx", "list.xlsx", "bill.pdf"]
+    browser.press("Size")
+    browser.until("by size", lambda: browser.script(ROWS) == by_size)
+    assert browser.script(SORTS) == ["none", "none", "ascending"]
+    browser.press("Size")
+    browser.until("the other way", lambda: browser.script(ROWS)[2:] == by_size[:1:-1])
+    club.anew(TOP)
+    assert browser.script(ROWS)[2:] == by_size[:1:-1]
+    browser.press("Kind")
+    assert browser.script(ROWS)[2:] == ["letter.docx", "bill.pdf", "list.xlsx", "notes.txt"]
+
+
+def test_names_stand_as_people_look_for_them(club, browser):
+    """Large files among the others: in a folder, where one chooses one, in the matrix, and where they were found."""
+    folders = ["\u00c4pfel", "apple", "Bread 2", "bread 10", "\u00f6l", "Zebra"]
+    files = [*folders[:3], "Bread 3", *folders[3:]]
+    club.lay(*(f"/order/{it}/" for it in folders), *(f"/order/f/{it}" for it in folders),
+             ("/order/f/Bread 3", bytes(PIECE + 1)))
+    club.open("/order/f")
+    browser.until("its size", lambda: "64 KiB" in row(browser, "Bread 3"))
+    club.anew("/order/f")  # (no row moves by itself)
+    assert browser.script(ROWS) == files
+    club.open("/order/f", "who")
+    browser.sees("Zebra", ".matrix")
+    assert [it.removesuffix("/") for it in browser.script(TEXTS, ".matrix tbody th")] == ["f", *files]
+    club.open("/order/f/apple")
+    browser.press("Move", "//main")
+    inside = ".tree > li > [role=group] > li > [role=group] > li > span > bdi"
+    wanted = [*folders[:4], "f", *folders[4:]]
+    browser.until("folders", lambda: browser.script(TEXTS, inside) == wanted)
+    browser.press("Cancel", DIALOG)
+    search_in(club, "/order/f", "")
+    ends(browser, f"{len(files)} results among")
+    assert sorted(browser.script(FOUND)) == sorted(f"/order/f/{it}" for it in files)
+
+
+def test_rows_stay_while_it_becomes_known_what_they_are(club, browser):
+    """A click opens what it was for."""
+    large = bytes(PIECE + 1)
+    club.lay("/stay/alpha/", "/stay/omega/", "/stay/zeta/", ("/stay/middle", large), ("/stay/report.pdf", large))
+    rows = {"alpha": "0 items", "middle": "64 KiB", "omega": "0 items", "zeta": "0 items", "report.pdf": "64 KiB"}
+    known = lambda: {it: row(browser, it).split("\n")[1] for it in rows} == rows
+    club.lossy.hold('"LIST"', '"/stay/')
+    club.open("/stay")
+    assert browser.script(ROWS) == [*rows]
+    browser.point("//main//a[.='omega']")
+    club.lossy.go_on()
+    browser.until("what they are", known)
+    assert browser.script(ROWS) == [*rows]
+    press_here(browser)
+    place = browser.until("what it was for", lambda: (at := browser.script(PLACE)) != "#open/club/stay" and at)
+    assert place == "#open/club/stay/omega"
+    club.open("/stay")
+    assert browser.script(ROWS) == ["alpha", "omega", "zeta", "middle", "report.pdf"]
+
+
+def press_here(browser):
+    """Presses the mouse where it is, whatever lies there by now."""
+    moves = [{"type": it, "button": 0} for it in ("pointerDown", "pointerUp")]
+    browser.ask("POST", "/actions", {"actions": [{"type": "pointer", "id": "mouse", "actions": moves}]})
+
+
+def test_the_second_click_of_a_double_click_leads_nowhere(browser, frame):
+    twice = ("return document.querySelector('.things a.name').dispatchEvent("
+             "new MouseEvent('click', {bubbles: true, cancelable: true, detail: 2}))")
+    assert browser.script(twice) is False
+
+
+# Keys
+
+def test_keys_move_in_the_list(browser, frame):
+    """Arrows, Home, End and letters."""
+    browser.keys("tab", "tab", "tab")
+    for keys, at in (["down"], "cellar"), (["end"], "notes.txt"), (["home"], "attic"), (["l"], "letter.docx"), \
+            (["up"], "bill.pdf"), (["li"], "list.xlsx"), (["right"], "More for list.xlsx"):
+        browser.keys(*keys)
+        assert (keys, browser.script(FOCUS)) == (keys, at)
+        browser.script("return new Promise((go) => setTimeout(go, 750))")  # (letters begin anew)
+
+
+def test_keys_choose_in_the_list(browser, frame):
+    """Space, Shift and an arrow, Ctrl+A and Escape."""
+    browser.keys("tab", "tab", "tab", "end", "up", "space")
+    assert browser.script(CHOSEN) == ["list.xlsx"]
+    browser.chord("shift", "down")
+    assert browser.script(CHOSEN) == ["list.xlsx", "notes.txt"]
+    browser.chord("ctrl", "a")
+    assert browser.script(CHOSEN) == NAMES
+    browser.keys("escape")
+    assert browser.script(CHOSEN) == []
+
+
+def test_f2_renames_and_delete_removes(club, browser, frame):
+    """The row has the focus behind it."""
+    browser.keys("tab", "tab", "tab", "end", "f2")
+    browser.fill("Name", "notes 2.txt")
+    browser.keys("enter")
+    browser.sees("is now", "#notices")
+    assert "notes 2.txt" in club.names(TOP)
+    in_row = "return document.activeElement.closest('tr') !== null"
+    browser.until("the row has the focus", lambda: browser.script(in_row))
+    browser.keys("delete")
+    browser.sees("Remove notes 2.txt", "dialog")
+
+
+def test_a_row_that_is_renamed_has_the_focus(browser, frame):
+    """Wherever it stands then; and the old name comes back by one press."""
+    browser.keys("tab", "tab", "tab", "end", "f2")
+    browser.fill("Name", "ahead.txt")
+    browser.keys("enter")
+    browser.until("the row", lambda: browser.script(FOCUS) == "ahead.txt")
+    browser.press("Undo")
+    browser.sees("/frame/notes.txt is there again.", "#notices")
+    browser.until("the row", lambda: browser.script(FOCUS) == "notes.txt")
+
+
+def test_a_folder_that_is_renamed_comes_back(club, browser, frame):
+    """Also where it is the one that is shown."""
+    club.open(f"{TOP}/attic")
+    of_folder(browser, "Rename")
+    browser.fill("Name", "loft")
+    browser.press("Rename", DIALOG)
+    browser.until("it is shown", lambda: browser.script(PLACE) == f"#open/club{TOP}/loft")
+    browser.press("Undo")
+    browser.until("it is shown", lambda: browser.script(PLACE) == f"#open/club{TOP}/attic")
+
+
+def test_the_bar_of_a_selection_stays_in_sight(club, browser):
+    club.lay(*(f"/many/{at:02}.txt" for at in range(60)))
+    club.open("/many")
+    browser.act("//main//input[@aria-label='Select 50.txt']", "click")
+    browser.sees("1 selected", ".chosen")
+    where = "const it = document.querySelector('.chosen').getBoundingClientRect(); return [scrollY > 0, it.top >= 0]"
+    assert browser.script(f"scrollTo(0, 9e9); {where}") == [True, True]
+
+
+def test_what_one_may_not_look_into_has_a_lock(club, browser):
+    """It may be a folder, or a large file."""
+    club.lay("/shut/in/", ("/shut/large", bytes(PIECE + 1)), "/shut/open/")
+    club.lets("eve", "/shut", VIEW)
+    for it in "in", "large":
+        club.sets(f"/shut/{it}", entry("OWNER@", ALL), flags=2)
+    club.log_in("eve")
+    club.open("/shut")
+    kinds = lambda: [row(browser, it).split("\n")[-1] for it in ("in", "large", "open")]
+    browser.until("what they are", lambda: kinds() == ["No access", "No access", "Folder"])
+    icons = "return [...document.querySelectorAll('.things .icon')].map((it) => it.classList[1])"
+    assert sorted(browser.script(icons)) == ["folder", "locked", "locked"]
+
+
+def test_a_double_click_opens(browser, frame):
+    browser.script("document.querySelector('tbody .kind').dispatchEvent(new MouseEvent('dblclick', {bubbles: true}))")
+    browser.until("it is open", lambda: browser.script(PLACE) == f"#open/club{TOP}/attic")
+
+
+def test_a_slash_leads_to_the_search(browser, frame):
+    """Alone only out of the list."""
+    browser.script(AWAY)
+    browser.keys("/")
+    assert browser.script(TO_SEARCH) is False
+    browser.chord("ctrl", "/")
+    assert browser.script(TO_SEARCH) is True
+    browser.script("document.querySelector('.things a.name').focus()")
+    browser.keys("/")
+    assert browser.script(TO_SEARCH) is True
+
+
+def test_keys_hold_for_the_whole_page(club, browser, frame):
+    """Wherever the focus is: Ctrl+A, Escape, Ctrl+Z, and Alt and an arrow."""
+    browser.script(AWAY)
+    browser.chord("ctrl", "a")
+    browser.sees("6 selected", ".chosen")
+    browser.script(AWAY)
+    browser.keys("escape")
+    browser.until("none", lambda: not browser.script("return document.querySelector('.chosen').checkVisibility()"))
+    by_menu(browser, "notes.txt", "Move")
+    to_folder(browser, "attic")
+    browser.press("Move", DIALOG)
+    browser.sees("is now", "#notices")
+    browser.script(AWAY)
+    browser.chord("ctrl", "z")
+    browser.sees("/frame/notes.txt is there again.", "#notices")
+    assert "notes.txt" in club.names(TOP)
+    browser.script(AWAY)
+    browser.chord("alt", "up")
+    browser.until("the folder above", lambda: browser.script(PLACE) == "#open/club")
+
+
+# Menus
+
+def test_menu_of_a_row(browser, frame):
+    """By right click and by keys, where the mouse was, around its end and back."""
+    browser.until("what it is", lambda: "0 items" in row(browser, "cellar"))
+    browser.script(MENU_AT, ".things tbody .kind")
+    offers(browser)
+    browser.until("it has the focus", lambda: browser.script("return document.activeElement.role") == "menuitem")
+    assert browser.script(BOX)[0] == 90
+    browser.keys("down")
+    assert browser.script(FOCUS) == "Rename"
+    browser.keys("end", "down")
+    assert browser.script(FOCUS) == "Download as zip"
+    browser.keys("escape")
+    assert browser.script(FOCUS) == "More for attic"
+
+
+def test_menu_on_a_phone(club, browser, frame):
+    """A sheet from below."""
+    browser.size(360, 740)
+    browser.press("More for attic")
+    offers(browser)
+    assert browser.script(BOX) == [0, 740]
+
+
+def test_menu_of_the_ground(club, browser, frame):
+    """A right click offers what can be made."""
+    browser.script(MENU_AT, ".drops")
+    browser.press("New folder", MENU)
+    browser.fill("Name", "made")
+    browser.press("Create")
+    browser.sees("made created.", "#notices")
+    browser.sees("made", ".things")
+
+
+def test_link(club, browser, frame):
+    """It is copied from a row's menu."""
+    browser.devtools("Browser.grantPermissions", permissions=["clipboardReadWrite", "clipboardSanitizedWrite"])
+    by_menu(browser, "notes.txt", "Copy the link")
+    browser.sees("The link is copied", "#notices")
+    reads = "navigator.clipboard.readText().then(arguments[0], (fault) => arguments[0](String(fault)))"
+    assert browser.later(reads) == club.address(f"#open/club{TOP}/notes.txt")
+
+
+# By itself
+
+def test_others_changes_are_seen_by_who_comes_back(club, browser, frame):
+    club.lay(f"{TOP}/of eve.txt")
+    browser.script("dispatchEvent(new Event('focus'))")
+    browser.sees("of eve.txt", ".things")
+
+
+def test_others_changes_are_seen_by_who_does_nothing(club, browser, frame):
+    """Here after a second in the place of a minute."""
+    quick = "const slow = setInterval; setInterval = (task, time) => slow(task, time / 60);"
+    browser.devtools("Page.addScriptToEvaluateOnNewDocument", source=quick)
+    club.log_in("ann")
+    club.open(TOP)
+    club.lay(f"{TOP}/of eve too.txt")
+    browser.sees("of eve too.txt", ".things")
+
+
+def test_others_changes_are_not_seen_where_that_is_not_wished(club, browser, frame):
+    """A folder is looked at again by itself, but not for who turned that off."""
+    comes_back = "dispatchEvent(new Event('focus')); fetch('/whoami').then(() => arguments[0]())"
+    for words, name, is_shown in ("Do not refresh by itself", "one.txt", False), ("Refresh by itself", "two.txt", True):
+        of_user(browser, words)
+        club.lay(f"{TOP}/{name}")
+        sent = club.lossy.times('"LIST"')
+        browser.later(comes_back)
+        assert (words, club.lossy.times('"LIST"') > sent) == (words, is_shown)
+    browser.sees("two.txt", ".things")
+
+
+def test_one_click_downloads_what_cannot_be_shown(club, browser, frame):
+    browser.follow("letter.docx")
+    assert len(club.saved("letter.docx")) == FRAME["letter.docx"]

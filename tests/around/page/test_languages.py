@@ -1,0 +1,36 @@
+"""The page's words in another language, of which none is lacking."""
+from .club import DIALOG, of_user
+
+SHAPES = """const [done] = arguments;
+const blanks = (it) => [...new Set([...it.matchAll(/{([0-9])/g)].map(([, at]) => at))].sort().join();
+const shape = (it) => it && typeof it === 'object' ?
+  Object.entries(it).map(([key, its]) => `${key} ${shape(its)}`).sort().join() : `${typeof it} ${blanks(it)}`;
+import('/words.js').then(async ({ LANGUAGES }) => {
+  const tables = await Promise.all(Object.keys(LANGUAGES).map((it) => import(`/words.${it}.js`)));
+  done(tables.map(({ t }) => Object.fromEntries(Object.entries(t).map(([key, it]) => [key, shape(it)])))); });"""
+HELP = ("const [done] = arguments; Promise.all(['en', 'de'].map((it) => import(`/help.${it}.js`)))"
+        ".then((all) => done(all.map((it) => it.help.split('\\n').length)))")
+
+
+def test_each_language_has_each_word(club, browser):
+    """Of the same form; and each has its help."""
+    club.open()
+    english, *others = browser.later(SHAPES)
+    assert others == [english] * len(others) and others
+    assert min(browser.later(HELP)) > 9
+
+
+def test_language_is_chosen_and_kept(club, browser):
+    club.lay("/plans/")
+    club.open()
+    of_user(browser, "Deutsch")
+    browser.sees("+ Neu", "main")
+    assert browser.script("return document.documentElement.lang") == "de"
+    browser.go("about:blank")
+    club.open("/plans")
+    browser.sees("Hochladen", "main")
+    of_user(browser, "Hilfe")
+    browser.sees("Hilfe", "dialog")
+    browser.press("Schließen", DIALOG)
+    of_user(browser, "English")
+    browser.sees("+ New", "main")

@@ -1,0 +1,170 @@
+"""Lists: the matrix of who may do what, the editor of a list, and what is offered to whom."""
+import pytest
+from room_client.words import RIGHTS, SETS
+
+from .club import ADD, ALL, BUTTONS, EDIT, MATRIX, NAME, PASS, PIECE, VIEW, entry, offers, set_list
+
+WORDS = "import('/rights.js').then((it) => arguments[0]([it.RIGHTS.map(({bit, words}) => [bit, words]), " \
+        "it.SETS.map(({name, mask}) => [name, mask])]))"
+TAKES_OVER = "//main//label[contains(., 'takes over')]"
+SUMMARIES = "return [...document.querySelectorAll('.entries > li > details > summary')].map((it) => it.textContent)"
+
+
+def saves(browser):
+    browser.press("Save the list")
+    browser.sees("Sharing updated.")
+
+
+def test_view_for_a_user(club, browser):
+    """ann lets eve read; the matrix tells it, and which entries decide."""
+    club.lay("/plans/june.txt")
+    assert club.holds({"cmd": "LIST", "path": "/plans"}, "eve") == {
+        "bit": 32, "code": 5, "error": "ACCESS", "path": "/"}
+    club.open("/plans", "who")
+    browser.sees("eve", "thead")
+    assert browser.script(MATRIX) == [[it, "Full control", "Can view", "Shut out"] for it in ("plans/", "june.txt")]
+    for path, words in ("", "Counts here alone."), \
+            ("/plans", "Counts here, and is handed down to documents and folders in it, and further down."):
+        club.open(path, "access")
+        set_list(browser, "the user", "eve", "view", here_alone=path == "")
+        browser.sees(f"Allow the user eve to view. {words}", "summary")
+        saves(browser)
+    assert club.own("/plans") == [(0, 3, VIEW, "eve")]
+    club.open("/plans", "who")
+    browser.sees("eve", "thead")
+    assert browser.script(MATRIX) == [[it, "Full control", "Can view", "Can view"] for it in ("plans/", "june.txt")]
+    browser.act("//main//tbody/tr[1]/td[3]/button", "click")
+    browser.sees("The list of /plans lets eve see what is in it, pass through to what is in it, see its owner and size "
+                 "and see its list. By its entries: 1. Allow the user eve to view.", ".detail")
+
+
+def test_a_list_of_its_own(club, browser):
+    """A document stops taking over its folder's entries, and takes them over again."""
+    club.lay("/plans/june.txt")
+    club.lets("eve", "/plans", VIEW)
+    club.open("/plans/june.txt", "access")
+    browser.sees("Handed down from the folder above")
+    browser.sees("Without the tick, what is handed down now stays, as entries of its own", "main")
+    browser.act(TAKES_OVER, "click")
+    browser.sees("What was handed down stands among its own entries now", "main")
+    browser.act(TAKES_OVER, "click")
+    browser.sees("Nothing is in it.", "main")
+    browser.act(TAKES_OVER, "click")
+    browser.sees("Allow the user eve to view.", ".entries details")
+    browser.act("//main//ol[1]/li[1]//summary", "click")
+    browser.press("Remove", "//main//ol[1]/li[1]")
+    saves(browser)
+    found = club.holds({"cmd": "GETLIST", "path": "/plans/june.txt"})
+    assert (found["aclflag"], [(it["flag"], it["who"]) for it in found["entries"]]) == (
+        2, [(0, "OWNER@"), (0, "GROUP@")])
+    browser.act(TAKES_OVER, "click")
+    saves(browser)
+    browser.sees("Allow the user eve to view.", ".handed")
+
+
+def test_two_change_a_list(club, browser):
+    """An unknown user is pointed out; then both lists are shown."""
+    path = "/june.txt"
+    club.lay(path)
+    club.open(path, "access")
+    set_list(browser, "the user", "nobody-here", "view")
+    browser.sees("nobody-here is no user of this room's roster.", "main")
+    club.sets(path, entry("bob", 1, 0))
+    browser.press("Save the list")
+    browser.sees("nobody-here is no user", "dialog")
+    browser.press("Set it all the same")
+    browser.sees("Somebody changed this meanwhile", "dialog")
+    browser.sees("Allow the user bob to read it.", "dialog")
+    browser.sees("Allow the user nobody-here to view.", "dialog")
+    browser.press("Take theirs")
+    browser.sees("Allow the user bob to read it.", "summary")
+    assert club.own(path) == [(0, 0, 1, "bob")]
+
+
+def test_one_vocabulary(club, browser):
+    """The page's words for rights and sets are those of the command."""
+    club.open()
+    rights, sets = browser.later(WORDS)
+    assert sorted(rights) == sorted([bit, list(dict.fromkeys(words[:2]))] for bit, *words in RIGHTS)
+    assert dict(sets) == {name: mask for name, mask in SETS.items() if name != "none"}
+
+
+# A large file
+
+@pytest.fixture
+def whole(club):
+    """One that bob may view and eve may edit, in such a folder."""
+    club.lets("eve", "/", PASS, 0)
+    club.lay("/whole/")
+    club.sets("/whole", entry("OWNER@", ALL), entry("bob", VIEW), entry("eve", EDIT), flags=2)
+    club.lay(("/whole/large", bytes(PIECE + 1)), "/whole/small")
+    return "/whole/large"
+
+
+@pytest.fixture
+def closed(club, whole):
+    """The same, with a list of its own that has not all for its pieces."""
+    own = entry("OWNER@", ALL), entry("bob", VIEW, 0), entry("eve", VIEW)
+    club.sets(whole, *own, flags=2)
+    return list(own)
+
+
+def test_matrix_of_a_large_file(club, browser, whole):
+    """It is one document."""
+    levels = ["Full control", "Can view", "Can add and edit"]
+    club.open("/whole", "who")
+    assert browser.script(MATRIX) == [[it, *levels] for it in ("whole/", "large", "small")]
+    club.open(whole, "who")
+    assert browser.script(MATRIX) == [["large", *levels]]
+
+
+def test_matrix_of_a_large_file_whose_pieces_are_closed(club, browser, whole, closed):
+    assert club.holds({"cmd": "READ", "path": f"{whole}/{NAME}"}, "bob")["code"] == 5
+    club.open("/whole", "who")
+    assert browser.script(MATRIX)[1] == ["large", "Full control", "Some", "Can view"]
+    browser.act("//main//tbody/tr[2]/td[2]/button", "click")
+    browser.sees(f"The list of {whole} lets bob see its owner and size and see its list.", ".detail")
+
+
+def test_list_of_a_large_file(club, browser, whole, closed):
+    """In words it is a document's, and what is given counts for its pieces."""
+    club.open(whole, "access")
+    browser.sees("One must also pass through each folder above.", "main")
+    assert browser.script(SUMMARIES) == [
+        "Allow its owner (ann) to do all.", "Allow the user bob to view. Counts here alone.",
+        "Allow the user eve to view."]
+    set_list(browser, "the user", "bob", "edit")
+    assert browser.script(SUMMARIES)[0] == "Allow the user bob to edit."
+    assert "Counts for" not in browser.text_of("main")
+    saves(browser)
+    assert club.holds({"cmd": "GETLIST", "path": whole})["entries"] == [entry("bob", EDIT | 0x40), *closed]
+    assert club.holds({"cmd": "READ", "path": f"{whole}/{NAME}"}, "bob")["code"] == 0
+
+
+# What is offered
+
+@pytest.mark.parametrize("mask, wanted", [
+    (VIEW, ["Download", "Copy"]), (ADD, ["Add text", "Download", "Copy"]),
+    (EDIT, ["Add text", "Edit", "Download", "Upload a new version", "Copy"]),
+    (ALL, ["Add text", "Edit", "Download", "Upload a new version", "Rename", "Move", "Copy", "Remove"])],
+    ids=["view", "add", "edit", "all"])
+def test_what_a_document_offers(club, browser, mask, wanted):
+    """What one's rights refuse is not."""
+    club.lay("/other/dot.txt")
+    club.lets("eve", "/other", mask)
+    club.log_in("eve")
+    club.open("/other/dot.txt")
+    assert browser.script(BUTTONS) == wanted
+
+
+def test_what_a_folder_and_its_rows_offer(club, browser):
+    club.lay("/other/dot.txt")
+    club.lets("eve", "/other", VIEW)
+    club.log_in("eve")
+    club.open("/other")
+    browser.sees("dot.txt", ".things")
+    browser.act("//main//h1/button", "click")
+    assert offers(browser) == ["Download as zip", "Copy", "Copy the link"]
+    browser.keys("escape")
+    browser.press("More for dot.txt")
+    assert offers(browser) == ["Download", "Copy", "Copy the link"]

@@ -1,0 +1,117 @@
+"""Pictures and PDFs: small in a folder, shown where they are opened, never run, and nothing that moves by itself (WCAG
+2.2, criterion 2.2.2)."""
+import pytest
+
+from .club import PIECE, TOP
+from .drawn import PDF, PNG, RED, SVG, apng, gif, png, webp
+
+# what is shown small of each thing in the list, by its name
+SMALL = ("return Object.fromEntries([...document.querySelectorAll('.things tbody tr')].map((it) => "
+         "[it.querySelector('.name').textContent, it.querySelector('.small-picture')?.firstChild?.tagName ?? null]))")
+WIDTHS = ("return [...document.querySelectorAll('.things tr')].filter((it) => it.querySelector('.small-picture'))"
+          ".map((it) => [it.querySelector('bdi').textContent, it.querySelector('img')?.naturalWidth ?? null]).sort()")
+SHOWN = "return document.querySelector('.picture > :is(img, canvas):not([hidden])')?.tagName"
+WIDTH = "const it = document.querySelector('.picture img'); return it && [it.complete, it.naturalWidth]"
+DOT = ("return [...document.querySelector('.picture canvas').getContext('2d').getImageData(0, 0, 1, 1).data]"
+       ".slice(0, 3)")
+PLAYS = "return document.querySelector('.picture button') !== null"
+HEAD = "return document.querySelector('h1').textContent"
+MOVING = {"a.gif": gif(0, 1), "b.png": apng(), "c.webp": webp()}
+STILL = {"d.gif": gif(0), "e.png": png(1, 1, 2, [RED])}
+
+
+def lay(club, things):
+    club.lay(*((f"{TOP}/{name}", data) for name, data in things.items()))
+
+
+# In a folder
+
+def test_small_pictures(club, browser):
+    """Also of large files, by what their bytes are, and up to a size, of pixels too."""
+    lay(club, {"dot.png": PNG, "not.png": SVG, "large.png": PNG + bytes(PIECE), "huge.png": PNG + bytes(1 << 20),
+               "some.png": bits(800), "vast.png": bits(20_000)})
+    club.open(TOP)
+    wanted = [["dot.png", 1], ["large.png", 1], ["some.png", 800]]
+    browser.until("small pictures", lambda: browser.script(WIDTHS) == wanted)
+    assert [it for it in club.lossy.bodies if b"huge.png/.room-pieces" in it] == []
+    heights = "return [...document.querySelectorAll('.things tbody tr')].map((it) => it.offsetHeight)"
+    assert len({*browser.script(heights)}) == 1  # (a row without one is as high)
+
+
+def bits(side):
+    """A picture of few bytes, with a bit a pixel."""
+    return png(side, side, 0, [bytes(side // 8)] * side, depth=1)
+
+
+def test_small_pictures_stand_still(club, browser):
+    lay(club, MOVING | STILL)
+    club.open(TOP)
+    wanted = {**dict.fromkeys(MOVING, "CANVAS"), **dict.fromkeys(STILL, "IMG")}
+    browser.until("small pictures", lambda: browser.script(SMALL) == wanted)
+
+
+# Where they are opened
+
+@pytest.mark.parametrize("name", [*MOVING, *STILL])
+def test_a_picture_stands_still_until_play(club, browser, name):
+    """Of one that moves the first one is shown."""
+    lay(club, MOVING | STILL)
+    moves, first = name in MOVING, "CANVAS" if name in MOVING else "IMG"
+    club.open(f"{TOP}/{name}")
+    browser.until("it", lambda: browser.script(SHOWN))
+    assert (browser.script(SHOWN), browser.script(PLAYS)) == (first, moves)
+    if moves and not name.endswith("webp"):
+        assert browser.script(DOT) == [255, 0, 0]
+    for words, shown in [("Play", "IMG"), ("Stop", "CANVAS")] if moves else []:
+        browser.press(words, "//main")
+        assert browser.script(SHOWN) == shown
+
+
+def test_a_picture_is_shown_by_how_it_begins(club, browser):
+    lay(club, {"dot.txt": PNG})
+    club.open(f"{TOP}/dot.txt")
+    assert browser.until("it", lambda: browser.script(WIDTH)) == [True, 1]
+
+
+@pytest.mark.parametrize("name", ["picture.svg", "never.png"])
+def test_an_svg_is_text_and_runs_nothing(club, browser, name):
+    lay(club, {name: SVG})
+    club.open(f"{TOP}/{name}")
+    browser.sees("window.ran=1", "pre")
+    assert browser.script("return window.ran ?? null") is None
+
+
+def test_a_picture_of_very_many_pixels_is_not_shown(club, browser):
+    lay(club, {"vast.png": bits(20_000)})
+    club.open(f"{TOP}/vast.png")
+    browser.sees("This cannot be shown here", "main")
+    assert browser.script("return document.querySelectorAll('main img').length") == 0
+
+
+def test_pictures_turn(club, browser):
+    """By a click and by an arrow."""
+    lay(club, {"one.png": PNG, "two.png": PNG})
+    club.open(f"{TOP}/one.png")
+    browser.follow("Next picture ›")
+    browser.until("the next one", lambda: browser.script(HEAD) == "two.png")
+    browser.keys("left")
+    browser.until("the one before", lambda: browser.script(HEAD) == "one.png")
+
+
+@pytest.mark.parametrize("data", [PDF, PDF + bytes(PIECE)], ids=["small", "large"])
+def test_a_pdf(club, browser, data):
+    """One click shows it by the browser's viewer, another in a tab of its own, and never as a page."""
+    lay(club, {"minutes.pdf": data})
+    club.open(TOP)
+    browser.follow("minutes.pdf")
+    frame = "return document.querySelector('iframe.viewer')?.getBoundingClientRect().height > 300"
+    browser.until("it is in the page", lambda: browser.script(frame))
+    before, shown = browser.tabs(), "return [document.contentType, window.ran ?? null, window.opener]"
+    browser.follow("Open this PDF in a tab of its own")
+    new = browser.until("a tab", lambda: {*browser.tabs()} - {*before})
+    browser.turn_to(*new)
+    kind = browser.until("its kind", lambda: browser.script("return location.href !== 'about:blank'") and
+                         browser.script(shown))
+    assert kind == ["application/pdf", None, None]
+    browser.close_tab()
+    browser.turn_to(before[0])

@@ -1,0 +1,237 @@
+"""Something is shared, and those with whom can get there."""
+import pytest
+
+from .club import (ADD, ALL, CHANGE, DIALOG, EDIT, GROUP, MENU, PASS, TEXTS, VIEW, WORK_HERE, entry, set_list,
+                   share)
+
+TOP, PATH = "/board", "/board/plans"
+SHARES = ("return [...document.querySelectorAll('.shares li')].map((it) => [it.querySelector('span').textContent, "
+          "it.querySelector('button').textContent])")
+STAFF = GROUP | 3
+
+
+@pytest.fixture
+def board(club):
+    """A folder that lets nobody but its owner pass, and one in it, which is looked at."""
+    club.lay(f"{TOP}/")
+    club.sets(TOP, entry("OWNER@", ALL), flags=2)
+    club.lay(f"{PATH}/")
+
+
+@pytest.fixture
+def passed(club, board):
+    """The same, which lets the staff pass."""
+    club.sets(TOP, entry("staff", PASS, GROUP), entry("OWNER@", ALL), flags=2)
+
+
+def give(browser, what):
+    """Chooses it in the menu of the first who has something."""
+    browser.act("//main//*[@class='shares']/li[1]/button", "click")
+    browser.press(what, MENU)
+
+
+def test_a_saved_list_that_lets_nobody_get_there(club, browser, board):
+    """A folder above lets those whom the list names not pass: it is told."""
+    club.open(PATH, "access")
+    set_list(browser, "the user", "bob", "view")
+    browser.press("Save the list")
+    browser.sees("Not everyone can get there yet", "dialog")
+    browser.sees("bob cannot get through /board.", "dialog")
+    browser.press("Close", DIALOG)
+    browser.sees("Sharing updated. These cannot get there, or not do it: bob.", "#notices")
+    assert club.own(TOP) == [(0, 3, ALL, "OWNER@")]
+
+
+def test_share_with_a_group(club, browser, board):
+    """By two choices; its members are let pass, work in it, and cannot remove it."""
+    club.open(PATH, "access")
+    share(browser, "staf", "Can view")
+    browser.sees("Nobody here is called staf.", ".share")
+    share(browser, "staff", "Can edit and delete")
+    browser.sees("bob cannot get through /board", "dialog")
+    browser.press("Allow")
+    browser.sees("Sharing updated. Checked: the group staff can get there.", "#notices")
+    assert club.own(TOP) == [(0, GROUP, PASS, "staff"), (0, 3, ALL, "OWNER@")]
+    assert club.own(PATH) == [(0, GROUP, WORK_HERE, "staff"), (0, GROUP | 0xB, CHANGE, "staff"), (0, 3, ALL, "ann")]
+    browser.until("it is one line", lambda: browser.script(SHARES) == [["the group staff", "Can edit and delete"]])
+    club.lay(f"{PATH}/of ann")
+    club.does(*({"cmd": cmd, "path": f"{PATH}{name}"} for cmd, name in (
+        ("LIST", ""), ("MKDIR", "/of bob"), ("REMOVE", "/of bob"), ("REMOVE", "/of ann"))), user="bob")
+    told = club.holds_all([{"cmd": "REMOVE", "path": PATH}, {"cmd": "LIST", "path": TOP}], "bob")
+    assert [(it["code"], it["bit"]) for it in told] == [(5, 0x10000), (5, 1)]
+
+
+def test_share_is_changed(club, browser, passed):
+    club.sets(PATH, entry("staff", WORK_HERE, GROUP), entry("staff", CHANGE, GROUP | 0xB))
+    club.open(PATH, "access")
+    give(browser, "Can view")
+    browser.until("view", lambda: club.own(PATH) == [(0, STAFF, VIEW, "staff")])
+    browser.sees("Sharing updated.", "#notices")
+    of = "return document.activeElement.closest('.shares li')?.innerText ?? document.activeElement.tagName"
+    browser.until("the menu led back", lambda: "the group staff" in browser.script(of))
+
+
+def test_share_in_the_place_of_odd_entries(club, browser, passed):
+    club.sets(PATH, entry("staff", 0x1200AD, STAFF))
+    club.open(PATH, "access")
+    browser.sees("Custom", ".share")
+    share(browser, "staff", "Can view")
+    browser.until("it takes their place", lambda: club.own(PATH) == [(0, STAFF, VIEW, "staff")])
+    browser.sees("the group staff", ".shares")
+
+
+def test_share_beside_a_denial(club, browser, passed):
+    """What a list denies is told where it decides; what is shared is taken away again."""
+    club.sets(PATH, entry("bob", 0x10006, 3, kind=1), entry("staff", VIEW, STAFF))
+    club.open(PATH, "access")
+    browser.sees("Denied", ".share")
+    give(browser, "Full control")
+    browser.sees("bob may still not make folders in it, make documents in it and remove or rename it", "dialog")
+    browser.press("Close", DIALOG)
+    browser.sees("These cannot get there, or not do it: bob.", "#notices")
+    browser.press("Stop sharing with the group staff")
+    browser.until("it is gone", lambda: club.own(PATH) == [(1, 3, 0x10006, "bob")])
+
+
+def given(browser):
+    """Who has it otherwise than by a level of their own."""
+    return browser.script(TEXTS, ".given li")
+
+
+def test_share_tells_all_who_have_access(club, browser, board):
+    """The owner, who has it from above and from where, what is custom, and what is denied."""
+    club.sets(TOP, entry("bob", VIEW), entry("eng", EDIT, STAFF), flags=2)
+    club.sets(PATH, entry("eve", ADD), entry("bob", 0x10000, kind=1))
+    club.open(PATH, "access")
+    wanted = ["annowner", "eveCustom×eve cannot get here yet. Allow", "bobCan view from /board",
+              "the group engCan add and edit from /board", "bobDenied"]
+    browser.until("all that is told", lambda: given(browser) == wanted)
+    assert "nobody" not in browser.text_of(".share")
+
+
+def test_share_lets_those_get_there_who_cannot(club, browser, board):
+    """Beside each who cannot, by one press; and back."""
+    club.sets(PATH, entry("bob", VIEW))
+    club.open(PATH, "access")
+    browser.sees("bob cannot get here yet.", ".shares")
+    browser.press("Allow", "//main")
+    browser.sees("Checked: the user bob can get there.", "#notices")
+    assert club.own(TOP) == [(0, 0, PASS, "bob"), (0, 3, ALL, "OWNER@")]
+    browser.press("Undo")
+    browser.sees("Sharing is as it was.", "#notices")
+    assert club.own(TOP) == [(0, 3, ALL, "OWNER@")]
+
+
+def test_share_is_ended_and_comes_back(club, browser, passed):
+    club.sets(PATH, entry("bob", VIEW), entry("staff", VIEW, STAFF))
+    before = club.holds({"cmd": "GETLIST", "path": PATH})
+    club.open(PATH, "access")
+    browser.press("Stop sharing with bob")
+    browser.until("it is gone", lambda: [it[3] for it in club.own(PATH)] == ["staff"])
+    browser.press("Undo")
+    browser.sees("Sharing is as it was.", "#notices")
+    assert club.holds({"cmd": "GETLIST", "path": PATH}) == before
+
+
+def test_share_comes_back_over_nobody_elses(club, browser, passed):
+    """A list that somebody set since is left."""
+    club.sets(PATH, entry("bob", VIEW))
+    club.open(PATH, "access")
+    browser.press("Stop sharing with bob")
+    browser.sees("Sharing updated.", "#notices")
+    club.sets(PATH, entry("eve", VIEW))
+    browser.press("Undo")
+    browser.sees("Somebody changed this meanwhile", "#notices")
+    assert [it[3] for it in club.own(PATH)] == ["eve"]
+
+
+def test_share_is_made_private(club, browser, board):
+    """For its owner alone, by one press; and back."""
+    club.sets(TOP, entry("eng", VIEW, STAFF), flags=2)
+    club.sets(PATH, entry("bob", EDIT))
+    before = club.holds({"cmd": "GETLIST", "path": PATH})
+    club.open(PATH, "access")
+    browser.press("Make private")
+    browser.sees("Sharing updated.", "#notices")
+    told = club.holds({"cmd": "GETLIST", "path": PATH})
+    assert (told["aclflag"], club.own(PATH)) == (2, [(0, 3, ALL, "ann")])
+    assert club.holds({"cmd": "LIST", "path": PATH}, "bob")["code"] == 5
+    browser.sees("Only its owner has access.", ".share")
+    browser.press("Undo")
+    browser.sees("Sharing is as it was.", "#notices")
+    assert club.holds({"cmd": "GETLIST", "path": PATH}) == before
+
+
+@pytest.mark.parametrize("keeps, level, whos", [
+    (True, "Can add and edit", ["staff", "ann"]), (False, "Can add and edit", ["staff"]),
+    (True, "Can view", ["staff"])], ids=["kept", "not kept", "nothing to keep"])
+def test_share_for_the_first_time_keeps_the_owners_access(club, browser, passed, keeps, level, whos):
+    """To what others add, unless the tick is taken away, or nothing can be added."""
+    club.open(PATH, "access")
+    if not keeps:
+        browser.act("//main//label[contains(., 'Keep full access for me')]/input", "click")
+    share(browser, "staff", level)
+    browser.sees("Sharing updated.", "#notices")
+    assert [it[3] for it in club.own(PATH)] == whos
+
+
+def test_share_by_keys_with_people_by_name(club, browser, passed, tells):
+    """Of those whose names fit one is taken; two of a name are told apart."""
+    tells("names.json", {"ann": "Ann Lee", "bob": "Bob Ray", "eve": "bob ray"})
+    club.log_in("ann")
+    club.open(PATH, "access")
+    field = "//main//input[@role='combobox']"
+    browser.act(field, "value", {"text": "bob"})
+    assert browser.script(TEXTS, ".fits:not([hidden]) li") == ["Bob Ray (bob)", "bob ray (eve)"]
+    share(browser, "Bob Ray", "Can view")
+    browser.sees("Bob Ray are several people. Choose one by login: Bob Ray (bob) and bob ray (eve).", ".share")
+    browser.act(field, "clear")
+    browser.act(field, "value", {"text": "bob"})
+    browser.keys("down", "down", "up", "enter", "enter")
+    browser.until("it is shared", lambda: club.own(PATH) == [(0, 3, VIEW, "bob")])
+
+
+def test_share_with_the_folders_owner(club, browser, board):
+    """What a folder's owner may not do with what others make in it is said, and mended by one click."""
+    club.open(PATH, "access")
+    browser.sees("ann owns this folder, and cannot yet open or edit what others add to it.", ".share")
+    browser.press("Give ann full access")
+    browser.sees("Checked: the user ann can get there.", "#notices")
+    assert club.own(PATH) == [(0, 3, ALL, "ann")]
+    browser.until("it is said no more", lambda: "cannot yet open" not in browser.shown())
+
+
+def test_share_with_more_than_a_list_holds(club, browser):
+    """A list's 17th name is told before, and one group is offered in the place of its members."""
+    path = "/shared"
+    club.lay(f"{path}/")
+    club.sets(path, *(it for who in ["ann", *(f"gone{at}" for at in range(15))]
+                      for it in (entry(who, WORK_HERE, 0), entry(who, CHANGE, 0xB))))
+    club.open(path, "access")
+    share(browser, "eve", "Can edit and delete")
+    browser.sees("This would make 34 entries, and 32 are the most. Share it with a group", ".share")
+    share(browser, "bob", "Can edit and delete")
+    browser.sees("The group eng has 0 other members.", ".share")
+    browser.press("Share it with eng, in place of 2 of its members")
+    browser.press("Set it all the same")  # (of the others none is in this roster)
+    browser.sees("Checked: the group eng can get there.", "#notices")
+    whos = [it[3] for it in club.own(path)]
+    assert (len(whos), "ann" in whos, whos[-2:]) == (32, False, ["eng", "eng"])
+
+
+def test_share_shows_names_as_people_write_them(club, browser, passed, tells):
+    """Where the front tells these."""
+    club.sets(PATH, entry("ann", ALL))
+    tells("names.json", {"ann": "Ann <b>Lee", "bob": "Bob Ray"})
+    club.log_in("ann")
+    club.open(TOP)
+    browser.sees("owner Ann <b>Lee (ann), group eng", "main")
+    club.open(PATH, "access")
+    assert browser.script(TEXTS, ".given li")[0] == "Ann <b>Lee (ann)owner, with full access to what others add"
+    share(browser, "bob ray", "Can view")
+    browser.sees("Sharing updated.")
+    assert club.own(PATH) == [(0, 3, ALL, "ann"), (0, 3, VIEW, "bob")]
+    browser.until("it is shown", lambda: browser.script(SHARES) == [["Bob Ray (bob)", "Can view"]])
+    club.open(PATH, "who")
+    titles = browser.script("return [...document.querySelectorAll('.matrix thead th')].map((it) => it.title)")
+    assert titles[1:3] == ["Ann <b>Lee", "Bob Ray"]

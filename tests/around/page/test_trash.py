@@ -1,0 +1,186 @@
+"""The trash: what is removed goes there, where its owner is the caller alone, and comes back from there."""
+import re
+from urllib.parse import quote
+
+import pytest
+from room_client import trash
+
+from .club import ALL, DIALOG, MENU, TEXTS, TYPED, USERS, by_menu, entry, of_folder, offers, remove, row, to_folder
+
+OLD, (TRASH, *_) = "/trash/ann", trash.places_of("ann")  # (the first is that of rooms of before)
+STAMP = "20261126214307"
+WIDE = 15 * "\u00e4" + ".txt"
+FOCUSED = "return document.activeElement.textContent"
+ACTIONS = "return [...document.querySelectorAll('dialog .actions button')].map((it) => [it.textContent, it.className])"
+MAKERS = "main > .makers > *"
+
+
+@pytest.fixture
+def thrown(club):
+    """A folder with something in it that is to be removed, and is shown."""
+    club.lay("/other/thrown.txt", "/other/t/sub/a.txt", "/other/t/b.txt", "/other/t/sub/deep/")
+
+
+@pytest.fixture
+def trashes(club):
+    """A trash for each, as `fileroom-admin` makes them."""
+    for who in USERS:
+        club.make_trash(trash.places_of(who)[0], who)
+
+
+# Removed
+
+def test_remove_for_good_where_there_is_no_trash(club, browser, thrown):
+    """It is told why, and how much goes with it; it is not at hand."""
+    club.open("/other/t")
+    of_folder(browser, "Remove")
+    browser.sees("There is no trash of yours: your administrator can make you one.", "dialog")
+    browser.sees("It cannot be brought back.", "dialog")
+    browser.sees("With it go 2 documents and 2 folders that are in it.", "dialog")
+    assert (browser.script(FOCUSED), browser.script(ACTIONS)) == ("Cancel", [["Cancel", ""], ["Remove", ""]])
+    browser.press("Remove", DIALOG)
+    browser.sees("/other/t is removed.", "#notices")
+    assert club.names("/other") == ["thrown.txt"]
+
+
+def test_remove_to_the_trash_and_put_back(club, browser, thrown):
+    """By a name that tells where it came from, and when."""
+    club.make_trash()
+    club.open("/other")
+    by_menu(browser, "t", "Remove")
+    browser.sees("It goes to the trash, /trash/ann, and can be restored from there.", "dialog")
+    browser.press("Remove", DIALOG)
+    browser.sees("/other/t is in the trash.", "#notices")
+    name, = club.names(OLD)
+    assert re.fullmatch(r"t~other~[0-9]{14}", name)
+    club.open(OLD)
+    browser.until("how much is in it", lambda: " item" in row(browser, "t"))
+    assert re.fullmatch(r"t\n+was in /other, removed .*20\d\d.*\d:\d\d.*\n.* items?\nFolder", row(browser, "t"))
+    by_menu(browser, "t", "Restore")
+    browser.sees("/other/t is there again.", "#notices")
+    assert (club.names("/other"), club.names(OLD)) == (["t", "thrown.txt"], [])
+
+
+def test_remove_from_the_trash_for_good(club, browser):
+    club.make_trash()
+    club.lay(f"{OLD}/t~other~{STAMP}/")
+    club.open(OLD)
+    browser.follow("t")
+    browser.sees("group eng, was in /other, removed ", "main .about")
+    club.open(OLD)
+    by_menu(browser, "t", "Remove")
+    browser.sees("It cannot be brought back.", "dialog")
+    browser.press("Remove", DIALOG)
+    browser.sees("is removed.", "#notices")
+    assert club.names(OLD) == []
+
+
+# Emptied
+
+def test_trash_is_emptied(club, browser, thrown, trashes):
+    """It asks first, and once."""
+    club.open("/other/thrown.txt")
+    browser.press("Remove", "//main")
+    browser.sees(f"It goes to the trash, {TRASH},", "dialog")
+    browser.press("Remove", DIALOG)
+    browser.sees("/other/thrown.txt is in the trash.", "#notices")
+    club.lay(f"{TRASH}/more.txt~other~{STAMP}")
+    club.open()
+    browser.act("//header//a[.='Trash']", "click")
+    browser.until("where they were", lambda: browser.shown().count("was in /other, removed ") == 2)
+    assert browser.script(TEXTS, MAKERS) == ["Empty the trash"]
+    browser.press("Empty the trash")
+    browser.sees("With it go 2 documents that are in it.", "dialog")
+    browser.press("Cancel", DIALOG)
+    assert len(club.names(TRASH)) == 2
+    browser.press("Empty the trash")
+    browser.press("Empty the trash", DIALOG)
+    browser.sees("2 items are removed.", "#notices")
+    assert club.names(TRASH) == []
+    browser.sees("Trash of ann", "h1")
+    browser.until("it is not emptied once more", lambda: "Empty the trash" not in browser.shown())
+
+
+def test_trash_is_at_hand_everywhere(club, browser, thrown, trashes):
+    """And what is in it comes back by one press."""
+    club.open("/other/t")
+    browser.sees("Trash", "header")
+    of_folder(browser, "Remove")
+    browser.press("Remove", DIALOG)
+    browser.sees("/other/t is in the trash.", "#notices")
+    browser.act("//header//a[.='Trash']", "click")
+    browser.press("Restore t", "//main")
+    browser.sees("/other/t is there again.", "#notices")
+    assert "t" in club.names("/other")
+
+
+def test_trash_that_is_not_there_has_no_way(club, browser):
+    club.open()
+    assert browser.script("return document.getElementById('trash').hidden") is True
+
+
+def test_trash_on_a_phone(club, browser, trashes):
+    """Names have some room."""
+    club.lay(f"{TRASH}/more.txt~other~{STAMP}")
+    browser.size(360, 740)
+    club.open(TRASH)
+    browser.sees("was in /other, removed ", ".things")
+    assert browser.script("return document.querySelector('.things tbody th').offsetWidth") > 100
+
+
+def test_trash_of_somebody_else_is_not_removed(club, browser, trashes):
+    club.go("#open/club/trash/%400")
+    browser.press("More for eve")
+    assert "Remove" not in offers(browser)
+
+
+def test_trash_that_is_emptied_keeps_what_is_locked(club, browser, trashes):
+    """One thing in it that somebody else locked stays alone."""
+    club.lay("/a/", "/b/")
+    club.sets("/a", entry("EVERYONE@", ALL), flags=2)
+    club.does({"cmd": "MKDIR", "path": "/a/m"}, {"cmd": "CREATE", "data": "", "path": "/a/m/x"},
+              {"aclflag": 2, "cmd": "SETLIST", "entries": [entry("bob", ALL)], "path": "/a/m"}, user="bob")
+    club.does(*({"cmd": "RENAME", "path": f"/{name}", "to": f"{TRASH}/{name}"} for name in "ab"))
+    club.go(f"#open/club{quote(TRASH)}")
+    browser.press("Empty the trash")
+    browser.press("Empty the trash", DIALOG)
+    browser.until("the others are gone", lambda: club.names(TRASH) == ["a"])
+    browser.sees("1 of ", "#notices")
+    browser.sees(" failed", "#notices")
+
+
+# Put back
+
+@pytest.mark.parametrize("called, name, why, free", [
+    ("taken.txt", f"taken.txt~other~{STAMP}", "Something else has the name /other/taken.txt now.", "taken (2).txt"),
+    ("gone.txt", f"gone.txt~left~{STAMP}", "The folder where it was, /left, is there no more.", "gone.txt"),
+    (WIDE, f"{WIDE}~…~{STAMP}", "Its name does not tell where it was.", WIDE)],
+    ids=["taken", "gone", "unknown"])
+def test_put_back_elsewhere(club, browser, trashes, called, name, why, free):
+    """What cannot go back to where it was goes where the user says, by its own name."""
+    club.lay("/other/taken.txt", (f"{TRASH}/{name}", b"hi"))
+    club.go(f"#open/club{quote(TRASH)}")
+    browser.press(f"More for {called}")
+    assert offers(browser) == ["Download", "Restore", "Move", "Copy", "Remove"]
+    browser.press("Restore", MENU)
+    browser.sees(why, "dialog")
+    if called != "taken.txt":
+        to_folder(browser, "other")
+    browser.sees("To the folder /other", "dialog")
+    assert browser.script(TYPED) == free
+    browser.fill("Name", f"back {called}")
+    browser.press("Restore", DIALOG)
+    browser.sees(f"/other/back {called} is there again.", "#notices")
+    assert (club.text(f"/other/back {called}"), club.names(TRASH)) == ("hi", [])
+
+
+def test_trash_that_is_full(club, browser, thrown, trashes):
+    """It is said what to do, and nothing is lost."""
+    club.lay(*(f"{TRASH}/{count}" for count in range(256)))
+    club.open("/other/thrown.txt")
+    remove(browser)
+    browser.sees("The trash is full: it has 256 items. Empty it, or remove this for good.", "dialog")
+    assert "thrown.txt" in club.names("/other")
+    browser.act(f"{DIALOG}//label[contains(., 'for good')]", "click")
+    browser.press("Remove", DIALOG)
+    browser.sees("/other/thrown.txt is removed.", "#notices")

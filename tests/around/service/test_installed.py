@@ -1,0 +1,137 @@
+"""What `make install` puts, with its modes, and what is left after `make uninstall`; each unit by systemd's own tools,
+the man pages by groff, root's scripts by shellcheck; and the installed client at a room."""
+import os
+import re
+import stat
+import subprocess
+
+import pytest
+from served import HERE, PROGRAM, Room, bytes_of, text_of
+
+from .contents import SERVICE, below
+from .machines import FOLDER
+
+TOP = os.path.join(HERE, "..")
+SHARE = "share/fileroom"
+ROSTER = "share/doc/fileroom/roster.toml"
+ROWS = [it.split() for it in text_of(os.path.join(FOLDER, "installed.txt")).splitlines() if it[:1].isdigit()]
+MODES, EXPOSURES = {it[1]: f"0o{it[0]}" for it in ROWS}, {it[1]: float(it[2]) for it in ROWS if len(it) > 2}
+UNITS = [it for it in MODES if it.startswith("lib/systemd/system/fileroom")]
+PAGES = [it for it in MODES if it.startswith("share/man")]
+FOLDERS = {  # whole folders of the checkout: where each is installed, and what of it
+    "client/room_client": (f"{SHARE}/client/room_client", r".*\.py"),
+    "dav/fileroom_dav": (f"{SHARE}/dav/fileroom_dav", r".*\.py"),
+    "service/admin/fileroom_admin": (f"{SHARE}/admin/fileroom_admin", r".*\.py"),
+    "page": (f"{SHARE}/page", r".*\.(html|css|js|svg)"),
+    "front": (f"{SHARE}/front", r".*\.conf"),
+    "service/fail2ban": ("share/doc/fileroom/fail2ban", r".*\.conf"),
+}
+# each file of these as it is installed, with where it stands in the checkout
+IN_FOLDERS = {f"{to}/{name}": os.path.join(TOP, it, name) for it, (to, which) in FOLDERS.items()
+              for name in os.listdir(os.path.join(TOP, it)) if re.fullmatch(which, name)}
+
+
+def said(*words):
+    """The status, and all that a command says."""
+    how = {"capture_output": True, "text": True, "timeout": 60, "env": {**os.environ, "FILEROOM": PROGRAM}}
+    done = subprocess.run(words, **how)
+    return done.returncode, done.stdout, done.stderr
+
+
+def newest():
+    """The version that CHANGES tells first."""
+    return re.search(r"(?m)^## (\d+\.\d+\.\d+)", text_of(os.path.join(TOP, "docs", "CHANGES.md")))[1]
+
+
+@pytest.fixture(scope="module")
+def top(tmp_path_factory):
+    """Where it is installed."""
+    at = str(tmp_path_factory.mktemp("usr"))
+    status, _, faults = said(os.path.join(SERVICE, "install"), "", at)
+    assert (status, faults) == (0, "")
+    return at
+
+
+def test_each_file_with_its_mode(top):
+    modes = {it: oct(stat.S_IMODE(os.stat(os.path.join(top, it)).st_mode)) for it in below(top)}
+    assert modes == MODES | dict.fromkeys(IN_FOLDERS, "0o644")
+
+
+def test_what_is_left_when_it_is_taken_away(folder):
+    said(os.path.join(SERVICE, "install"), "", folder)
+    open(os.path.join(folder, "etc-that-stays"), "w").close()
+    status, _, faults = said(os.path.join(SERVICE, "install"), "--remove", "", folder)
+    assert (status, faults, below(folder)) == (0, "", ["etc-that-stays"])
+
+
+def test_versions(top):
+    for word in "--version", "-V":
+        assert said(os.path.join(top, "bin/fileroom"), word) == (0, f"fileroom {newest()}\n", "")
+    for it in PAGES:
+        assert f'"fileroom {newest()}"' in text_of(os.path.join(top, it)), it
+
+
+def test_the_sample_of_a_roster(top):
+    assert said(PROGRAM, "replay", os.path.join(top, ROSTER), "ann", "eng")[0] == 0
+
+
+@pytest.mark.parametrize("unit", UNITS, ids=os.path.basename)
+def test_a_unit(top, unit):
+    """(Its exposure is counted by its file alone: lab/machine asks the systemd that has read it.)"""
+    path = os.path.join(top, unit)
+    assert re.findall(r"@[A-Z]+@", text_of(path)) == []  # (each place is filled in)
+    one = path.replace("@.", "@plans.")
+    if one != path:
+        os.symlink(os.path.basename(path), one)
+    status, output, faults = said("systemd-analyze", "verify", "--man=no", one)
+    if one != path:
+        os.remove(one)
+    assert (status, [line for line in (output + faults).splitlines() if "fileroom" in line]) == (0, [])
+    if unit.endswith(".service"):
+        told = said("systemd-analyze", "security", "--offline=true", "--no-pager", path)[1]
+        assert float(re.search(r"exposure level for \S+: ([0-9.]+)", told)[1]) <= EXPOSURES[unit]
+
+
+def test_a_standbys_unit_shuts_out_what_the_rooms_does(top):
+    shut = [text_of(os.path.join(top, f"lib/systemd/system/{it}@.service")).partition("NoNewPrivileges")[2]
+            .partition("\n[Install]")[0].strip() for it in ("fileroom", "fileroom-standby")]
+    assert shut[0] == shut[1]
+    assert "ProtectSystem=strict\n" in shut[0] and "MemoryMax=80%" in shut[0]
+
+
+def test_man_pages(top):
+    for it in PAGES:
+        assert said("groff", "-man", "-ww", "-z", os.path.join(top, it)) == (0, "", "")
+
+
+def test_roots_scripts():
+    """shellcheck finds nothing in what root runs, nor in bash's completion; Python takes nothing from where it runs."""
+    first = {it: bytes_of(os.path.join(SERVICE, it)).partition(b"\n")[0] for it in below(SERVICE)}
+    assert {it for it in first.values() if re.match(rb"#!.*python", it)} == {b"#!/usr/bin/python3 -I"}
+    shells = [os.path.join(SERVICE, it) for it, line in first.items() if re.match(
+        rb"#!/bin/(ba)?sh\b|#!/usr/bin/env bash\b", line)]
+    assert len(shells) > 4
+    for words in shells, ["--shell=bash", os.path.join(TOP, "client/room.bash")]:
+        assert said("shellcheck", *words) == (0, "", "")
+
+
+def test_as_in_the_checkout(top):
+    """Page, front and code, but for where the page is, and the version."""
+    sample = f"{SHARE}/front/fileroom.conf"
+    assert f"root {top}/{SHARE}/page;" in text_of(os.path.join(top, sample))
+    for name, source in IN_FOLDERS.items():
+        want = text_of(source)
+        if name == sample:
+            want = want.replace("/usr/local/share/fileroom", os.path.join(top, SHARE))
+        if name.endswith("/version.py"):
+            want = want.replace("@VERSION@", newest())
+        assert text_of(os.path.join(top, name)) == want, name
+
+
+@pytest.mark.usefixtures("alone")
+def test_the_client_asks_a_room(top, folder):
+    room = Room(folder).start()
+    words = ["--url", f"http://127.0.0.1:{room.port}", "--room-user", "ann", "--state", os.path.join(folder, "state")]
+    tries = (["--version"], f"room {newest()}\n"), (["mkdir", "/plans"], "/plans: made\n"), (["ls"], "plans/\n")
+    for more, want in tries:
+        assert said(os.path.join(top, "bin/room"), *words, *more) == (0, want, "")

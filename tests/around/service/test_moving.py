@@ -1,0 +1,93 @@
+"""A room that moves: packed on one machine, brought to another, below two roots; and one that is removed, and back."""
+import json
+import os
+
+import pytest
+from served import bytes_of, text_of
+
+from .machines import Served
+
+
+def test_an_archive(exported):
+    assert os.stat(exported.path).st_mode & 0o777 == 0o600
+    assert sorted(exported.its) == ["about.json", "logins", "names.json", "room.db", "room.db-wal", "roster.toml"]
+    assert exported.machine.does("room", "export", "plans", exported.path)[0] == 1  # (over a file)
+
+
+def test_no_login_of_another_room_is_in_it(exported):
+    logins = lambda text: sorted(it.partition(":")[0] for it in text.splitlines())
+    assert logins(exported.its["logins"].decode()) == ["ann", "bob"]
+    assert logins(text_of(exported.machine.at("etc/nginx/fileroom/users"))) == ["ann", "bob", "eve"]
+
+
+def test_an_archive_of_no_room(machine, folder):
+    assert machine.does("room", "export", "none", f"{folder}/tar")[0] == 1
+    assert not os.path.exists(f"{folder}/tar")
+
+
+def test_room_list(exported):
+    *lines, front = exported.machine.does("room", "list")[1].splitlines()
+    assert front == "front  http://127.0.0.1:8080/  for this machine alone"
+    rows = [it.split("  ") for it in lines]
+    assert [it[:1] + it[3:6] for it in rows] == [
+        ["club", "2 users", "backup never, 0 kept", exported.machine.at("run/fileroom/club.sock")],
+        ["plans", "2 users", f"backup {exported.backup}, 1 kept", exported.machine.at("run/fileroom/plans.sock")]]
+    assert all(float(it[2].removesuffix(" MiB")) > 0 for it in rows)
+
+
+def test_brought_to_another_machine(there, exported):
+    """It is there as it was, with its users' passwords."""
+    there.told()
+    status, said, faults = there.does("room", "import", exported.path)
+    assert (status, said.splitlines()[0]) == (
+        0, "the room plans is served here, with 2 users, and backed up each night"), faults
+    assert [it for it in there.told() if "plans" in it] == [f"systemctl enable --now fileroom{it}" for it in (
+        "@plans", "-backup@plans.timer", "-try@plans.timer")]
+    assert there.fits("bob", exported.word)
+    assert "ann" in said  # (whose password here stays)
+    for it in "fileroom/plans.toml", "fileroom/plans.env", *(f"nginx/fileroom/{it}" for it in (
+            "rooms/plans.users.json", "rooms/plans.conf", "queues/plans.conf")):
+        assert text_of(there.at(f"etc/{it}")) == text_of(exported.machine.at(f"etc/{it}")), it
+    assert json.loads(text_of(there.at("etc/nginx/fileroom/rooms.json"))) == ["club", "plans"]
+    assert json.loads(text_of(there.at("etc/nginx/fileroom/names.json"))) == {"bob": "Bob Ray"}
+    room = Served(there)
+    room.numbers["ann"] = 2  # (her session goes on, and its slot)
+    assert room.holds("ann", "LIST", "/")["names"] == [["minutes", "folder"]]
+    room.end()
+    assert there.does("room", "import", exported.path)[0] == 1
+    assert there.does("room", "import", "--as", "second", exported.path)[0] == 0
+    assert os.path.exists(there.at("var/lib/fileroom/second/room.db"))
+
+
+@pytest.mark.parametrize("what", ["fileroom@plans", "fileroom-backup@plans.timer"])
+def test_a_service_that_does_not_end(machine, what):
+    machine.backed_up()
+    before = machine.files()
+    machine.breaks(what)
+    assert machine.does("room", "remove", "plans")[0] == 1
+    assert machine.files() == before
+
+
+def test_removed_and_back(machine):
+    """A room ends in an archive, and comes back out of it."""
+    machine.backed_up()
+    db = bytes_of(machine.at("var/lib/fileroom/plans/room.db"))
+    roster = text_of(machine.at("etc/fileroom/plans.toml"))
+    machine.told()
+    status, said, faults = machine.does("room", "remove", "plans")
+    assert status == 0, faults
+    assert machine.told() == [f"systemctl {it}" for it in (
+        "is-active -q fileroom@plans", "stop fileroom@plans", "disable --now fileroom-try@plans.timer",
+        "disable --now fileroom-backup@plans.timer", "disable --now fileroom@plans",
+        "stop fileroom-proxy@plans.socket", "reload-or-restart nginx")]
+    assert [it for it in machine.files() if "plans" in it and not it.startswith("var/")] == []
+    users = text_of(machine.at("etc/nginx/fileroom/users"))
+    assert ("bob:" in users, "ann:" in users) == (False, True)
+    assert text_of(machine.at("etc/nginx/fileroom/rooms.json")) == '["club"]\n'
+    folder = machine.at("var/lib/fileroom/plans")
+    kept, = [it for it in os.listdir(folder) if it.startswith("room.db.undone-")]
+    assert bytes_of(os.path.join(folder, kept)) == db
+    path = said.splitlines()[0].partition(" is in ")[2].partition(": ")[0]
+    assert machine.does("room", "import", path)[0] == 0
+    assert text_of(machine.at("etc/fileroom/plans.toml")) == roster
+    assert bytes_of(os.path.join(folder, "room.db")) == db

@@ -1,0 +1,113 @@
+"""What no status tells: one administrator waits for another, bytes are on the disk before their name is, a stop leaves
+no room without its log, a room that is just starting comes back after its backup, and ports change in one step."""
+import fcntl
+import os
+import re
+import shutil
+import subprocess
+import sys
+
+import pytest
+from served import HERE, bytes_of, text_of, until
+
+from .contents import BACKUP, SERVICE
+from .machines import ADMIN
+
+# Calls fileroom-admin, and says of each rename and each folder whether the disk has it.
+ORDER = """import os, sys
+sys.path.insert(0, sys.argv[1])
+from fileroom_admin.command import main
+kept, told = set(), os.fdopen(os.dup(1), "w")
+def fsync(handle, task=os.fsync):
+    kept.add(os.path.realpath(f"/proc/self/fd/{handle}"))
+    return task(handle)
+def replace(old, new, task=os.replace, **how):
+    print("renamed" if os.path.realpath(old) in kept else "NOT KEPT", new, file=told, flush=True)
+    kept.discard(os.path.dirname(os.path.realpath(new)))
+    before.append(new)
+    return task(old, new, **how)
+def link(*words, task=os.link):
+    return task(*words)
+def run(*words, task=__import__("subprocess").run, **how):
+    left = [it for it in before if os.path.dirname(os.path.realpath(it)) not in kept]
+    print("run", words[0][0], left, file=told, flush=True)
+    return task(*words, **how)
+before = []
+os.fsync, os.replace = fsync, replace
+__import__("subprocess").run = run
+sys.exit(main(sys.argv[2:]))
+"""
+
+
+def test_one_waits(machine):
+    """Two calls at once would undo each other's."""
+    machine.does("user", "list")
+    with open(machine.at("etc/fileroom/admin.lock"), "rb+") as lock:
+        fcntl.flock(lock, fcntl.LOCK_EX)
+        words = [sys.executable, "-B", ADMIN, "--root", machine.root, "user", "name", "ann", "Ann"]
+        other = subprocess.Popen(words, env=machine.env, stdout=subprocess.DEVNULL)
+        names, waits = machine.at("etc/nginx/fileroom/names.json"), rf"-> FLOCK +ADVISORY +WRITE {other.pid} "
+        until(lambda: other.poll() is not None or re.search(waits, text_of("/proc/locks")))
+        assert (other.poll(), text_of(names)) == (None, "{}\n")
+    assert (other.wait(300), text_of(names)) == (0, '{"ann": "Ann"}\n')
+
+
+def test_kept_first(machine):
+    """Each file is on the disk before it has its name, and its name before what reads it is asked."""
+    words = [sys.executable, "-B", "-c", ORDER, os.path.dirname(ADMIN), "--root", machine.root, "user", "add", "plans",
+             "kim", "eng"]
+    done = subprocess.run(words, env=machine.env, capture_output=True, text=True)
+    lines = [it for it in done.stdout.splitlines() if it.split()[0] in ("renamed", "NOT", "run")]
+    assert done.returncode == 0, done.stderr
+    assert [it.split()[0] for it in lines if not it.startswith("run")] == ["renamed"] * 5
+    assert [it for it in lines if it.startswith("run") and not it.endswith("[]")] == []
+
+
+@pytest.mark.parametrize("most", range(7))
+def test_a_restore_that_ends_at_a_step(machine, folder, most):
+    """It leaves no room whose log is not there yet."""
+    copy, there, steps = (os.path.join(folder, it) for it in ("copy", "there", "steps"))
+    whole = {"room.db": b"room", "room.db-wal": b"log"}
+    os.mkdir(copy)
+    os.mkdir(there)
+    for it, data in whole.items():
+        with open(os.path.join(copy, it), "wb") as file:
+            file.write(data)
+    # (each command of the script counts, and the last one ends it)
+    for name in "cp", "mv", "sync":
+        machine.stand_in(name, f"""echo >>{steps}
+[ "$(wc -l <{steps})" -le {most} ] || kill -9 $PPID
+exec /bin/{name} "$@" """)
+    words = [BACKUP, "--restore", copy, os.path.join(there, "room.db")]
+    status = subprocess.run(words, env=machine.env, capture_output=True).returncode
+    has = {it: bytes_of(os.path.join(there, it)) for it in os.listdir(there) if it in whole}
+    assert (status == 0) == (most >= 5)
+    assert "room.db" not in has or has == whole
+
+
+@pytest.mark.parametrize("state, want", [("active", ["start"]), ("activating", ["start"]), ("inactive", []),
+                                         ("failed", [])])
+def test_a_room_comes_back_after_its_backup(machine, folder, state, want):
+    """Also one that ends by a fault again and again, so that systemd is starting it."""
+    env = {**machine.env, "ETC": machine.at("etc"), "RUN": folder}
+    machine.stand_in("systemctl", f'echo "$@" >>"{folder}/asked"; [ "$1" != is-active ] || echo {state}')
+    for words in ["plans"], ["--end", "plans"], ["--end", "plans"]:
+        subprocess.run([os.path.join(SERVICE, "fileroom-rest"), *words], env=env, check=True)
+    asked = [it.split()[0] for it in text_of(os.path.join(folder, "asked")).splitlines()]
+    assert asked == ["is-active", "stop", *want]
+
+
+@pytest.mark.parametrize("hosts", ["", "10.0.0.1\n10.0.0.2\n"], ids=["no standby", "a standby"])
+def test_ports(machine, folder, hosts):
+    """All rules by one call: between two, whoever comes would meet none."""
+    machine.stand_in("nft", f'echo "$@" >>"{folder}/nft"; cat >>"{folder}/rules"')
+    os.mkdir(os.path.join(folder, "standby"))
+    for it in "service/fileroom-ports", "front/fileroom.nft", "service/standby/gluster.nft":
+        shutil.copy(os.path.join(HERE, "..", it), os.path.join(folder, "standby" * ("standby" in it)))
+    machine.write("etc/fileroom/plans.hosts", hosts)
+    env = {**machine.env, "ROOMS": machine.at("etc/fileroom")}
+    subprocess.run([os.path.join(folder, "fileroom-ports")], env=env, check=True)
+    rules = text_of(os.path.join(folder, "rules"))
+    assert text_of(os.path.join(folder, "nft")) == "-f -\n"
+    assert rules.count("add element inet fileroom hosts") == len(hosts.splitlines())
+    assert "table inet fileroom" in rules

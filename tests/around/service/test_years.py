@@ -1,0 +1,103 @@
+"""`fileroom-admin` over the years: many users at once, renamed and removed ones, groups. Each command is one change,
+with one restart of each room that it concerns, and waits until that answers again."""
+import json
+import os
+import subprocess
+import sys
+import threading
+import time
+
+import pytest
+from served import HERE, text_of
+
+from .stopped import stops
+
+CLIENT = os.path.join(HERE, "..", "client", "room")
+ALL = {"type": 0, "flag": 3, "mask": 0x1F07FF}
+ANEW = "for a list of now: systemctl start fileroom-backup@{}; fileroom-admin user owns {}"
+
+
+def test_what_is_typed_and_said(bare):
+    bare.plays("years.txt")
+
+
+def test_an_import_stopped_at_a_step(machine):
+    machine.write("../table.csv", "user,groups,name\nkim,eng staff,Kim Öz\nlou,,\n")
+    stops(machine, "user", "import", "club", os.path.join(machine.folder, "table.csv"))
+
+
+def test_a_rename_stopped_at_a_step(machine):
+    machine.does("user", "name", "bob", "Bob Ray")
+    machine.does("user", "add", "club", "bob", "staff")
+    stops(machine, "user", "rename", "bob", "bob.ray")
+
+
+@pytest.fixture
+def owned(machine, plans):
+    """What bob has in plans, and the name of its backup."""
+    for path in "/of-bob", "/of-bob/a\u202eb", *(f"/of-bob/.room-pieces-0123456789abcdef{it}" for it in ("", "/00")):
+        plans.holds("ann", "SETLIST", "/", aclflag=1, entries=[ALL | {"who": it} for it in ("OWNER@", "EVERYONE@")])
+        plans.holds("bob", "MKDIR", path)
+    plans.holds("ann", "MKDIR", "/of-ann")
+    plans.holds("ann", "SETLIST", "/of-ann", aclflag=1, entries=[ALL | {"who": "bob"}, ALL | {"who": "ann"}])
+    plans.holds("ann", "MKDIR", "/of-ann/below")
+    plans.room.kill()
+    return os.path.basename(machine.backed_up())
+
+
+def owns(backup):
+    return [f"the backup {backup} of plans does not have what was done since; {ANEW.format('plans', 'bob')}",
+            f"bob owns 2 things in plans, by the backup {backup}: /of-bob, /of-bob/a\\u202eb",
+            f"bob is named in 1 lists in plans, by the backup {backup}: /of-ann",
+            "to hand it over, as bob or who else may set owners there: room chown -r --from bob USER:GROUP /"]
+
+
+def test_what_is_not_known(machine):
+    assert machine.does("user", "owns", "bob")[1].count("is not known: ") == 2
+
+
+@pytest.mark.parametrize("user", ["bob", "nobody"])
+def test_what_somebody_owns(machine, owned, user):
+    first, *more = owns(owned)
+    assert machine.does("user", "owns", user)[1].splitlines() == [
+        f"what {user} owns in club is not known: club has no backup; {ANEW.format('club', user)}",
+        first.replace("bob", user), *(more if user == "bob" else [])]
+
+
+def test_what_is_owned_by_who_leaves_is_handed_over(machine, plans, owned):
+    """By the line that is told; and so is how that user comes back."""
+    plans.room.start()
+    groups = json.loads(text_of(machine.at("etc/nginx/fileroom/rooms/plans.users.json")))["bob"]
+    status, said, faults = machine.does("user", "remove", "plans", "bob")
+    assert (status, [line for line in said.splitlines() if line in owns(owned)]) == (0, owns(owned)), faults
+    assert f"to bring bob back: {' '.join(['fileroom-admin user add plans bob', *groups])}\n" in said
+    words = ["--url", f"http://127.0.0.1:{plans.room.port}", "--room-user", "ann", "--state", machine.at("../state")]
+    line = owns(owned)[-1].partition(": room ")[2].replace("USER:GROUP", "ann:eng").split()
+    done = subprocess.run([sys.executable, "-B", CLIENT, *words, *line], capture_output=True, text=True)
+    assert (done.returncode, done.stdout[:13]) == (0, "/: 4 objects "), done.stderr
+    assert plans.holds("ann", "STAT", "/of-bob")["owner"] == "ann"
+
+
+def test_a_backup_whose_rows_are_no_rooms(machine, owned):
+    db = machine.at(f"var/backups/fileroom/plans/{owned}/room.db")
+    odd = "PRAGMA foreign_keys=OFF; UPDATE node SET parent = 99 WHERE name = 'of-bob'"
+    subprocess.run(["sqlite3", db, odd], check=True)
+    status, said, faults = machine.does("user", "owns", "bob")
+    assert (status, said.count("cannot be read"), faults) == (0, 1, "")
+
+
+def test_a_room_is_waited_for(machine, plans):
+    """One that is served answers again once a command has ended; one that does not run is not waited for."""
+    plans.room.kill()
+    done = []
+    words = "user", "groups", "plans", "bob", "staff"
+    command = threading.Thread(target=lambda: done.append(machine.does(*words)[0]))
+    command.start()
+    time.sleep(4)
+    assert done == []
+    plans.room.start()
+    command.join()
+    assert done == [0]
+    plans.room.kill()
+    machine.stand_in("systemctl", '[ "$1" != is-active ]')
+    assert machine.does("user", "groups", "plans", "bob")[0] == 0
