@@ -66,6 +66,8 @@ impl<S: Shelf> Shelf for CachedShelf<S> {
 
     ghost view = { cached_view S.view };
 
+    ghost calls_left = { λ s. S.calls_left s.0 };
+
     ghost available_is_intact = { λ s h. S.available_is_intact s.0 h };
 
     ghost settled = { λ s left h may. S.settled s.0 left h may };

@@ -44,6 +44,8 @@ impl Shelf for MemShelf {
       leaves_laid_out = Unit {0};
     } };
 
+    ghost calls_left = { λ s. 0 };
+
     ghost available_is_intact = { λ s h. h };
 
     ghost settled = { λ s left h may. may };

@@ -1,5 +1,5 @@
 //! The shelf that keeps the rows.
-ghost use Rattle.std.specs.Prelude.{◌≡◌, [], length, unwrap_or, OnOk};
+ghost use Rattle.std.specs.Prelude.{◌≡◌, ℕ, ◌+◌, ◌≤◌, [], length, unwrap_or, OnOk};
 ghost use Rattle.room_acl.specs.Access.{decision};
 ghost use Rattle.room_records.specs.Records.{Records};
 ghost use Rattle.room_records.specs.Changes.{apply_changes, RulesHoldAfterEach, Untouched};
@@ -49,26 +49,34 @@ pub trait Shelf {
     /// fault that its store tells of: what it says of answers stands under it.
     ghost view: { Self → View };
 
+    /// How many calls are left, by a count that each call lowers by one at most, as that of `TripShelf` does. What is
+    /// proved over every shelf is proved over each such count: a function that lowers it by at most n makes at most n
+    /// calls.
+    ghost calls_left: { Self → ℕ };
+
     /// The node of this number.
     fn node(&mut self, id: u32) -> Result<Option<Node>, ShelfFault>
         ensures value { Tells (view self.old) (view self.new) result
             (λ records found. found ≡ records.objects.node id) }
         ensures there { (view self.new).is_intact → OnOk result (view self.new).is_available }
-        ensures frame { ShelfRead (view self.old) (view self.new) (fault_in result) };
+        ensures frame { ShelfRead (view self.old) (view self.new) (fault_in result) }
+        ensures asks { calls_left self.old ≤ calls_left self.new + 1 };
 
     /// The child of this name.
     fn child(&mut self, parent: u32, name: &FileName) -> Result<Option<Node>, ShelfFault>
         ensures value { Tells (view self.old) (view self.new) result
             (λ records. IsChildNamed records.objects parent name.now) }
         ensures there { (view self.new).is_intact → OnOk result (view self.new).is_available }
-        ensures frame { ShelfRead (view self.old) (view self.new) (fault_in result) };
+        ensures frame { ShelfRead (view self.old) (view self.new) (fault_in result) }
+        ensures asks { calls_left self.old ≤ calls_left self.new + 1 };
 
     /// The nodes in a folder, each once, and by the rules on nodes in order of their names by bytes.
     fn children(&mut self, parent: u32) -> Result<Vec<Node>, ShelfFault>
         ensures value { Tells (view self.old) (view self.new) result
             (λ records found. AreChildren records.objects parent found.items) }
         ensures there { (view self.new).is_intact → OnOk result (view self.new).is_available }
-        ensures frame { ShelfRead (view self.old) (view self.new) (fault_in result) };
+        ensures frame { ShelfRead (view self.old) (view self.new) (fault_in result) }
+        ensures asks { calls_left self.old ≤ calls_left self.new + 1 };
 
     /// The name and the kind of each node in a folder that has a name, by the rules on nodes in order of the names by
     /// bytes. No more than these need be read.
@@ -76,14 +84,16 @@ pub trait Shelf {
         ensures value { Tells (view self.old) (view self.new) result
             (λ records found. AreNames records.objects parent found.items) }
         ensures there { (view self.new).is_intact → OnOk result (view self.new).is_available }
-        ensures frame { ShelfRead (view self.old) (view self.new) (fault_in result) };
+        ensures frame { ShelfRead (view self.old) (view self.new) (fault_in result) }
+        ensures asks { calls_left self.old ≤ calls_left self.new + 1 };
 
     /// How many nodes are in a folder.
     fn child_count(&mut self, parent: u32) -> Result<u64, ShelfFault>
         ensures value { Tells (view self.old) (view self.new) result
             (λ records count. IsChildCount records.objects parent count) }
         ensures there { (view self.new).is_intact → OnOk result (view self.new).is_available }
-        ensures frame { ShelfRead (view self.old) (view self.new) (fault_in result) };
+        ensures frame { ShelfRead (view self.old) (view self.new) (fault_in result) }
+        ensures asks { calls_left self.old ≤ calls_left self.new + 1 };
 
     /// The entries of an object, in order of place. By the rules on records, and by nothing else, there are none where
     /// the object is not there.
@@ -91,7 +101,8 @@ pub trait Shelf {
         ensures value { Tells (view self.old) (view self.new) result
             (λ records found. found.items ≡ records.objects.entries id) }
         ensures there { (view self.new).is_intact → OnOk result (view self.new).is_available }
-        ensures frame { ShelfRead (view self.old) (view self.new) (fault_in result) };
+        ensures frame { ShelfRead (view self.old) (view self.new) (fault_in result) }
+        ensures asks { calls_left self.old ≤ calls_left self.new + 1 };
 
     /// What the object's entries, in order of place, decide of these rights. By the rules on records, and by nothing
     /// else, there are none where the object is not there.
@@ -105,48 +116,55 @@ pub trait Shelf {
         ensures value { Tells (view self.old) (view self.new) result (λ records found.
             found ≡ decision (records.objects.entries id) subject.now standing.now wanted) }
         ensures there { (view self.new).is_intact → OnOk result (view self.new).is_available }
-        ensures frame { ShelfRead (view self.old) (view self.new) (fault_in result) };
+        ensures frame { ShelfRead (view self.old) (view self.new) (fault_in result) }
+        ensures asks { calls_left self.old ≤ calls_left self.new + 1 };
 
     /// The bytes of a document, none where it is not there.
     fn doc(&mut self, id: u32) -> Result<Vec<u8>, ShelfFault>
         ensures value { Tells (view self.old) (view self.new) result (λ records found.
             found.items ≡ unwrap_or (records.objects.document id) []) }
         ensures there { (view self.new).is_intact → OnOk result (view self.new).is_available }
-        ensures frame { ShelfRead (view self.old) (view self.new) (fault_in result) };
+        ensures frame { ShelfRead (view self.old) (view self.new) (fault_in result) }
+        ensures asks { calls_left self.old ≤ calls_left self.new + 1 };
 
     /// How many bytes a document has, 0 where it is not there. The bytes need not be read.
     fn doc_size(&mut self, id: u32) -> Result<u64, ShelfFault>
         ensures value { Tells (view self.old) (view self.new) result (λ records found.
             found ≡ length (unwrap_or (records.objects.document id) [])) }
         ensures there { (view self.new).is_intact → OnOk result (view self.new).is_available }
-        ensures frame { ShelfRead (view self.old) (view self.new) (fault_in result) };
+        ensures frame { ShelfRead (view self.old) (view self.new) (fault_in result) }
+        ensures asks { calls_left self.old ≤ calls_left self.new + 1 };
 
     /// The row of a session name that was opened once.
     fn session(&mut self, sid: &Sid) -> Result<Option<SessionRow>, ShelfFault>
         ensures value { Tells (view self.old) (view self.new) result
             (λ records found. found ≡ records.session sid.now) }
         ensures there { (view self.new).is_intact → OnOk result (view self.new).is_available }
-        ensures frame { ShelfRead (view self.old) (view self.new) (fault_in result) };
+        ensures frame { ShelfRead (view self.old) (view self.new) (fault_in result) }
+        ensures asks { calls_left self.old ≤ calls_left self.new + 1 };
 
     /// What a slot keeps.
     fn slot(&mut self, sid: &Sid, slot: u32) -> Result<Option<Kept>, ShelfFault>
         ensures value { Tells (view self.old) (view self.new) result
             (λ records found. found ≡ records.slot sid.now slot) }
         ensures there { (view self.new).is_intact → OnOk result (view self.new).is_available }
-        ensures frame { ShelfRead (view self.old) (view self.new) (fault_in result) };
+        ensures frame { ShelfRead (view self.old) (view self.new) (fault_in result) }
+        ensures asks { calls_left self.old ≤ calls_left self.new + 1 };
 
     /// The number of the request that a slot keeps. The kept bytes need not be read for it.
     fn slot_seq(&mut self, sid: &Sid, slot: u32) -> Result<Option<u32>, ShelfFault>
         ensures value { Tells (view self.old) (view self.new) result
             (λ records found. found ≡ kept_seq (records.slot sid.now slot)) }
         ensures there { (view self.new).is_intact → OnOk result (view self.new).is_available }
-        ensures frame { ShelfRead (view self.old) (view self.new) (fault_in result) };
+        ensures frame { ShelfRead (view self.old) (view self.new) (fault_in result) }
+        ensures asks { calls_left self.old ≤ calls_left self.new + 1 };
 
     /// The number of the next object.
     fn next_id(&mut self) -> Result<u32, ShelfFault>
         ensures value { Tells (view self.old) (view self.new) result (λ records next. next ≡ records.objects.next) }
         ensures there { (view self.new).is_intact → OnOk result (view self.new).is_available }
-        ensures frame { ShelfRead (view self.old) (view self.new) (fault_in result) };
+        ensures frame { ShelfRead (view self.old) (view self.new) (fault_in result) }
+        ensures asks { calls_left self.old ≤ calls_left self.new + 1 };
 
     /// All the changes in order, or none of them. Whatever rules the records keep, a row that they do not touch stays,
     /// and each of the first 16 slots keeps what they leave in it.
@@ -160,7 +178,8 @@ pub trait Shelf {
             LeavesOldOrNew (view self.old) (view self.new)
             (λ left. left ≡ apply_changes changes.now (view self.old).records) }
         ensures untouched { (view self.new).is_intact → (view self.old).is_laid_out →
-            OnOk result (Untouched changes.now (view self.old).records (view self.new).records) };
+            OnOk result (Untouched changes.now (view self.old).records (view self.new).records) }
+        ensures asks { calls_left self.old ≤ calls_left self.new + 1 };
 
     /// An available store is intact.
     ghost available_is_intact: { (s : Self) → (view s).is_available → (view s).is_intact };

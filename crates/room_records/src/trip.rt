@@ -81,6 +81,8 @@ impl<S: Shelf> Shelf for TripShelf<S> {
 
     ghost view = { trip_view S.view };
 
+    ghost calls_left = { λ s. s.left };
+
     ghost available_is_intact = { λ s h. S.available_is_intact s.inner h };
 
     ghost settled = { λ s left h may. S.settled s.inner left h may };

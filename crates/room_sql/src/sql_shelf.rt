@@ -126,6 +126,8 @@ impl<S: Alter> Shelf for SqlShelf<S> {
 
     ghost view = { sql_view S.Store };
 
+    ghost calls_left = { λ s. 0 };
+
     ghost available_is_intact = { λ s h. h.0 };
 
     ghost settled = { λ s left h may.
