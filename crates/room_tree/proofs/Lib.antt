@@ -27,3 +27,5 @@ pub mod RenewingLists
 pub mod RenewingParts
 pub mod RenewingChildren
 pub mod InTurn
+pub mod Below
+mod AsksExamples

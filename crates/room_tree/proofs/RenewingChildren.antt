@@ -73,7 +73,7 @@ below_last (a ∷ b ∷ nodes) node order =
     let rest = below_last (b ∷ nodes) node order.1 in
     (nat_list_cmp_total.trans (name_of a) (name_of b) (name_of node) order.0 rest.0, rest)
 
-not_below_itself : (a b : Name) → name_cmp a b ≡ Less → a ≡ b → ⊥
+pub not_below_itself : (a b : Name) → name_cmp a b ≡ Less → a ≡ b → ⊥
 not_below_itself a b less same = grind (arith, common_steps, nat_list_cmp_total)
 
 apart : (nodes : List Node) (node : Node) (rest : Path)

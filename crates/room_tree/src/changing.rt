@@ -1,5 +1,5 @@
 //! Commands that change one object where it stands.
-ghost use Rattle.std.specs.Prelude.{◌≡◌, ◌≢◌, ◌+◌, ◌<◌, ◌^◌, ◌++◌, [], ◌∷◌, length, Some, IfOk};
+ghost use Rattle.std.specs.Prelude.{◌≡◌, ◌≢◌, ◌+◌, ◌*◌, ◌<◌, ◌≤◌, ◌^◌, ◌++◌, [], ◌∷◌, length, Some, IfOk};
 ghost use Rattle.room_records.specs.Shelf.{ShelfRead};
 ghost use Rattle.room_records.specs.declared.shelf.ShelfFault.TheVariants.{Store};
 ghost use Rattle.room_commands.specs.Checks.{check_size};
@@ -60,6 +60,7 @@ pub(crate) fn plan_write<S: Shelf>(
     ensures effect { OfRoom (S.view shelf.old) (S.view shelf.new)
         (λ t room. Plans t room subject.now (C.Write bytes.now path.now) result) }
     ensures frame { ShelfRead (S.view shelf.old) (S.view shelf.new) (stop_fault result) }
+    ensures asks { S.calls_left shelf.old ≤ S.calls_left shelf.new + 2 * length path.now + 5 }
 {
     let loaded = reach_to_use(
         alloc,
@@ -97,6 +98,7 @@ pub(crate) fn plan_append<S: Shelf>(
     ensures effect { OfRoom (S.view shelf.old) (S.view shelf.new)
         (λ t room. Plans t room subject.now (C.Append bytes.now path.now) result) }
     ensures frame { ShelfRead (S.view shelf.old) (S.view shelf.new) (stop_fault result) }
+    ensures asks { S.calls_left shelf.old ≤ S.calls_left shelf.new + 2 * length path.now + 5 }
 {
     let loaded = reach_to_use(
         alloc,
@@ -145,6 +147,7 @@ pub(crate) fn plan_chown<S: Shelf>(
     ensures effect { OfRoom (S.view shelf.old) (S.view shelf.new)
         (λ t room. Plans t room subject.now (C.Chown group.now owner.now path.now) result) }
     ensures frame { ShelfRead (S.view shelf.old) (S.view shelf.new) (stop_fault result) }
+    ensures asks { S.calls_left shelf.old ≤ S.calls_left shelf.new + 2 * length path.now + 5 }
 {
     let loaded = reach_to_use(alloc, shelf, subject, path, None, Mask::WRITE_OWNER)?;
     let node = with_standing(loaded, owner, group)?;

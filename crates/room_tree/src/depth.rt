@@ -1,10 +1,11 @@
 //! How far down a subtree reaches.
-ghost use Rattle.std.specs.Prelude.{◌≡◌, Some, IfOk};
+ghost use Rattle.std.specs.Prelude.{◌≡◌, ◌+◌, ◌≤◌, Some, IfOk};
 ghost use Rattle.room_records.specs.declared.node.Node.{Node};
 ghost use Rattle.room_records.specs.Names.{Path as PathModel};
 ghost use Rattle.room_records.specs.Representation.{HasPath};
 ghost use Rattle.room_records.specs.Shelf.{ShelfRead, fault_in};
 ghost use Rattle.room_commands.specs.Checks.{check_depth};
+ghost use Rattle.room_tree.specs.Asks.{at_or_below};
 ghost use Rattle.room_tree.specs.Depths.{TellsBelow};
 ghost use Rattle.room_tree.specs.LoadedObjects.{OfRoom, IsLoaded};
 ghost use Rattle.room_tree.specs.Stops.{Passes, stop_fault};
@@ -27,6 +28,8 @@ fn reaches_down<S: Shelf>(
     ensures value { OfRoom (S.view shelf.old) (S.view shelf.new) (λ t room. (path : PathModel) (node : Node) →
         HasPath t path id → t.node id ≡ Some node → node.kind ≡ kind → IfOk result (TellsBelow room path levels)) }
     ensures frame { ShelfRead (S.view shelf.old) (S.view shelf.new) (fault_in result) }
+    ensures asks { OfRoom (S.view shelf.old) (S.view shelf.new) (λ t room. (path : PathModel) → HasPath t path id →
+        S.calls_left shelf.old ≤ S.calls_left shelf.new + at_or_below room path) }
 {
     if levels == 0 {
         return Ok(true);
@@ -54,6 +57,8 @@ pub(crate) fn check_depth<S: Shelf>(
         → IsLoaded t room path loaded.now →
         Passes (check_depth room path to.now) (λ _. Unit {0}) result) }
     ensures frame { ShelfRead (S.view shelf.old) (S.view shelf.new) (stop_fault result) }
+    ensures asks { OfRoom (S.view shelf.old) (S.view shelf.new) (λ t room. (path : PathModel)
+        → IsLoaded t room path loaded.now → S.calls_left shelf.old ≤ S.calls_left shelf.new + at_or_below room path) }
 {
     let too_deep = MAX_NAMES + 1 - to.names().len();
     let deep = reaches_down(shelf, loaded.id, loaded.kind, too_deep)?;

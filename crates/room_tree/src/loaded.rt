@@ -1,5 +1,5 @@
 //! Objects that were found on a shelf.
-ghost use Rattle.std.specs.Prelude.{◌≡◌, take, not, is_some, IfOk};
+ghost use Rattle.std.specs.Prelude.{◌≡◌, ◌+◌, ◌≤◌, take, not, is_some, IfOk};
 ghost use Rattle.room_records.specs.Names.{Path as PathModel};
 ghost use Rattle.room_records.specs.Records.{ObjectRecords};
 ghost use Rattle.room_records.specs.Room.{Room, list_of};
@@ -78,6 +78,7 @@ impl LoadedObject {
         ensures value { OfRoom (S.view shelf.old) (S.view shelf.new) (λ t room. (at : PathModel)
             → IsLoaded t room at self.now → IfOk result (λ list. list.items ≡ list_of room at)) }
         ensures frame { ShelfRead (S.view shelf.old) (S.view shelf.new) (fault_in result) }
+        ensures asks { S.calls_left shelf.old ≤ S.calls_left shelf.new + 1 }
     {
         shelf.entries(self.id)
     }
@@ -93,6 +94,7 @@ impl LoadedObject {
             → IsLoaded t room at self.now →
             IfOk result (λ decision. check_right room subject.now at wanted ≡ denied_at at decision)) }
         ensures frame { ShelfRead (S.view shelf.old) (S.view shelf.new) (fault_in result) }
+        ensures asks { S.calls_left shelf.old ≤ S.calls_left shelf.new + 1 }
     {
         shelf.decide_at(self.id, subject, &self.standing, wanted)
     }
@@ -108,6 +110,7 @@ impl LoadedObject {
             → IsLoaded t room at self.now →
             IfOk result (λ allowed. allowed ≡ not (is_some (check_right room subject.now at wanted)))) }
         ensures frame { ShelfRead (S.view shelf.old) (S.view shelf.new) (fault_in result) }
+        ensures asks { S.calls_left shelf.old ≤ S.calls_left shelf.new + 1 }
     {
         match self.decision(shelf, subject, wanted)? {
             Decision::Allowed => Ok(true),
@@ -130,6 +133,7 @@ impl LoadedObject {
             → take count path.now ≡ at → IsLoaded t room at self.now →
             Passes (check_right room subject.now at wanted) (λ _. Unit {0}) result) }
         ensures frame { ShelfRead (S.view shelf.old) (S.view shelf.new) (stop_fault result) }
+        ensures asks { S.calls_left shelf.old ≤ S.calls_left shelf.new + 1 }
     {
         match self.decision(shelf, subject, wanted)? {
             Decision::Allowed => Ok(()),
@@ -176,6 +180,7 @@ impl LoadedObject {
             → take count path.now ≡ at → IsLoaded t room at self.now →
             Passes (prefix_refusal room subject.now at) (λ _. Unit {0}) result) }
         ensures frame { ShelfRead (S.view shelf.old) (S.view shelf.new) (stop_fault result) }
+        ensures asks { S.calls_left shelf.old ≤ S.calls_left shelf.new + 1 }
     {
         self.check_folder()?;
         self.check_right(alloc, shelf, subject, Mask::EXECUTE, path, count)
@@ -207,6 +212,7 @@ impl LoadedObject {
         ensures value { OfRoom (S.view shelf.old) (S.view shelf.new) (λ t room. IsLoaded t room path.now self.now →
             Passes (first_refusal (use_checks room subject.now path.now only wanted)) (λ _. Unit {0}) result) }
         ensures frame { ShelfRead (S.view shelf.old) (S.view shelf.new) (stop_fault result) }
+        ensures asks { S.calls_left shelf.old ≤ S.calls_left shelf.new + 1 }
     {
         self.check_kind(only)?;
         let count = path.names().len();

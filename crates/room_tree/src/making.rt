@@ -1,6 +1,6 @@
 //! Commands that make an object.
-ghost use Rattle.std.specs.Prelude.{◌≡◌, ℕ, List, ◌+◌, ◌-◌, ◌≤◌, ◌<◌, ◌^◌, [], ◌∷◌, ◌++◌, Some, IfOk, OnOk};
-ghost use Rattle.std.specs.Prelude.{nat_lt, nat_le};
+ghost use Rattle.std.specs.Prelude.{◌≡◌, ℕ, List, ◌+◌, ◌-◌, ◌*◌, ◌≤◌, ◌<◌, ◌^◌, [], ◌∷◌, ◌++◌, Some, IfOk, OnOk};
+ghost use Rattle.std.specs.Prelude.{length, nat_lt, nat_le};
 ghost use Rattle.room_acl.specs.Inheritance.{handed_down};
 ghost use Rattle.room_records.specs.Limits.{max_children, max_objects};
 ghost use Rattle.room_records.specs.Names.{IsPath, Path as PathModel};
@@ -38,6 +38,7 @@ fn folder_for_new<S: Shelf>(
         ∷ check_absent room path.now ∷ check_right room subject.now (parent_of path.now) wanted ∷ []))
         (IsLoaded t room (parent_of path.now)) result) }
     ensures frame { ShelfRead (S.view shelf.old) (S.view shelf.new) (stop_fault result) }
+    ensures asks { S.calls_left shelf.old ≤ S.calls_left shelf.new + 2 * length path.now + 2 }
 {
     let count = path.names().len();
     if count == 0 {
@@ -77,6 +78,7 @@ fn number_for_new<S: Shelf>(shelf: &mut S, above: &LoadedObject) -> Result<u32, 
         → IsLoaded t room folder above.now →
         Passes (first_refusal (check_folder_full room folder ∷ check_room_full room ∷ [])) (λ id. id ≡ t.next) result) }
     ensures frame { ShelfRead (S.view shelf.old) (S.view shelf.new) (stop_fault result) }
+    ensures asks { S.calls_left shelf.old ≤ S.calls_left shelf.new + 2 }
 {
     let count = count_children(shelf, above)?;
     check_children(count)?;
@@ -134,6 +136,7 @@ fn list_for_new<S: Shelf>(
         → IsLoaded t room folder above.now →
         IfOk result (λ list. list.items ≡ handed_down (list_of room folder) kind)) }
     ensures frame { ShelfRead (S.view shelf.old) (S.view shelf.new) (fault_in result) }
+    ensures asks { S.calls_left shelf.old ≤ S.calls_left shelf.new + 1 }
 {
     let given = above.whole_list(shelf)?;
     let list = hand_down(alloc, given.as_slice(), kind)?;
@@ -195,6 +198,7 @@ pub(crate) fn plan_mkdir<S: Shelf>(
     ensures effect { OfRoom (S.view shelf.old) (S.view shelf.new)
         (λ t room. Plans t room subject.now (C.Mkdir path.now) result) }
     ensures frame { ShelfRead (S.view shelf.old) (S.view shelf.new) (stop_fault result) }
+    ensures asks { S.calls_left shelf.old ≤ S.calls_left shelf.new + 2 * length path.now + 5 }
 {
     let above = folder_for_new(alloc, shelf, subject, path, Mask::ADD_SUBDIRECTORY)?;
     let id = number_for_new(shelf, &above)?;
@@ -218,6 +222,7 @@ pub(crate) fn plan_create<S: Shelf>(
     ensures effect { OfRoom (S.view shelf.old) (S.view shelf.new)
         (λ t room. Plans t room subject.now (C.Create bytes.now path.now) result) }
     ensures frame { ShelfRead (S.view shelf.old) (S.view shelf.new) (stop_fault result) }
+    ensures asks { S.calls_left shelf.old ≤ S.calls_left shelf.new + 2 * length path.now + 5 }
 {
     let above = folder_for_new(alloc, shelf, subject, path, Mask::ADD_FILE)?;
     check_size(bytes.len() as u64)?;

@@ -1,10 +1,11 @@
 //! RENAME.
-ghost use Rattle.std.specs.Prelude.{◌≡◌, ℕ, false, List, [], ◌∷◌, ◌++◌, ◌||◌, Some, IfOk};
+ghost use Rattle.std.specs.Prelude.{◌≡◌, ◌+◌, ◌*◌, ◌≤◌, ℕ, false, List, [], ◌∷◌, ◌++◌, ◌||◌, length, Some, IfOk};
 ghost use Rattle.room_records.specs.Names.{IsPath, Path as PathModel};
 ghost use Rattle.room_records.specs.Shelf.{ShelfRead};
 ghost use Rattle.room_commands.specs.Checks.{first_refusal, refuse_if, is_root, is_at_or_below};
 ghost use Rattle.room_commands.specs.Checks.{right_to_add as right_by_kind};
 ghost use Rattle.room_commands.specs.CommandModel as C;
+ghost use Rattle.room_tree.specs.Asks.{at_or_below, most_asks};
 ghost use Rattle.room_tree.specs.LoadedObjects.{OfRoom};
 ghost use Rattle.room_tree.specs.Plans.{Plans};
 ghost use Rattle.room_tree.specs.Renames.{IsMove, end_checks, move_rights, move_limits};
@@ -72,6 +73,7 @@ fn ends_of_move<S: Shelf>(
     ensures value { OfRoom (S.view shelf.old) (S.view shelf.new) (λ t room. is_root path.now ≡ false →
         Passes (first_refusal (end_checks room subject.now path.now to.now)) (IsMove t room path.now to.now) result) }
     ensures frame { ShelfRead (S.view shelf.old) (S.view shelf.new) (stop_fault result) }
+    ensures asks { S.calls_left shelf.old ≤ S.calls_left shelf.new + 2 * (length path.now + length to.now) + 2 }
 {
     let found = reach_with_folder(alloc, shelf, subject, path)?;
     let into = folder_of_free(alloc, shelf, subject, to)?;
@@ -103,6 +105,7 @@ impl Move {
             IsMove t room path.now to.now self.now →
             Passes (first_refusal (move_rights room subject.now path.now to.now)) (λ _. Unit {0}) result) }
         ensures frame { ShelfRead (S.view shelf.old) (S.view shelf.new) (stop_fault result) }
+        ensures asks { S.calls_left shelf.old ≤ S.calls_left shelf.new + 3 }
     {
         check_removal(alloc, shelf, subject, path, &self.loaded, &self.from)?;
         let count = to.names().len().saturating_sub(1);
@@ -117,6 +120,9 @@ impl Move {
             → IsMove t room path to.now self.now →
             Passes (first_refusal (move_limits room path to.now)) (λ _. Unit {0}) result) }
         ensures frame { ShelfRead (S.view shelf.old) (S.view shelf.new) (stop_fault result) }
+        ensures asks { OfRoom (S.view shelf.old) (S.view shelf.new) (λ t room. (path : PathModel)
+            → IsMove t room path to.now self.now →
+            S.calls_left shelf.old ≤ S.calls_left shelf.new + at_or_below room path + 1) }
     {
         check_depth(shelf, &self.loaded, to)?;
         if self.from.id == self.into.id {
@@ -143,6 +149,7 @@ fn allowed_move<S: Shelf>(
         ∷ (end_checks room subject.now path.now to.now ++ move_rights room subject.now path.now to.now)))
         (IsMove t room path.now to.now) result) }
     ensures frame { ShelfRead (S.view shelf.old) (S.view shelf.new) (stop_fault result) }
+    ensures asks { S.calls_left shelf.old ≤ S.calls_left shelf.new + 2 * (length path.now + length to.now) + 5 }
 {
     check_paths(path, to)?;
     let ends = ends_of_move(alloc, shelf, subject, path, to)?;
@@ -179,6 +186,9 @@ pub(crate) fn plan_rename<S: Shelf>(
     ensures effect { OfRoom (S.view shelf.old) (S.view shelf.new)
         (λ t room. Plans t room subject.now (C.Rename path.now to.now) result) }
     ensures frame { ShelfRead (S.view shelf.old) (S.view shelf.new) (stop_fault result) }
+    ensures asks { OfRoom (S.view shelf.old) (S.view shelf.new) (λ t room.
+        S.calls_left shelf.old
+        ≤ S.calls_left shelf.new + most_asks (C.Rename path.now to.now) (at_or_below room path.now)) }
 {
     let moving = allowed_move(alloc, shelf, subject, path, to)?;
     moving.check_limits(shelf, to)?;

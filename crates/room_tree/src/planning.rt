@@ -1,10 +1,11 @@
 //! What a command changes and replies.
-ghost use Rattle.std.specs.Prelude.{◌≡◌, [], IfOk};
+ghost use Rattle.std.specs.Prelude.{◌≡◌, ◌+◌, ◌≤◌, [], IfOk};
 ghost use Rattle.room_records.specs.Mem.{AreSameChanges};
 ghost use Rattle.room_records.specs.Shelf.{ShelfRead, fault_in};
 ghost use Rattle.room_commands.specs.CommandModel.{command_model};
 ghost use Rattle.room_records.specs.Room.{Room};
 ghost use Rattle.room_records.specs.Representation.{RepresentsRoom};
+ghost use Rattle.room_tree.specs.Asks.{BoundedBy};
 ghost use Rattle.room_tree.specs.LoadedObjects.{OfRoom};
 ghost use Rattle.room_tree.specs.Plans.{OnlyReads, Plans, PlansEffect};
 ghost use Rattle.room_tree.specs.Stops.{stop_fault};
@@ -91,6 +92,8 @@ fn plan_or_stop<S: Shelf>(
         (λ t room. Plans t room subject.now (command_model command.now) result) }
     ensures reads { OnlyReads (command_model command.now) → IfOk result (λ outcome. outcome.changes.items ≡ []) }
     ensures frame { ShelfRead (S.view shelf.old) (S.view shelf.new) (stop_fault result) }
+    ensures asks { BoundedBy (S.view shelf.old) (S.view shelf.new) (command_model command.now)
+        (λ most. S.calls_left shelf.old ≤ S.calls_left shelf.new + most) }
 {
     match command {
         Command::Stat { path } => plan_stat(alloc, shelf, subject, path),
@@ -133,6 +136,8 @@ pub fn plan<S: Shelf>(
         IfOk result (PlansEffect (S.view shelf.old).records.objects room subject.now (command_model command.now)) }
     ensures reads { OnlyReads (command_model command.now) → IfOk result (λ outcome. outcome.changes.items ≡ []) }
     ensures frame { ShelfRead (S.view shelf.old) (S.view shelf.new) (fault_in result) }
+    ensures asks { BoundedBy (S.view shelf.old) (S.view shelf.new) (command_model command.now)
+        (λ most. S.calls_left shelf.old ≤ S.calls_left shelf.new + most) }
 {
     match plan_or_stop(alloc, shelf, subject, command) {
         Ok(outcome) => Ok(outcome),

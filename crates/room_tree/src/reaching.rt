@@ -1,5 +1,5 @@
 //! The object that a command is about.
-ghost use Rattle.std.specs.Prelude.{◌≡◌, ◌<◌, ◌^◌, false, [], ◌∷◌, length, IfOk};
+ghost use Rattle.std.specs.Prelude.{◌≡◌, ◌+◌, ◌*◌, ◌<◌, ◌≤◌, ◌^◌, false, [], ◌∷◌, length, IfOk};
 ghost use Rattle.room_records.specs.Names.{Path as PathModel};
 ghost use Rattle.room_records.specs.Shelf.{ShelfRead, fault_in};
 ghost use Rattle.room_commands.specs.Checks.{first_refusal, is_root, walk, check_absent, check_exists, bytes_at};
@@ -27,6 +27,7 @@ pub(crate) fn reach<S: Shelf>(
         Passes (first_refusal (walk room subject.now path.now ∷ check_exists room path.now ∷ []))
         (IsLoaded t room path.now) result) }
     ensures frame { ShelfRead (S.view shelf.old) (S.view shelf.new) (stop_fault result) }
+    ensures asks { S.calls_left shelf.old ≤ S.calls_left shelf.new + 2 * length path.now + 1 }
 {
     match walk_path(alloc, shelf, subject, path)? {
         Walk::Absent(_) => Err(Stop::of(RefusalCode::NoEnt)),
@@ -45,6 +46,7 @@ pub(crate) fn reach_with_folder<S: Shelf>(
         Passes (first_refusal (walk room subject.now path.now ∷ check_exists room path.now ∷ []))
         (λ found. IsLoaded t room path.now found.0 × IsLoaded t room (parent_of path.now) found.1) result) }
     ensures frame { ShelfRead (S.view shelf.old) (S.view shelf.new) (stop_fault result) }
+    ensures asks { S.calls_left shelf.old ≤ S.calls_left shelf.new + 2 * length path.now + 1 }
 {
     let (loaded, above) = match walk_path(alloc, shelf, subject, path)? {
         Walk::Absent(_) => return Err(Stop::of(RefusalCode::NoEnt)),
@@ -67,6 +69,7 @@ pub(crate) fn folder_of_free<S: Shelf>(
         Passes (first_refusal (walk room subject.now path.now ∷ check_absent room path.now ∷ []))
         (IsLoaded t room (parent_of path.now)) result) }
     ensures frame { ShelfRead (S.view shelf.old) (S.view shelf.new) (stop_fault result) }
+    ensures asks { S.calls_left shelf.old ≤ S.calls_left shelf.new + 2 * length path.now + 1 }
 {
     match walk_path(alloc, shelf, subject, path)? {
         Walk::Found(_, _) => Err(Stop::of(RefusalCode::Exist)),
@@ -88,6 +91,7 @@ pub(crate) fn reach_to_use<S: Shelf>(
         ∷ use_checks room subject.now path.now only wanted))
         (IsLoaded t room path.now) result) }
     ensures frame { ShelfRead (S.view shelf.old) (S.view shelf.new) (stop_fault result) }
+    ensures asks { S.calls_left shelf.old ≤ S.calls_left shelf.new + 2 * length path.now + 2 }
 {
     let loaded = reach(alloc, shelf, subject, path)?;
     loaded.check_use(alloc, shelf, subject, path, only, wanted)?;
@@ -103,6 +107,7 @@ pub(crate) fn count_children<S: Shelf>(
         → IsLoaded t room path loaded.now →
         IfOk result (λ count. count ≡ length (children room path))) }
     ensures frame { ShelfRead (S.view shelf.old) (S.view shelf.new) (fault_in result) }
+    ensures asks { S.calls_left shelf.old ≤ S.calls_left shelf.new + 1 }
 {
     shelf.child_count(loaded.id)
 }
@@ -116,6 +121,7 @@ pub(crate) fn bytes_of<S: Shelf>(
         → IsLoaded t room path loaded.now →
         IfOk result (λ bytes. bytes.items ≡ bytes_at room path)) }
     ensures frame { ShelfRead (S.view shelf.old) (S.view shelf.new) (fault_in result) }
+    ensures asks { S.calls_left shelf.old ≤ S.calls_left shelf.new + 1 }
 {
     shelf.doc(loaded.id)
 }
@@ -126,6 +132,7 @@ pub(crate) fn count_bytes<S: Shelf>(shelf: &mut S, loaded: &LoadedObject) -> Res
         → IsLoaded t room path loaded.now →
         IfOk result (λ count. count ≡ length (bytes_at room path))) }
     ensures frame { ShelfRead (S.view shelf.old) (S.view shelf.new) (fault_in result) }
+    ensures asks { S.calls_left shelf.old ≤ S.calls_left shelf.new + 1 }
 {
     shelf.doc_size(loaded.id)
 }
@@ -136,6 +143,7 @@ pub(crate) fn size_of<S: Shelf>(shelf: &mut S, loaded: &LoadedObject) -> Result<
         → IsLoaded t room path loaded.now →
         IfOk result (λ size. size ≡ size_of room path loaded.now.kind)) }
     ensures frame { ShelfRead (S.view shelf.old) (S.view shelf.new) (fault_in result) }
+    ensures asks { S.calls_left shelf.old ≤ S.calls_left shelf.new + 1 }
 {
     match loaded.kind {
         Kind::File => {

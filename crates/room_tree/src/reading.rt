@@ -1,5 +1,5 @@
 //! Commands that only read.
-ghost use Rattle.std.specs.Prelude.{◌≡◌, [], IfOk, bit_and};
+ghost use Rattle.std.specs.Prelude.{◌≡◌, ◌+◌, ◌*◌, ◌≤◌, [], length, IfOk, bit_and};
 ghost use Rattle.room_records.specs.Room.{children};
 ghost use Rattle.room_records.specs.Names.{Path as PathModel};
 ghost use Rattle.room_records.specs.Shelf.{ShelfRead, fault_in};
@@ -28,6 +28,7 @@ pub(crate) fn plan_stat<S: Shelf>(
         (λ t room. Plans t room subject.now (C.Stat path.now) result) }
     ensures none { IfOk result (λ outcome. outcome.changes.items ≡ []) }
     ensures frame { ShelfRead (S.view shelf.old) (S.view shelf.new) (stop_fault result) }
+    ensures asks { S.calls_left shelf.old ≤ S.calls_left shelf.new + 2 * length path.now + 5 }
 {
     let loaded = reach_to_use(alloc, shelf, subject, path, None, Mask::READ_ATTRIBUTES)?;
     let size = size_of(shelf, &loaded)?;
@@ -55,6 +56,7 @@ pub(crate) fn plan_list<S: Shelf>(
         (λ t room. Plans t room subject.now (C.ListNames path.now) result) }
     ensures none { IfOk result (λ outcome. outcome.changes.items ≡ []) }
     ensures frame { ShelfRead (S.view shelf.old) (S.view shelf.new) (stop_fault result) }
+    ensures asks { S.calls_left shelf.old ≤ S.calls_left shelf.new + 2 * length path.now + 5 }
 {
     let loaded = reach_to_use(
         alloc,
@@ -77,6 +79,7 @@ fn names_in<S: Shelf>(
         → IsLoaded t room path loaded.now →
         IfOk result (λ names. names.items ≡ children room path)) }
     ensures frame { ShelfRead (S.view shelf.old) (S.view shelf.new) (fault_in result) }
+    ensures asks { S.calls_left shelf.old ≤ S.calls_left shelf.new + 1 }
 {
     shelf.names(loaded.id)
 }
@@ -92,6 +95,7 @@ pub(crate) fn plan_read<S: Shelf>(
         (λ t room. Plans t room subject.now (C.Read path.now) result) }
     ensures none { IfOk result (λ outcome. outcome.changes.items ≡ []) }
     ensures frame { ShelfRead (S.view shelf.old) (S.view shelf.new) (stop_fault result) }
+    ensures asks { S.calls_left shelf.old ≤ S.calls_left shelf.new + 2 * length path.now + 5 }
 {
     let loaded = reach_to_use(
         alloc,
@@ -116,6 +120,7 @@ pub(crate) fn plan_getlist<S: Shelf>(
         (λ t room. Plans t room subject.now (C.GetList path.now) result) }
     ensures none { IfOk result (λ outcome. outcome.changes.items ≡ []) }
     ensures frame { ShelfRead (S.view shelf.old) (S.view shelf.new) (stop_fault result) }
+    ensures asks { S.calls_left shelf.old ≤ S.calls_left shelf.new + 2 * length path.now + 5 }
 {
     let loaded = reach_to_use(alloc, shelf, subject, path, None, Mask::READ_ACL)?;
     let list = loaded.whole_list(shelf)?;
@@ -140,6 +145,7 @@ pub(crate) fn plan_access<S: Shelf>(
         (λ t room. Plans t room subject.now (C.Access mask path.now) result) }
     ensures none { IfOk result (λ outcome. outcome.changes.items ≡ []) }
     ensures frame { ShelfRead (S.view shelf.old) (S.view shelf.new) (stop_fault result) }
+    ensures asks { S.calls_left shelf.old ≤ S.calls_left shelf.new + 2 * length path.now + 5 }
 {
     let loaded = reach(alloc, shelf, subject, path)?;
     let list = loaded.whole_list(shelf)?;

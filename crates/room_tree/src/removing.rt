@@ -1,5 +1,5 @@
 //! Commands that remove an object.
-ghost use Rattle.std.specs.Prelude.{◌≡◌, [], ◌∷◌, nat_lt};
+ghost use Rattle.std.specs.Prelude.{◌≡◌, ◌+◌, ◌*◌, ◌≤◌, [], ◌∷◌, length, nat_lt};
 ghost use Rattle.room_records.specs.Names.{IsPath};
 ghost use Rattle.room_records.specs.Room.{parent_of};
 ghost use Rattle.room_records.specs.Shelf.{ShelfRead};
@@ -33,6 +33,7 @@ pub(crate) fn check_removal<S: Shelf>(
         → IsLoaded t room (parent_of path.now) above.now →
         Passes (check_removal room subject.now path.now) (λ _. Unit {0}) result) }
     ensures frame { ShelfRead (S.view shelf.old) (S.view shelf.new) (stop_fault result) }
+    ensures asks { S.calls_left shelf.old ≤ S.calls_left shelf.new + 2 }
 {
     let own = loaded.allows(shelf, subject, Mask::DELETE)?;
     if own {
@@ -62,6 +63,7 @@ fn removable<S: Shelf>(
         ∷ check_exists room path.now ∷ check_removal room subject.now path.now ∷ []))
         (IsLoaded t room path.now) result) }
     ensures frame { ShelfRead (S.view shelf.old) (S.view shelf.new) (stop_fault result) }
+    ensures asks { S.calls_left shelf.old ≤ S.calls_left shelf.new + 2 * length path.now + 3 }
 {
     if path.names().len() == 0 {
         return Err(Stop::of(RefusalCode::Inval));
@@ -93,6 +95,7 @@ pub(crate) fn plan_remove<S: Shelf>(
     ensures effect { OfRoom (S.view shelf.old) (S.view shelf.new)
         (λ t room. Plans t room subject.now (C.Remove path.now) result) }
     ensures frame { ShelfRead (S.view shelf.old) (S.view shelf.new) (stop_fault result) }
+    ensures asks { S.calls_left shelf.old ≤ S.calls_left shelf.new + 2 * length path.now + 5 }
 {
     let loaded = removable(alloc, shelf, subject, path)?;
     let count = count_children(shelf, &loaded)?;

@@ -1,5 +1,5 @@
 //! Lists that change, and those below them.
-ghost use Rattle.std.specs.Prelude.{◌≡◌, ◌≢◌, ◌+◌, ◌≤◌, [], ◌∷◌, ◌++◌, length, true, Some, MatchOption};
+ghost use Rattle.std.specs.Prelude.{◌≡◌, ◌≢◌, ◌+◌, ◌*◌, ◌≤◌, [], ◌∷◌, ◌++◌, length, true, Some, MatchOption};
 ghost use Rattle.std.specs.Prelude.{IfOk, OnOk, OnErr};
 ghost use Rattle.room_acl.specs.Bits.{follows};
 ghost use Rattle.room_acl.specs.Inheritance.{with_inherited};
@@ -9,6 +9,7 @@ ghost use Rattle.room_records.specs.Names.{Path as PathModel};
 ghost use Rattle.room_records.specs.Representation.{HasPath, RepresentsRoom};
 ghost use Rattle.room_records.specs.Room.{Room, list_under, object_at};
 ghost use Rattle.room_records.specs.Shelf.{ShelfRead, fault_in};
+ghost use Rattle.room_tree.specs.Asks.{at_or_below};
 ghost use Rattle.room_tree.specs.LoadedObjects.{OfRoom};
 ghost use Rattle.room_tree.specs.Renewals.{AddsEntries, AddsRenewals, PutsList, entries_of};
 
@@ -39,6 +40,7 @@ fn list_above<S: Shelf>(
     ensures value { OfRoom (S.view shelf.old) (S.view shelf.new) (λ t room. IfOk result (λ above.
         follows aclflag ≡ true → above.items ≡ entries_of t folder)) }
     ensures frame { ShelfRead (S.view shelf.old) (S.view shelf.new) (fault_in result) }
+    ensures asks { S.calls_left shelf.old ≤ S.calls_left shelf.new + 1 }
 {
     match folder {
         Some(folder) if aclflag.follows() => shelf.entries(folder),
@@ -58,6 +60,7 @@ pub(crate) fn list_in_folder<S: Shelf>(
     ensures value { OfRoom (S.view shelf.old) (S.view shelf.new) (λ t room. IfOk result (λ list.
         list.items ≡ with_inherited own.items aclflag kind (entries_of t folder))) }
     ensures frame { ShelfRead (S.view shelf.old) (S.view shelf.new) (fault_in result) }
+    ensures asks { S.calls_left shelf.old ≤ S.calls_left shelf.new + 1 }
 {
     let above = list_above(alloc, shelf, folder, aclflag)?;
     let list = with_inherited(alloc, own, aclflag, kind, above.as_slice())?;
@@ -76,6 +79,7 @@ fn renewed_list<S: Shelf>(
         (t.entries node.now.id ≡ list_under (object_at room path) above.now)
         (λ list. (list.items ≡ list_under (object_at room path) above.now) × (list.items ≢ t.entries node.now.id)))) }
     ensures frame { ShelfRead (S.view shelf.old) (S.view shelf.new) (fault_in result) }
+    ensures asks { S.calls_left shelf.old ≤ S.calls_left shelf.new + 1 }
 {
     if !node.aclflag.follows() {
         return Ok(None);
@@ -100,6 +104,7 @@ pub(crate) fn moved_list<S: Shelf>(
         (λ list. (list.items ≡ list_under (object_at room path) (t.entries into))
         × (list.items ≢ t.entries node.now.id)))) }
     ensures frame { ShelfRead (S.view shelf.old) (S.view shelf.new) (fault_in result) }
+    ensures asks { S.calls_left shelf.old ≤ S.calls_left shelf.new + 2 }
 {
     if node.parent == Some(into) {
         return Ok(None);
@@ -133,6 +138,8 @@ fn renew_within<S: Shelf>(
         → max_names ≤ length path + levels →
         OnOk result (AddsRenewals t room path list.now out.old.items out.new.items)) }
     ensures frame { ShelfRead (S.view shelf.old) (S.view shelf.new) (fault_in result) }
+    ensures asks { OfRoom (S.view shelf.old) (S.view shelf.new) (λ t room. (path : PathModel) → HasPath t path id →
+        S.calls_left shelf.old + 1 ≤ S.calls_left shelf.new + 2 * at_or_below room path) }
     ensures adds { AddsEntries out.old.items out.new.items }
 {
     if levels == 0 {
@@ -180,6 +187,8 @@ pub fn renew<S: Shelf>(
         → HasPath (S.view shelf.old).records.objects path id →
         OnOk result (AddsRenewals (S.view shelf.old).records.objects room path list.now out.old.items out.new.items) }
     ensures frame { ShelfRead (S.view shelf.old) (S.view shelf.new) (fault_in result) }
+    ensures asks { OfRoom (S.view shelf.old) (S.view shelf.new) (λ t room. (path : PathModel) → HasPath t path id →
+        S.calls_left shelf.old + 1 ≤ S.calls_left shelf.new + 2 * at_or_below room path) }
     ensures adds { AddsEntries out.old.items out.new.items }
 {
     renew_within(alloc, shelf, id, Kind::Folder, list, MAX_NAMES, out)
@@ -198,6 +207,8 @@ fn renew_below<S: Shelf>(
         HasPath t path id → t.node id ≡ Some node → node.kind ≡ kind →
         OnOk result (AddsRenewals t room path list.now out.old.items out.new.items)) }
     ensures frame { ShelfRead (S.view shelf.old) (S.view shelf.new) (fault_in result) }
+    ensures asks { OfRoom (S.view shelf.old) (S.view shelf.new) (λ t room. (path : PathModel) → HasPath t path id →
+        S.calls_left shelf.old + 1 ≤ S.calls_left shelf.new + 2 * at_or_below room path) }
 {
     if let Kind::File = kind {
         return Ok(());
@@ -216,6 +227,8 @@ pub(crate) fn with_list<S: Shelf>(
         HasPath t path node.id → t.node node.id ≡ Some stored → stored.kind ≡ node.kind →
         IfOk result (λ changes. PutsList t room path node list changes.items)) }
     ensures frame { ShelfRead (S.view shelf.old) (S.view shelf.new) (fault_in result) }
+    ensures asks { OfRoom (S.view shelf.old) (S.view shelf.new) (λ t room. (path : PathModel) → HasPath t path node.id →
+        S.calls_left shelf.old ≤ S.calls_left shelf.new + 2 * at_or_below room path) }
 {
     let id = node.id;
     let kind = node.kind;

@@ -1,10 +1,11 @@
 //! SETLIST.
-ghost use Rattle.std.specs.Prelude.{◌≡◌, [], ◌∷◌, IfOk};
+ghost use Rattle.std.specs.Prelude.{◌≡◌, ◌+◌, ◌≤◌, [], ◌∷◌, IfOk};
 ghost use Rattle.std.specs.List.{filter_map};
 ghost use Rattle.room_acl.specs.Inheritance.{own_entries_fault};
 ghost use Rattle.room_records.specs.Shelf.{ShelfRead};
 ghost use Rattle.room_commands.specs.Checks.{check_lawful};
 ghost use Rattle.room_commands.specs.CommandModel as C;
+ghost use Rattle.room_tree.specs.Asks.{at_or_below, most_asks};
 ghost use Rattle.room_tree.specs.LoadedObjects.{OfRoom, node_of};
 ghost use Rattle.room_tree.specs.Plans.{Plans};
 ghost use Rattle.room_tree.specs.Stops.{refusal_in, stop_fault};
@@ -77,6 +78,9 @@ pub(crate) fn plan_setlist<S: Shelf>(
     ensures effect { OfRoom (S.view shelf.old) (S.view shelf.new)
         (λ t room. Plans t room subject.now (C.SetList aclflag entries.now path.now) result) }
     ensures frame { ShelfRead (S.view shelf.old) (S.view shelf.new) (stop_fault result) }
+    ensures asks { OfRoom (S.view shelf.old) (S.view shelf.new) (λ t room.
+        S.calls_left shelf.old ≤ S.calls_left shelf.new
+        + most_asks (C.SetList aclflag entries.now path.now) (at_or_below room path.now)) }
 {
     let loaded = reach_to_use(alloc, shelf, subject, path, None, Mask::WRITE_ACL)?;
     let own = own_entries(alloc, follows_at(path, aclflag), entries)?;

@@ -1,5 +1,5 @@
 //! The walk of a path, from the root down.
-ghost use Rattle.std.specs.Prelude.{◌≡◌, ◌++◌, [], ◌∷◌, IfOk, MatchOption};
+ghost use Rattle.std.specs.Prelude.{◌≡◌, ◌+◌, ◌*◌, ◌≤◌, ◌++◌, [], ◌∷◌, length, IfOk, MatchOption};
 ghost use Rattle.room_records.specs.Names.{Path as PathModel};
 ghost use Rattle.room_records.specs.Room.{object_at};
 ghost use Rattle.room_records.specs.Shelf.{ShelfRead, fault_in};
@@ -28,6 +28,7 @@ fn load_root<S: Shelf>(shelf: &mut S) -> Result<Option<LoadedObject>, ShelfFault
     ensures value { OfRoom (S.view shelf.old) (S.view shelf.new) (λ t room. IfOk result (λ found.
         MatchOption found ⊥ (IsLoaded t room []))) }
     ensures frame { ShelfRead (S.view shelf.old) (S.view shelf.new) (fault_in result) }
+    ensures asks { S.calls_left shelf.old ≤ S.calls_left shelf.new + 1 }
 {
     let Some(root) = shelf.node(1)? else {
         return Ok(None);
@@ -46,6 +47,7 @@ fn load_child<S: Shelf>(
         IfOk result (λ found. MatchOption found (object_at room (path ++ name.now ∷ []) ≡ None)
         (IsLoaded t room (path ++ name.now ∷ [])))) }
     ensures frame { ShelfRead (S.view shelf.old) (S.view shelf.new) (fault_in result) }
+    ensures asks { S.calls_left shelf.old ≤ S.calls_left shelf.new + 1 }
 {
     let Some(node) = shelf.child(here.id, name)? else {
         return Ok(None);
@@ -64,6 +66,7 @@ pub(crate) fn walk_path<S: Shelf>(
     ensures value { OfRoom (S.view shelf.old) (S.view shelf.new) (λ t room.
         Passes (walk room subject.now path.now) (IsWalk t room path.now) result) }
     ensures frame { ShelfRead (S.view shelf.old) (S.view shelf.new) (stop_fault result) }
+    ensures asks { S.calls_left shelf.old ≤ S.calls_left shelf.new + 2 * length path.now + 1 }
 {
     let Some(mut here) = load_root(shelf)? else {
         return Err(Stop::of(RefusalCode::NoEnt));

@@ -6,6 +6,7 @@ use Rattle.room_records.specs.Shelf.{name_of}
 use Rattle.room_records.proofs.Lists.{all_at, all_append}
 use Rattle.room_records.proofs.Shelves.{read_then}
 use Rattle.room_tree.specs.Depths.{StandsBelow}
+use Rattle.room_tree.proofs.Below.{at_child, children_apart, itself_counts}
 use Rattle.room_tree.proofs.Depths.{itself_below, none_below_file, one_level_more, child_path, none_below_children}
 use Rattle.room_tree.proofs.InTurn.{both_tell}
 use Rattle.room_tree.proofs.depth.+reaches_down.Goals as goal
@@ -26,6 +27,7 @@ loop-node-init g m c = record {
       rw c.deref-node-items.ensures.value
       (rw (← e) (c.in_ok-nodes.ensures.value available laid_out));
   none = λ available laid_out t e room stand path node at stands kind. tt;
+  asks = λ available laid_out t e room stand path at. omega (arith, c.children.ensures.asks);
 }
 
 pub returns-then-deep-clause-value : goal.returns-then-deep-clause-value
@@ -68,6 +70,11 @@ loop-node-preserved g m c =
           take_more items i child c.loop-node-test.true ∙ ap (λ n. take i items ++ n ∷ []) (sym c.node-item.is) in
           rw more (all_append Free (take i items) (child ∷ []) (c.loop-node.invariant.none before laid_out
           t e room stand path node at stands kind) (rw c.if-deep.false at found, tt));
+      asks = λ available laid_out t e room stand path at.
+          let told = at_child _ _ c.args.id items i child c.loop-node.invariant.frame c.reaches_down.ensures.frame
+          c.loop-node.invariant.children c.loop-node.invariant.asks c.reaches_down.ensures.asks c.loop-node-test.true
+          c.node-item.is available laid_out t e room stand path at in
+          omega (arith, told.0 path at, told.1 (path ++ name_of child ∷ []) told.2.at, told.2.more);
     }
 
 pub returns-clause-value : goal.returns-clause-value
@@ -77,3 +84,33 @@ returns-clause-value g m c = λ available laid_out t e room stand path node at s
     let none = c.loop-node.invariant.none available laid_out t e room stand path node at stands kind in
     none_below_children stand path c.args.id c.args.levels items at are (omega (arith, c.if-levels-eq0.false))
     (rw (← take_all c.loop-node.node-index items c.loop-node-test.false) none)
+
+pub returns-in_err-nodes-clause-asks : goal.returns-in_err-nodes-clause-asks
+returns-in_err-nodes-clause-asks g m c = λ available laid_out t e room stand path at.
+    omega (arith, c.children.ensures.asks, itself_counts stand path c.args.id at)
+
+pub returns-in_err-deep-clause-asks : goal.returns-in_err-deep-clause-asks
+returns-in_err-deep-clause-asks g m c = λ available laid_out t e room stand path at.
+    let child = c.node-item.result in
+    let told = at_child _ _ c.args.id c.deref-node-items.result.now c.loop-node.node-index child
+    c.loop-node.invariant.frame c.reaches_down.ensures.frame c.loop-node.invariant.children c.loop-node.invariant.asks
+    c.reaches_down.ensures.asks c.loop-node-test.true c.node-item.is available laid_out t e room stand path at in
+    omega (arith, told.0 path at, told.1 (path ++ name_of child ∷ []) told.2.at, told.2.more, told.2.apart)
+
+pub returns-then-deep-clause-asks : goal.returns-then-deep-clause-asks
+returns-then-deep-clause-asks g m c = λ available laid_out t e room stand path at.
+    let child = c.node-item.result in
+    let told = at_child _ _ c.args.id c.deref-node-items.result.now c.loop-node.node-index child
+    c.loop-node.invariant.frame c.reaches_down.ensures.frame c.loop-node.invariant.children c.loop-node.invariant.asks
+    c.reaches_down.ensures.asks c.loop-node-test.true c.node-item.is available laid_out t e room stand path at in
+    omega (arith, told.0 path at, told.1 (path ++ name_of child ∷ []) told.2.at, told.2.more, told.2.apart)
+
+pub returns-clause-asks : goal.returns-clause-asks
+returns-clause-asks g m c = λ available laid_out t e room stand path at.
+    let are = c.loop-node.invariant.children available laid_out t e room stand in
+    omega (
+      arith,
+      c.loop-node.invariant.asks available laid_out t e room stand path at,
+      children_apart stand path c.args.id c.deref-node-items.result.now c.loop-node.node-index at
+          (are.in_order stand.rules.nodes),
+    )

@@ -1,16 +1,17 @@
-use Rattle.std.proofs.Common.{◌≡◌, ◌-◌, take, None, Some}
+use Rattle.std.proofs.Common.{◌≡◌, ◌+◌, ◌-◌, ◌≤◌, take, None, Some}
 use Rattle.room_records.specs.declared.node.Node.{Node}
 use Rattle.room_records.specs.Names.{Path}
 use Rattle.room_records.specs.Representation.{HasPath}
 use Rattle.room_records.specs.Shelf.{AreChildren, ShelfRead}
 use Rattle.room_tree.specs.LoadedObjects.{OfRoom}
+use Rattle.room_tree.proofs.Below.{below_each}
 use Rattle.room_tree.proofs.Depths.{NoneBelowEach}
 use Rattle.room_tree.proofs.depth.+reaches_down.Given as goal
 
 abbrev pub decreases-reaches_down : goal.decreases-reaches_down
 decreases-reaches_down g l = l.levels
 
--- the shelf is as it was, and nothing was found below the children so far
+-- the shelf is as it was, asked once for each object below so far, and nothing was found below the children so far
 abbrev pub invariant-loop-node : goal.invariant-loop-node
 invariant-loop-node g l = let s = g.S.Shelf in record {
   frame : ShelfRead (s.view l.fn.shelf) (s.view l.shelf) None;
@@ -18,4 +19,7 @@ invariant-loop-node g l = let s = g.S.Shelf in record {
   none : OfRoom (s.view l.fn.shelf) (s.view l.shelf) (λ t room. (path : Path) (node : Node) → HasPath t path l.fn.id
       → t.node l.fn.id ≡ Some node → node.kind ≡ l.fn.kind
       → NoneBelowEach room path (l.levels - 1) (take l.node-index l.node-items));
+  asks : OfRoom (s.view l.fn.shelf) (s.view l.shelf) (λ t room. (path : Path) → HasPath t path l.fn.id
+      → s.calls_left l.fn.shelf
+      ≤ s.calls_left l.shelf + 1 + below_each room path (take l.node-index l.node-items));
 }

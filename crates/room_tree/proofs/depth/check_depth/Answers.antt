@@ -36,3 +36,15 @@ returns-else-deep-clause-value g c = λ available laid_out t e room stand path f
           ∙ ap (λ b. refuse_if b TooDeep) c.if-deep.false,
       tt,
     )
+
+pub returns-in_err-deep-clause-asks : goal.returns-in_err-deep-clause-asks
+returns-in_err-deep-clause-asks g c = λ available laid_out t e room stand path found.
+    c.reaches_down.ensures.asks available laid_out t e room stand path found.is_there.at
+
+pub returns-then-deep-clause-asks : goal.returns-then-deep-clause-asks
+returns-then-deep-clause-asks g c = λ available laid_out t e room stand path found.
+    c.reaches_down.ensures.asks available laid_out t e room stand path found.is_there.at
+
+pub returns-else-deep-clause-asks : goal.returns-else-deep-clause-asks
+returns-else-deep-clause-asks g c = λ available laid_out t e room stand path found.
+    c.reaches_down.ensures.asks available laid_out t e room stand path found.is_there.at

@@ -11,8 +11,10 @@ use Rattle.room_records.specs.Shelf.{name_of}
 use Rattle.room_records.proofs.Lists.{all_at}
 use Rattle.room_records.proofs.Shelves.{read_then}
 use Rattle.room_records.proofs.RoomsMap.{some_is}
+use Rattle.room_tree.proofs.Below.{at_child, children_apart, itself_counts}
 use Rattle.room_tree.proofs.Depths.{child_path}
 use Rattle.room_tree.proofs.EntriesAdded.{adds_none, adds_more, adds_one}
+use Rattle.room_tree.proofs.InTurn.{both_tell}
 use Rattle.room_tree.proofs.RenewingParts.{child_stays, renews_child}
 use Rattle.room_tree.proofs.RenewingChildren.{renews_lowest, renews_file, none_so_far, one_more_so_far, all_so_far}
 use Rattle.room_tree.proofs.renewing.+renew_within.Goals as goal
@@ -48,6 +50,7 @@ loop-node-init g m c = record {
   renews = λ available laid_out t e room stand path at deep.
       none_so_far stand path c.args.list.now c.args.out.now.items;
   adds = adds_none c.args.out.now.items c.args.out.now.items refl;
+  asks = λ available laid_out t e room stand path at. omega (arith, c.children.ensures.asks);
 }
 
 pub returns-clause-value : goal.returns-clause-value
@@ -85,6 +88,12 @@ loop-node-preserved-in_default-2 g m c =
           (child_stays t room stand path c.args.list.now (name_of child) child.id here (rw c.in_default-2.is at told))
           (sym (append-nil c.loop-node.out.items));
       adds = c.loop-node.invariant.adds;
+      asks = λ available laid_out t e room stand path at.
+          let told = at_child _ (λ t room. Unit {0}) c.args.id items i child c.loop-node.invariant.frame
+          c.renewed_list.ensures.frame c.loop-node.invariant.children c.loop-node.invariant.asks
+          (λ available laid_out t e room stand. tt) c.loop-node-test.true
+          c.node-item.is available laid_out t e room stand path at in
+          omega (arith, c.renewed_list.ensures.asks, told.0 path at, told.2.more, told.2.some);
     }
 
 pub loop-node-preserved : goal.loop-node-preserved
@@ -133,4 +142,85 @@ loop-node-preserved g m c =
       adds = adds_more c.args.out.now.items c.loop-node.out.items _ c.loop-node.invariant.adds
           (adds_more c.loop-node.out.items _ _ c.renew_within.ensures.adds
           (adds_one _ _ child.id renewed c.in_ok-add_change.ensures.added));
+      asks = λ available laid_out t e room stand path at.
+          let after = both_tell (λ t room. Unit {0}) _ c.in_ok-renewed.ensures.frame c.renew_within.ensures.frame
+          (λ available laid_out t e room stand. tt) c.renew_within.ensures.asks in
+          let told = at_child _ _ c.args.id items i child c.loop-node.invariant.frame
+          (read_then _ _ _ _ c.renew_within.ensures.frame c.in_ok-renewed.ensures.frame)
+          c.loop-node.invariant.children c.loop-node.invariant.asks after c.loop-node-test.true
+          c.node-item.is available laid_out t e room stand path at in
+          omega (
+            arith,
+            c.renewed_list.ensures.asks,
+            told.0 path at,
+            told.1.1 (path ++ name_of child ∷ []) told.2.at,
+            told.2.more,
+          );
     }
+
+pub returns-then-levels-eq0-clause-asks : goal.returns-then-levels-eq0-clause-asks
+returns-then-levels-eq0-clause-asks g m c = λ available laid_out t e room stand path at.
+    omega (arith, itself_counts stand path c.args.id at)
+
+pub returns-in-File-clause-asks : goal.returns-in-File-clause-asks
+returns-in-File-clause-asks g m c = λ available laid_out t e room stand path at.
+    omega (arith, itself_counts stand path c.args.id at)
+
+pub returns-in_err-nodes-clause-asks : goal.returns-in_err-nodes-clause-asks
+returns-in_err-nodes-clause-asks g m c = λ available laid_out t e room stand path at.
+    omega (arith, c.children.ensures.asks, itself_counts stand path c.args.id at)
+
+pub returns-in_err-renewed-clause-asks : goal.returns-in_err-renewed-clause-asks
+returns-in_err-renewed-clause-asks g m c = λ available laid_out t e room stand path at.
+    let child = c.node-item.result in
+    let told = at_child _ (λ t room. Unit {0}) c.args.id c.deref-node-items.result.now c.loop-node.node-index child
+    c.loop-node.invariant.frame c.renewed_list.ensures.frame c.loop-node.invariant.children c.loop-node.invariant.asks
+    (λ available laid_out t e room stand. tt) c.loop-node-test.true c.node-item.is
+    available laid_out t e room stand path at in
+    omega (arith, c.renewed_list.ensures.asks, told.0 path at, told.2.more, told.2.some, told.2.apart)
+
+pub returns-in_err-renew_within-clause-asks : goal.returns-in_err-renew_within-clause-asks
+returns-in_err-renew_within-clause-asks g m c = λ available laid_out t e room stand path at.
+    let child = c.node-item.result in
+    let after = both_tell (λ t room. Unit {0}) _ c.in_ok-renewed.ensures.frame c.renew_within.ensures.frame
+    (λ available laid_out t e room stand. tt) c.renew_within.ensures.asks in
+    let told = at_child _ _ c.args.id c.deref-node-items.result.now c.loop-node.node-index child
+    c.loop-node.invariant.frame (read_then _ _ _ _ c.renew_within.ensures.frame c.in_ok-renewed.ensures.frame)
+    c.loop-node.invariant.children c.loop-node.invariant.asks after c.loop-node-test.true c.node-item.is
+    available laid_out t e room stand path at in
+    omega (
+      arith,
+      c.renewed_list.ensures.asks,
+      told.0 path at,
+      told.1.1 (path ++ name_of child ∷ []) told.2.at,
+      told.2.more,
+      told.2.apart,
+    )
+
+pub returns-in_err-add_change-clause-asks : goal.returns-in_err-add_change-clause-asks
+returns-in_err-add_change-clause-asks g m c = λ available laid_out t e room stand path at.
+    let child = c.node-item.result in
+    let after = both_tell (λ t room. Unit {0}) _ c.in_ok-renewed.ensures.frame c.renew_within.ensures.frame
+    (λ available laid_out t e room stand. tt) c.renew_within.ensures.asks in
+    let told = at_child _ _ c.args.id c.deref-node-items.result.now c.loop-node.node-index child
+    c.loop-node.invariant.frame (read_then _ _ _ _ c.renew_within.ensures.frame c.in_ok-renewed.ensures.frame)
+    c.loop-node.invariant.children c.loop-node.invariant.asks after c.loop-node-test.true c.node-item.is
+    available laid_out t e room stand path at in
+    omega (
+      arith,
+      c.renewed_list.ensures.asks,
+      told.0 path at,
+      told.1.1 (path ++ name_of child ∷ []) told.2.at,
+      told.2.more,
+      told.2.apart,
+    )
+
+pub returns-clause-asks : goal.returns-clause-asks
+returns-clause-asks g m c = λ available laid_out t e room stand path at.
+    let are = c.loop-node.invariant.children available laid_out t e room stand in
+    omega (
+      arith,
+      c.loop-node.invariant.asks available laid_out t e room stand path at,
+      children_apart stand path c.args.id c.deref-node-items.result.now c.loop-node.node-index at
+          (are.in_order stand.rules.nodes),
+    )

@@ -1,6 +1,7 @@
-use Rattle.std.proofs.Common.{ap, sym, ◌∙◌, [], append-nil}
+use Rattle.std.proofs.Common.{ap, sym, ◌∙◌, [], append-nil, arith}
 use Rattle.room_records.specs.declared.node.Node.{Node}
 use Rattle.room_records.proofs.RoomsMap.{some_is}
+use Rattle.room_tree.proofs.Below.{itself_counts}
 use Rattle.room_tree.proofs.RenewingChildren.{renews_file}
 use Rattle.room_tree.proofs.renewing.renew_below.Goals as goal
 
@@ -15,3 +16,7 @@ returns-in-File-clause-value g c = λ available laid_out t e room stand path nod
 pub returns-clause-value : goal.returns-clause-value
 returns-clause-value g c = λ available laid_out t e room stand path node at stands kind.
     rw (← e) (c.renew.ensures.value available laid_out room (rw e stand) path (rw e (at)))
+
+pub returns-in-File-clause-asks : goal.returns-in-File-clause-asks
+returns-in-File-clause-asks g c = λ available laid_out t e room stand path at.
+    omega (arith, itself_counts stand path c.args.id at)

@@ -1,4 +1,4 @@
-use Rattle.std.proofs.Common.{ap, ◌∙◌, List, [], ◌∷◌, ◌++◌}
+use Rattle.std.proofs.Common.{ap, ◌∙◌, arith, List, [], ◌∷◌, ◌++◌}
 use Rattle.room_records.specs.declared.change.Change.{Change}
 use Rattle.room_records.specs.declared.change.Change.TheVariants.{PutEntries, PutNode}
 use Rattle.room_tree.proofs.renewing.with_list.Goals as goal
@@ -20,3 +20,15 @@ returns-clause-value g c = λ available laid_out t e room stand path stored at s
           (c.in_ok-add_change.ensures.added
           ∙ ap (λ (l : List Change). l ++ PutNode c.args.node ∷ []) c.new-changes.ensures.items)),
     )
+
+pub returns-in_err-renew_below-clause-asks : goal.returns-in_err-renew_below-clause-asks
+returns-in_err-renew_below-clause-asks g c = λ available laid_out t e room stand path at.
+    omega (arith, c.renew_below.ensures.asks available laid_out t e room stand path at)
+
+pub returns-in_err-add_change-2-clause-asks : goal.returns-in_err-add_change-2-clause-asks
+returns-in_err-add_change-2-clause-asks g c = λ available laid_out t e room stand path at.
+    omega (arith, c.renew_below.ensures.asks available laid_out t e room stand path at)
+
+pub returns-clause-asks : goal.returns-clause-asks
+returns-clause-asks g c = λ available laid_out t e room stand path at.
+    omega (arith, c.renew_below.ensures.asks available laid_out t e room stand path at)

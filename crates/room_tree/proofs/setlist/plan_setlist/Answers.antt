@@ -1,4 +1,4 @@
-use Rattle.std.proofs.Common.{◌≡◌, ap, sym, ◌∙◌, [], ◌∷◌, refl}
+use Rattle.std.proofs.Common.{◌≡◌, ap, sym, ◌∙◌, [], ◌∷◌, refl, arith}
 use Rattle.std.specs.List.{filter_map}
 use Rattle.room_acl.specs.Inheritance.{own_entries_fault, with_inherited}
 use Rattle.room_commands.specs.SetList.{kept_entry, own_entries_of_setlist}
@@ -83,3 +83,33 @@ returns-clause-effect g c = λ available laid_out t e room stand.
     let changes = rw (c.as_slice-2.ensures.value ∙ stored) at c.if_changed-list.ensures in
     setlist_plans stand reached.1 caller flag sent passed
     c.in_ok-list.list.items list c.if_changed-list.result changes _ planned refl
+
+pub returns-in_err-changes-clause-asks : goal.returns-in_err-changes-clause-asks
+returns-in_err-changes-clause-asks g c = λ available laid_out t e room stand.
+    let before = read_then _ _ _ _ c.in_ok-stored.ensures.frame c.in_ok-list.ensures.frame in
+    let told = both_tell _ _ c.reach_to_use.ensures.frame (read_then _ _ _ _ c.with_list.ensures.frame before)
+    c.in_ok-loaded.ensures.value (both_tell (λ t room. Unit {0}) _ before c.with_list.ensures.frame
+    (λ available laid_out t e room stand. tt) c.with_list.ensures.asks) available laid_out t e room stand in
+    let shows = told.0.1.is_there in
+    omega (
+      arith,
+      c.reach_to_use.ensures.asks,
+      c.list_in_folder.ensures.asks,
+      c.whole_list.ensures.asks,
+      told.1.1 c.args.path.now (rw c.with_flags-node.ensures shows.at),
+    )
+
+pub returns-clause-asks : goal.returns-clause-asks
+returns-clause-asks g c = λ available laid_out t e room stand.
+    let before = read_then _ _ _ _ c.in_ok-stored.ensures.frame c.in_ok-list.ensures.frame in
+    let told = both_tell _ _ c.reach_to_use.ensures.frame (read_then _ _ _ _ c.with_list.ensures.frame before)
+    c.in_ok-loaded.ensures.value (both_tell (λ t room. Unit {0}) _ before c.with_list.ensures.frame
+    (λ available laid_out t e room stand. tt) c.with_list.ensures.asks) available laid_out t e room stand in
+    let shows = told.0.1.is_there in
+    omega (
+      arith,
+      c.reach_to_use.ensures.asks,
+      c.list_in_folder.ensures.asks,
+      c.whole_list.ensures.asks,
+      told.1.1 c.args.path.now (rw c.with_flags-node.ensures shows.at),
+    )

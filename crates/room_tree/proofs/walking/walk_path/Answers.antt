@@ -15,6 +15,7 @@ returns-in_default-clause-value g c = λ available laid_out t e room stand.
 pub loop-index-init : goal.loop-index-init
 loop-index-init g c = record {
   frame = c.in_ok-here.ensures.frame;
+  asks = omega (arith, c.load_root.ensures.asks);
   names = c.names-names.ensures.value;
   walked = λ available laid_out t e room stand.
       (refl, rw c.in-Some.is at (c.in_ok-here.ensures.value available laid_out t e room stand), refl);
@@ -60,6 +61,7 @@ loop-index-preserved g c =
     record {
       frame = read_then _ _ _ _ c.in_ok-next.ensures.frame
           (read_then _ _ _ _ c.in_ok-check_way.ensures.frame c.loop-index.invariant.frame);
+      asks = omega (arith, c.loop-index.invariant.asks, c.check_way.ensures.asks, c.load_child.ensures.asks);
       names = c.loop-index.invariant.names;
       walked = λ available laid_out t e room stand.
           let told = both_tell _ _ c.loop-index.invariant.frame

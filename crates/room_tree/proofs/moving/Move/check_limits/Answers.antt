@@ -1,4 +1,4 @@
-use Rattle.std.proofs.Common.{ap, sym, ◌∙◌, cond, [], ◌∷◌, None}
+use Rattle.std.proofs.Common.{ap, sym, ◌∙◌, arith, cond, [], ◌∷◌, None}
 use Rattle.std.specs.Prelude.{nat_le}
 use Rattle.room_records.specs.Limits.{max_children}
 use Rattle.room_records.specs.Names.{path_eq}
@@ -58,3 +58,29 @@ returns-clause-value g c = λ available laid_out t e room stand path move.
           ∙ ap (λ n. refuse_if (nat_le max_children n) FolderFull) (sym count) ∙ sym c.in_ok-check_children.ensures,
       tt,
     )
+
+pub returns-in_err-check_depth-clause-asks : goal.returns-in_err-check_depth-clause-asks
+returns-in_err-check_depth-clause-asks g c = λ available laid_out t e room stand path move.
+    omega (arith, c.check_depth.ensures.asks available laid_out t e room stand path move.loaded)
+
+pub returns-then-self-clause-asks : goal.returns-then-self-clause-asks
+returns-then-self-clause-asks g c = λ available laid_out t e room stand path move.
+    omega (arith, c.check_depth.ensures.asks available laid_out t e room stand path move.loaded)
+
+pub returns-in_err-count-clause-asks : goal.returns-in_err-count-clause-asks
+returns-in_err-count-clause-asks g c = λ available laid_out t e room stand path move.
+    let told = both_tell _ (λ t room. Unit {0}) c.in_ok-check_depth.ensures.frame c.count_children.ensures.frame
+    c.check_depth.ensures.asks (λ available laid_out t e room stand. tt) available laid_out t e room stand in
+    omega (arith, told.0 path move.loaded, c.count_children.ensures.asks)
+
+pub returns-in_err-check_children-clause-asks : goal.returns-in_err-check_children-clause-asks
+returns-in_err-check_children-clause-asks g c = λ available laid_out t e room stand path move.
+    let told = both_tell _ (λ t room. Unit {0}) c.in_ok-check_depth.ensures.frame c.count_children.ensures.frame
+    c.check_depth.ensures.asks (λ available laid_out t e room stand. tt) available laid_out t e room stand in
+    omega (arith, told.0 path move.loaded, c.count_children.ensures.asks)
+
+pub returns-clause-asks : goal.returns-clause-asks
+returns-clause-asks g c = λ available laid_out t e room stand path move.
+    let told = both_tell _ (λ t room. Unit {0}) c.in_ok-check_depth.ensures.frame c.count_children.ensures.frame
+    c.check_depth.ensures.asks (λ available laid_out t e room stand. tt) available laid_out t e room stand in
+    omega (arith, told.0 path move.loaded, c.count_children.ensures.asks)
