@@ -3,7 +3,7 @@ import argparse
 import os
 import sys
 
-from . import changes, held, looking, numbers, told, warned
+from . import changes, held, looking, numbers, sees, told, warned
 from .commands import Commands
 from .places import Fault, Places, write
 
@@ -23,6 +23,9 @@ def parser():
     add_bounds(words)
     add_command(words, "trash", "makes the trash of each user who has none; of USER also where it is open to others",
                 "ROOM", many="USER")
+    one = add_command(words, "sees", "what USER may do in each room, or at PATH and why, by the latest backup", "USER")
+    one.add_argument("ROOM", nargs="?")
+    one.add_argument("PATH", nargs="?")
     log = add_command(words, "log", "who changed what in a room, and when, as the front's log has it", "ROOM")
     log.add_argument("--user", help="what this user asked for")
     log.add_argument("--path", help="what was done there, and below it")
@@ -196,6 +199,8 @@ def main(words):
         if given.command == "log":
             told.log(places, given.ROOM, given, print)
             return 0
+        if given.command == "sees":
+            return sees.tell(places, given.USER, given.ROOM, given.PATH, print)
         if given.command == "check" and given.prometheus:
             text = numbers.told(places, given.backup_hours)
             print(text, end="") if given.prometheus == "-" else write(text, given.prometheus)

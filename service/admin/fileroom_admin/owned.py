@@ -39,13 +39,15 @@ def made_at(name):
 
 
 @contextlib.contextmanager
-def opened(places, room, name):
-    """A copy of a backup's tables."""
+def opened(places, room, name, is_whole=False):
+    """A copy of a backup's tables; with `is_whole` each row was looked at, whether it is where it belongs."""
     one = of_backups()
     with tempfile.TemporaryDirectory(prefix="fileroom-") as to:
         try:
             one.copy_room(os.path.join(places.backups(room), name), to)
             with one.opened(to) as table:
+                if is_whole:
+                    one.need_whole(table)
                 yield table
         except (one.Fault, *one.NONE) as fault:
             raise Fault(f"the backup {name} of {room} cannot be read: {one.why(fault)}") from None
