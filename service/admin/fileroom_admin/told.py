@@ -8,6 +8,9 @@ import os
 import re
 import zlib
 
+from room_client.manifest import FOLDER
+from room_client.words import FILE, GROUP, flag_words, mask_words
+
 from .owned import of_backups
 from .places import CHANGES, Fault
 
@@ -162,12 +165,17 @@ def members_of(text):
 
 
 def entries(its):
-    """A list in words, its rights as numbers; None of what is none."""
+    """A list in the client's words; None of what is none."""
     if not isinstance(its, list) or not all(map(is_entry, its)):
         return None
-    words = [("deny " if it["type"] == 1 else "allow ") + ("group " if it["flag"] & 0x40 else "") +
-             f"{it['who']} {it['mask']:x}" for it in its]
-    return f": {', '.join(words) or 'an empty list'}"
+    return f": {'; '.join(map(entry, its)) or 'an empty list'}"
+
+
+def entry(it):
+    """(Whoever asks may send any number. Of what kind the object is, the log does not say.)"""
+    who = f"group:{it['who']}" if it["flag"] & GROUP else it["who"]
+    kind = "deny" if it["type"] == 1 else "allow"
+    return " ".join([kind, who, mask_words(it["mask"], FILE, FOLDER), *flag_words(it["flag"])])
 
 
 def is_entry(it):

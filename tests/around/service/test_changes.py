@@ -94,7 +94,7 @@ def test_owners_and_lists_within_a_large_file(folder):
         ("TURN", f"{inside}/000", {}))])
     of = "of the large file /c"
     assert tells(folder) == (0, [["ann", f"done  {it}"] for it in (
-        f"CREATE+MKDIR {of} (2 requests)", f"SETLIST {inside}/000: allow eve 1f07ff",
+        f"CREATE+MKDIR {of} (2 requests)", f"SETLIST {inside}/000: allow eve all",
         f"CHOWN {of} to bob:eng (2 requests)", f"CHOWN {of} to eve:eng (1 requests)", f"TURN {inside}/000")], "")
 
 
@@ -224,7 +224,7 @@ def test_each_command(asked):
     asked.sends({"cmd": "MKDIR", "path": "/a/x"}, "bob")
     assert asked.new() == [*(f"ann  {it}" for it in (
         "done  MKDIR /a", "done  CREATE /a/b", "done  WRITE /a/b", "refused  APPEND /a/b",
-        "done  RENAME /a/b -> /a/c", "refused  SETLIST /a/c: allow group staff 1200a9, deny eve 2",
+        "done  RENAME /a/b -> /a/c", "refused  SETLIST /a/c: allow group:staff view inherit; deny eve add-file,write",
         "done  CHOWN /a/c to bob:staff", "refused  REMOVE /a/none", "refused  REMOVE /a")), "bob  refused  MKDIR /a/x"]
 
 
