@@ -67,11 +67,19 @@ def add_users(words):
     user = user.add_subparsers(dest="what", required=True)
     add_command(user, "add", "a new user of ROOM, in these groups", "ROOM", "USER", many="GROUP")
     one = add_command(user, "import", "adds users from a CSV table: user, groups (blanks between), name", "ROOM", "CSV")
-    one.add_argument("--update", action="store_true", help="users who are there get what the table has")
+    how = one.add_mutually_exclusive_group()
+    how.add_argument("--update", action="store_true", help="users who are there get what the table has")
+    how.add_argument("--sync", action="store_true", help="and who is not in the table is removed")
+    one.add_argument("--dry-run", action="store_true", help="with --sync: only tell what would change")
+    one.add_argument("--many", action="store_true", help="with --sync: even if more than a fifth would be removed")
+    one.add_argument("--again", action="store_true", help="with --sync: who comes had that name here before")
     add_command(user, "groups", "sets the groups of a user", "ROOM", "USER", many="GROUP")
     add_command(user, "name", "the name that the page shows for a user; without NAME, the login", "USER", many="NAME")
     add_command(user, "rename", "renames a user in each room, and the login", "USER", "NEW")
-    add_command(user, "remove", "removes a user from ROOM; with the last room, the login too", "ROOM", "USER")
+    one = add_command(user, "remove", "removes a user from ROOM; with the last room, the login too")
+    one.add_argument("--all", action="store_true", help="from each room, with one change")
+    one.add_argument("ROOM", nargs="?")
+    one.add_argument("USER")
     add_command(user, "owns", "what a user owns in each room, by the latest backups", "USER")
     one = add_command(user, "passwd", "a new random password", "USER")
     one.add_argument("--stdin", action="store_true", help="take the first line of standard input instead")
@@ -127,6 +135,24 @@ def user_list(commands, given):
     commands.user_list(given.ROOM, given.csv)
 
 
+def user_import(commands, given):
+    if given.sync:
+        commands.user_sync(given.ROOM, given.CSV, given.dry_run, given.many, given.again)
+    elif given.dry_run or given.many or given.again:
+        raise Fault("--dry-run, --many and --again are for --sync")
+    else:
+        commands.user_import(given.ROOM, given.CSV, given.update)
+
+
+def user_remove(commands, given):
+    if given.all == (given.ROOM is not None):
+        raise Fault("from which room? user remove ROOM USER, or user remove --all USER")
+    rooms = commands.rooms_of(given.USER) if given.all else [given.ROOM]
+    if not rooms:
+        raise Fault(f"{given.USER} is no user of a room")
+    commands.user_remove(given.USER, *rooms)
+
+
 def passwd(commands, given):
     commands.user_passwd(given.USER, sys.stdin.readline().rstrip("\r\n") if given.stdin else None)
 
@@ -161,11 +187,11 @@ DOES = {
     "room renew": lambda it, given: it.room_renew(given.NAME),
     "room remove": lambda it, given: it.room_remove(given.NAME),
     "user add": lambda it, given: it.user_add(given.ROOM, given.USER, given.GROUP),
-    "user import": lambda it, given: it.user_import(given.ROOM, given.CSV, given.update),
+    "user import": user_import,
     "user groups": lambda it, given: it.user_groups(given.ROOM, given.USER, given.GROUP),
     "user name": lambda it, given: it.user_name(given.USER, " ".join(given.NAME)),
     "user rename": lambda it, given: it.user_rename(given.USER, given.NEW),
-    "user remove": lambda it, given: it.user_remove(given.ROOM, given.USER),
+    "user remove": user_remove,
     "user passwd": passwd,
     "group add": lambda it, given: it.group_change(given.ROOM, given.GROUP, given.USER, True),
     "group remove": lambda it, given: it.group_change(given.ROOM, given.GROUP, given.USER, False),

@@ -73,6 +73,15 @@ def found(places, room, user):
     return name, *paths
 
 
+def known(places, room, users):
+    """The backup, and those of the users who own something by it, or whom an own entry names."""
+    name = latest(places, room)
+    with opened(places, room, name) as table:
+        owners = {it for it, in table.execute("SELECT DISTINCT owner FROM node")}
+        named = {it for it, in table.execute("SELECT DISTINCT who FROM entry WHERE flag & ? = 0", (GROUP | INHERITED,))}
+    return name, [it for it in users if it in owners | named]
+
+
 def told(places, room, user, to=None):
     """Lines about it, after how to have a list of now, and with the one that hands it over."""
     name, owns, named = found(places, room, user)

@@ -8,10 +8,13 @@ import time
 from . import held, owned, rosters, sheets
 from .changes import Change, answers
 from .places import WORKERS, Fault, read, said
+from .steps import Step
 from .trash import Trashes
+from .warned import owner_of
 
 FOR_WORKERS = 0o640, WORKERS  # who may read the passwords
 DRAWN = 12  # bytes
+FEW = 5  # users who may go at once without a word
 FAULTS = 20  # of a table that are told: nobody else changes anything meanwhile
 PATIENCE = 120  # seconds in which a large room has read its file again
 
@@ -85,11 +88,13 @@ class People:
 
     def draw(self, change, *users):
         """Passwords for those of the users who have none yet."""
-        has = {*rosters.logins_of(self.passwords())}
-        return self.draw_anew(change, *(it for it in users if it not in has))
+        return self.put_drawn(change, self.drawn_for(users))
 
-    def draw_anew(self, change, *users):
-        drawn = {it: secrets.token_urlsafe(DRAWN) for it in users}
+    def drawn_for(self, users):
+        has = {*rosters.logins_of(self.passwords())}
+        return {it: secrets.token_urlsafe(DRAWN) for it in users if it not in has}
+
+    def put_drawn(self, change, drawn):
         if drawn:
             self.put_passwords(change, {it: rosters.hashed_drawn(word) for it, word in drawn.items()})
             change.drawn = list(drawn)
@@ -138,22 +143,32 @@ class People:
         self.happen(self.change_rosters({room: {user: groups}}), room)
         self.say(f"{user} is in {', '.join(groups) or 'no group'} in the room {room}")
 
-    def user_remove(self, room, user):
-        self.need_user(room, user)
-        groups = self.users(room)[user]
-        change = self.change_rosters({room: {user: None}})
-        held.Bounds(self.places).leave(change, room, user)
-        elsewhere = [it for it in self.rooms_of(user) if it != room]
+    def user_remove(self, user, *rooms):
+        """From these rooms; with the last one the login goes too."""
+        for it in rooms:
+            self.need_user(it, user)
+        back = [f"fileroom-admin user add {' '.join([it, user, *self.users(it)[user]])}" for it in rooms]
+        elsewhere = [it for it in self.rooms_of(user) if it not in rooms]
+        change = self.change_rosters({it: {user: None} for it in rooms})
+        self.leave_bounds(change, {it: [user] for it in rooms})
         if not elsewhere:
             self.put_passwords(change, {user: None})
             self.put_names(change, {user: None})
-        self.happen(change, room)
-        held.let_go(self.places, room, user)
-        self.say(f"{user} is no user of the room {room} any more" + (
+        self.happen(change, *rooms)
+        for it in rooms:
+            held.let_go(self.places, it, user)
+        self.say(f"{user} is no user of the room{'s' * (len(rooms) > 1)} {', '.join(rooms)} any more" + (
             f"; the login stays, for {', '.join(elsewhere)}" if elsewhere else ", and has no login"))
         self.say(f"what {user} owned still belongs to {user}: give that name to nobody else; to bring {user} back: "
-                 f"fileroom-admin user add {' '.join([room, user, *groups])}")
-        self.user_owns(user, *([room] if elsewhere else self.places.rooms()))
+                 f"{'; '.join(back)}")
+        self.user_owns(user, *(rooms if elsewhere else self.places.rooms()))
+
+    def leave_bounds(self, change, gone):
+        """Of the users of each room who go."""
+        bounds = held.Bounds(self.places)
+        for room, users in gone.items():
+            for user in users:
+                bounds.leave(change, room, user)
 
     def user_rename(self, old, new):
         """In each room, with the login and the display name. What a room itself has by that name stays (`owned`)."""
@@ -193,7 +208,7 @@ class People:
             raise Fault(f"{user} is no user of a room")
         change = Change(self.places)
         if given is None:
-            drawn = self.draw_anew(change, user)
+            drawn = self.put_drawn(change, {user: secrets.token_urlsafe(DRAWN)})
             change.happen(lambda: self.tell_password(user, drawn))
         else:
             rosters.need_password(given)
@@ -220,11 +235,7 @@ class People:
         rows, faults = sheets.read_users(path, there, is_update)
         if not faults and len({*there, *rows}) > rosters.USERS:
             faults = [f"the room {room} would have {len({*there, *rows})} users, and {rosters.USERS} are the most"]
-        more = len(faults) - FAULTS
-        for it in [*faults[:FAULTS], *[f"and {more} others"] * (more > 0)]:
-            print(f"fileroom-admin: {it}", file=sys.stderr)
-        if faults:
-            raise Fault(f"nothing was changed: {len(faults)} faults in {path}")
+        self.need_none(faults, path)
         its_groups = {user: groups for user, (groups, _) in rows.items() if there.get(user) != groups}
         change = self.change_rosters({room: its_groups}) if its_groups else Change(self.places)
         drawn = self.draw(change, *rows)
@@ -235,6 +246,52 @@ class People:
         if its_groups:
             self.until_answers(room)
         self.trash_for(room, *new)
+
+    def need_none(self, faults, path):
+        more = len(faults) - FAULTS
+        for it in [*faults[:FAULTS], *[f"and {more} others"] * (more > 0)]:
+            print(f"fileroom-admin: {it}", file=sys.stderr)
+        if faults:
+            raise Fault(f"nothing was changed: {len(faults)} faults in {path}")
+
+    def user_sync(self, room, path, is_dry, is_many, is_again):
+        """Makes the room's users those of the table, with one restart: others come, have other groups, or go."""
+        there, names = self.users(room), self.names()
+        rows, faults = sheets.read_users(path, there, is_update=True)
+        step = Step(there, rows, names)
+        self.need_none([*faults, *self.against(room, step, is_many, is_again)], path)
+        for it in step.lines(room):
+            self.say(it)
+        if is_dry or not step.is_any():
+            self.say("nothing was changed (--dry-run)" if is_dry else f"{room}: all is as the table has it")
+            return
+        change = self.change_rosters({room: step.changed()})
+        self.leave_bounds(change, {room: step.gone})
+        away = dict.fromkeys(it for it in step.gone if self.rooms_of(it) == [room])
+        drawn = self.drawn_for(step.new)
+        self.put_passwords(change, {**away, **{it: rosters.hashed_drawn(word) for it, word in drawn.items()}})
+        change.drawn = [*drawn]
+        self.put_names(change, {**step.shown, **away})
+        change.happen(lambda: self.tell_passwords(drawn, f"{room}: {len(rows)} users, as the table has it"))
+        self.until_answers(room)
+        for it in step.gone:
+            held.let_go(self.places, room, it)
+        self.trash_for(room, *step.new)
+        for it in step.gone:
+            self.user_owns(it, room)
+
+    def against(self, room, step, is_many, is_again):
+        """What speaks against it: a table that lacks many, or the room's owner; and names that others had."""
+        owner = owner_of(self.places, room)
+        if owner in step.gone:
+            yield f"{owner} is not in the table, and owns the room"
+        if len(step.gone) > max(FEW, len(step.there) // 5) and not is_many:
+            yield f"{len(step.gone)} of {len(step.there)} users would go; if that is right: --many"
+        if not is_again and self.places.copies(room):
+            name, known = owned.known(self.places, room, step.new)
+            for it in known:
+                yield (f"{it} is new, and the backup {name} has things or lists of somebody of that name; if it is the "
+                       "same person: --again")
 
     def group_change(self, room, group, users, is_in):
         """Some users at once into a group, or out of it."""

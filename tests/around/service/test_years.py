@@ -32,6 +32,17 @@ def test_a_rename_stopped_at_a_step(machine):
     stops(machine, "user", "rename", "bob", "bob.ray")
 
 
+def test_a_sync_stopped_at_a_step(machine):
+    machine.does("user", "name", "bob", "Bob Ray")
+    machine.write("../table.csv", "user,groups,name\nann,eng,Ann\nkim,eng staff,Kim Öz\n")
+    stops(machine, "user", "import", "--sync", "plans", os.path.join(machine.folder, "table.csv"))
+
+
+def test_a_removal_from_all_rooms_stopped_at_a_step(machine):
+    machine.does("user", "add", "club", "bob", "staff")
+    stops(machine, "user", "remove", "--all", "bob")
+
+
 @pytest.fixture
 def owned(machine, plans):
     """What bob has in plans, and the name of its backup."""
@@ -76,6 +87,23 @@ def test_what_is_owned_by_who_leaves_is_handed_over(machine, plans, owned):
     done = subprocess.run([sys.executable, "-B", CLIENT, *words, *line], capture_output=True, text=True)
     assert (done.returncode, done.stdout[:13]) == (0, "/: 4 objects "), done.stderr
     assert plans.holds("ann", "STAT", "/of-bob")["owner"] == "ann"
+
+
+def test_a_sync_keeps_the_owner_and_gives_no_old_name_to_somebody_new(machine, plans, owned):
+    plans.room.start()
+    path = os.path.join(machine.folder, "table.csv")
+    sync = "user", "import", "--sync", "plans", path
+    refused = f"fileroom-admin: nothing was changed: 1 faults in {path}\n"
+    machine.write("../table.csv", "user,groups\nkim,eng\nbob,eng\n")
+    assert machine.does(*sync) == (
+        1, "", f"fileroom-admin: ann is not in the table, and owns the room\n{refused}")
+    assert machine.does("user", "remove", "plans", "bob")[0] == 0
+    machine.write("../table.csv", "user,groups\nann,eng\nbob,eng\nkim,eng\n")
+    assert machine.does(*sync) == (
+        1, "", f"fileroom-admin: bob is new, and the backup {owned} has things or lists of somebody of that name; if "
+        f"it is the same person: --again\n{refused}")
+    assert machine.does(*sync, "--again")[0] == 0
+    assert "bob = " in text_of(machine.at("etc/fileroom/plans.toml"))
 
 
 def test_a_backup_whose_rows_are_no_rooms(machine, owned):
