@@ -64,7 +64,7 @@ class Archive:
         about = self.json(ABOUT)
         if about.get("form") != FORM:
             raise Fault(f"{path} is of another form, by a newer program")
-        self.room = str(about.get("room"))
+        self.room, self.had_dav = str(about.get("room")), about.get("dav") is True
 
     def fault(self, why):
         return Fault(f"{self.path} is not what `room export` makes: {of_backups().shown(str(why))[:200]}")

@@ -60,7 +60,7 @@ class Rooms(People):
         users = self.users(room)
         logins = [it for it in self.passwords().splitlines() if it.partition(":")[0] in users]
         names = {user: name for user, name in self.names().items() if user in users}
-        about = {"form": archives.FORM, "room": room, "backup": name}
+        about = {"form": archives.FORM, "room": room, "backup": name, "dav": room in self.dav_rooms()}
         texts = {ABOUT: json.dumps(about), ROSTER: read(self.places.roster(room)),
                  LOGINS: "".join(f"{it}\n" for it in logins), NAMES: json.dumps(names)}
         if " ssl" in read(self.places.at(LISTEN), ""):
@@ -163,6 +163,8 @@ class Rooms(People):
             self.say(f"the room {room} is served here, with {len(users)} users, and backed up each night")
             self.tell_logins(users, had, odd)
             self.take_certificate(archive, with_certificate)
+            if archive.had_dav:
+                self.take_dav(room)
 
     def take_certificate(self, archive, is_wanted):
         """By it whoever made the archive could have the front listen for everybody, with a key that they have too."""
@@ -171,6 +173,13 @@ class Rooms(People):
                 self.tls(*paths)
         elif archive.has_certificate():
             self.say("the certificate that came with it is not put to work: fileroom-admin tls CERT KEY")
+
+    def take_dav(self, room):
+        """(The room is there, whether the gateway can be or not.)"""
+        try:
+            self.dav("on", room)
+        except Fault as fault:
+            self.say(f"the room had WebDAV, and has none here: {fault}; then: fileroom-admin dav on {room}")
 
     def look_at(self, room, roster, folder):
         """Whether sqlite3 and the program take it for a room, before anything else knows of it."""

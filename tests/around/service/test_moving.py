@@ -89,5 +89,6 @@ def test_removed_and_back(machine):
     assert bytes_of(os.path.join(folder, kept)) == db
     path = said.splitlines()[0].partition(" is in ")[2].partition(": ")[0]
     assert machine.does("room", "import", path)[0] == 0
+    assert machine.does("dav", "list")[1] == "no room has WebDAV\n"
     assert text_of(machine.at("etc/fileroom/plans.toml")) == roster
     assert bytes_of(os.path.join(folder, "room.db")) == db

@@ -22,17 +22,18 @@ def test_stopped_at_a_step(machine):
 
 
 def test_it_goes_with_its_room(machine):
-    """And with the last one the gateway's socket; the room comes back without."""
+    """And with the last one the gateway's socket; and it comes back with the room."""
+    of_dav = lambda: [it for it in machine.files().items() if "nginx/fileroom/dav" in it[0]]
     machine.does("dav", "on", "plans")
+    before = of_dav()
     machine.backed_up()
     machine.told()
     status, said, faults = machine.does("room", "remove", "plans")
-    of_dav = lambda: [it for it in machine.files().items() if "nginx/fileroom/dav" in it[0]]
-    nothing = [("etc/nginx/fileroom/dav.json", (oct(0o100644), "[]\n"))]
-    assert (status, of_dav()) == (0, nothing), faults
+    assert (status, of_dav()) == (0, [("etc/nginx/fileroom/dav.json", (oct(0o100644), "[]\n"))]), faults
     assert [it for it in machine.told() if "fileroom-dav" in it] == OFF
     path = said.splitlines()[0].partition(" is in ")[2].partition(": ")[0]
-    assert (machine.does("room", "import", path)[0], of_dav()) == (0, nothing)
+    assert (machine.does("room", "import", path)[0], of_dav()) == (0, before)
+    assert [it for it in machine.told() if "fileroom-dav" in it] == ["systemctl enable --now fileroom-dav.socket"]
 
 
 @pytest.mark.parametrize("word, want", [("remove", [WANTS, ROOM_WANTS, OF_GATEWAY]), ("purge", [ROOM_WANTS])])
