@@ -9,7 +9,7 @@ import pytest
 from served import HERE, PROGRAM, Room, bytes_of, text_of
 
 from .contents import SERVICE, below
-from .machines import FOLDER
+from .machines import FOLDER, TOLD
 
 TOP = os.path.join(HERE, "..")
 SHARE = "share/fileroom"
@@ -31,9 +31,9 @@ IN_FOLDERS = {f"{to}/{name}": os.path.join(TOP, it, name) for it, (to, which) in
               for name in os.listdir(os.path.join(TOP, it)) if re.fullmatch(which, name)}
 
 
-def said(*words):
+def said(*words, **env):
     """The status, and all that a command says."""
-    how = {"capture_output": True, "text": True, "timeout": 60, "env": {**os.environ, "FILEROOM": PROGRAM}}
+    how = {"capture_output": True, "text": True, "timeout": 60, "env": {**os.environ, "FILEROOM": PROGRAM, **env}}
     done = subprocess.run(words, **how)
     return done.returncode, done.stdout, done.stderr
 
@@ -62,6 +62,35 @@ def test_what_is_left_when_it_is_taken_away(folder):
     open(os.path.join(folder, "etc-that-stays"), "w").close()
     status, _, faults = said(os.path.join(SERVICE, "install"), "--remove", "", folder)
     assert (status, faults, below(folder)) == (0, "", ["etc-that-stays"])
+
+
+OF_SITE = {f"etc/nginx/{it}" for it in (
+    "conf.d/fileroom.conf", "conf.d/fileroom-redirect.conf", "modules-enabled/60-fileroom.conf")}
+WALL = "systemctl stop fileroom-ports.service"
+
+
+@pytest.mark.parametrize("reads", [True, False], ids=["nginx reads it", "nginx reads nothing"])
+def test_the_site_goes_with_what_serves_it(machine, pair, reads):
+    """Its wall stays as long as nginx has the site. `front` brings all back, once the program is there again."""
+    top, env = os.path.join(machine.folder, "usr"), {"ETC": machine.at("etc"), "RUN": machine.at("run")}
+    does = lambda *words: said(os.path.join(SERVICE, "install"), *words, "", top, **machine.env, **env)
+    admin = lambda *words: machine.does(*words, first=[os.path.join(top, "bin/fileroom-admin")])
+    does()
+    admin("tls", *pair)
+    admin("front")
+    os.makedirs(machine.at("run/systemd/system"))  # (systemd runs)
+    before = machine.files()
+    machine.told()
+    if not reads:
+        machine.stand_in("systemctl", TOLD + '[ "$1" != reload ]')
+    status, _, faults = does("--remove")
+    assert (status, "the wall stays" in faults, below(top)) == (0, not reads, [])
+    asked = machine.told()
+    assert [it for it in asked if it in ("systemctl reload nginx", WALL)] == ["systemctl reload nginx", WALL][:1 + reads]
+    assert "fileroom@plans.service" in asked[1].split()
+    assert before.keys() ^ machine.files().keys() == OF_SITE | {"etc/nginx/fileroom/redirect.conf"}
+    does()
+    assert (admin("front")[0], machine.files() == before) == (0, True)
 
 
 def test_versions(top):
