@@ -141,7 +141,7 @@ def test_no_archive_at_all(there):
 
 def test_a_pipe(there, path):
     os.mkfifo(path)
-    refuses(there, path, within=["timeout", "60"])
+    refuses(there, path, within=["timeout", "30"])
 
 
 def test_more_than_the_disk_has(there, exported, path):

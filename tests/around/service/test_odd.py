@@ -156,7 +156,7 @@ def takes_its_time(taken, monkeypatch, sends, in_all):
     taken.sends = sends
     monkeypatch.setattr(trash, "WAIT", 2)
     monkeypatch.setattr(trash, "IN_ALL", in_all)
-    users = {"ann": ["eng"], **{f"user{at}": [] for at in range(40)}}
+    users = {"ann": ["eng"], **{f"user{at}": [] for at in range(3)}}
     begin = time.monotonic()
     with pytest.raises(places.Fault) as fault, trash.Trashes(taken.path, users) as trashes:
         for user in users:
