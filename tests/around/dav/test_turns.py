@@ -99,7 +99,7 @@ def test_turns_to_compute(floor):
         crew.append(threading.Thread(target=computes, args=(user, seconds, among), daemon=True))
         count = count_of(floor)
         crew[-1].start()
-        until(lambda: count_of(floor) > count)
+        until(lambda: count_of(floor) > count, 5)
 
     def others_come():
         """(While eve computes.)"""

@@ -66,7 +66,7 @@ def test_what_is_left_when_it_is_taken_away(folder):
 
 OF_SITE = {f"etc/nginx/{it}" for it in (
     "conf.d/fileroom.conf", "conf.d/fileroom-redirect.conf", "modules-enabled/60-fileroom.conf")}
-WALL = "systemctl stop fileroom-ports.service"
+SITE_ENDS = ["systemctl reload nginx", "systemctl stop fileroom-ports.service"]
 
 
 @pytest.mark.parametrize("reads", [True, False], ids=["nginx reads it", "nginx reads nothing"])
@@ -86,7 +86,7 @@ def test_the_site_goes_with_what_serves_it(machine, pair, reads):
     status, _, faults = does("--remove")
     assert (status, "the wall stays" in faults, below(top)) == (0, not reads, [])
     asked = machine.told()
-    assert [it for it in asked if it in ("systemctl reload nginx", WALL)] == ["systemctl reload nginx", WALL][:1 + reads]
+    assert [it for it in asked if it in SITE_ENDS] == SITE_ENDS[:1 + reads]
     assert "fileroom@plans.service" in asked[1].split()
     assert before.keys() ^ machine.files().keys() == OF_SITE | {"etc/nginx/fileroom/redirect.conf"}
     does()
