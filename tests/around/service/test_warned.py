@@ -18,10 +18,11 @@ BACKUPS, WARNINGS = "var/backups/fileroom", "etc/nginx/fileroom/warnings"
 
 def backups(machine, sizes, **files):
     """Gives club backups so many hours old of so many bytes, the latest with these files besides: where that is."""
+    folders = {hours: f"{BACKUPS}/club/{stamp(hours)}" for hours in sizes}  # (by the second, which goes on)
     for hours, size in sizes.items():
-        machine.write(f"{BACKUPS}/club/{stamp(hours)}/room.db", "")
-        os.truncate(machine.at(f"{BACKUPS}/club/{stamp(hours)}/room.db"), size)
-    latest = f"{BACKUPS}/club/{stamp(min(sizes))}"
+        machine.write(f"{folders[hours]}/room.db", "")
+        os.truncate(machine.at(f"{folders[hours]}/room.db"), size)
+    latest = folders[min(sizes)]
     for name, text in files.items():
         machine.write(f"{latest}/{name}", text)
     return latest
