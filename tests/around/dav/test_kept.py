@@ -166,6 +166,12 @@ def test_two_thousand_locks(locked):
     assert time.process_time() - since < 10  # (it takes one)
 
 
+def test_a_lock_on_a_full_disk(locked):
+    with mock.patch.object(os, "write", side_effect=OSError(errno.ENOSPC, "")), pytest.raises(faults.Busy):
+        locked.take("/a")
+    assert locked.its.at("plans", "/a") == []
+
+
 def test_locks_of_before(locked):
     """(The file was a list, written anew each time.)"""
     locked.path.write_bytes(locks.line_of([vars(LOCK)]).rstrip())

@@ -107,7 +107,7 @@ def test_a_name_with_a_blank_that_the_room_has(desk):
     ("GET", "/no", 404, {}), ("GET", "/ ", 404, {}),  # (and not the root)
     ("PROPFIND", "/both/ ", 404, {"Depth": "0"}), ("DELETE", "/no", 404, {}), ("MOVE", "/no", 404, {"to": "/yes"}),
     ("PUT", "/" + "n" * 65, 403, {}), ("PUT", "/a\x01b", 403, {}), ("PUT", "/.room-file", 403, {}),
-    ("GET", "/" + "n" * 65, 404, {}), ("PUT", "/a" * 17, 403, {}),
+    ("GET", "/" + "n" * 65, 404, {}), ("PUT", "/a" * 16, 409, {}), ("PUT", "/a" * 17, 403, {}),
     ("PUT", "/a", 413, {"Content_Length": "99999999999"}), ("PUT", "/dav/plans/%ff", 400, {"raw": True}),
     ("DELETE", "/", 403, {}), ("PATCH", "/both", 501, {}), ("PROPFIND", "/", 403, {"Depth": "infinity"}),
     ("PROPFIND", "/", 400, {"Depth": "2"})], ids=lambda it: ascii(it)[:30])
@@ -128,6 +128,7 @@ def test_nothing_takes_its_own_place(desk):
     desk.does("ann", "COPY", "/plain", 412, to="/outer", Overwrite="F")
     desk.does("ann", "MOVE", "/plain", 412, to="/outer/inner/f", Overwrite="F")
     assert desk.get("ann", "/outer/inner/f") == b"x"
+    desk.does("ann", "MOVE", "/plain", 201, to="http://ROOMS.example/dav/plans/moved", Host="rooms.EXAMPLE")
 
 
 def test_versions(desk):
@@ -194,6 +195,7 @@ def test_a_body_of_a_length_that_is_not_told(desk):
     for status, parts in (201, [b"one, ", b"two"]), (204, [large[:70_000], large[70_000:]]), (204, []):
         desk.does("ann", "PUT", "/chunked", status, iter(parts))
         assert desk.get("ann", "/chunked") == b"".join(parts)
+    desk.does("ann", "PUT", "/chunked", 204, b"1\r\nx\r\n0\r\n\r\n", Transfer_Encoding="Chunked")
     words = ["curl", "-s", "-o", "/dev/null", "-w", "%{http_code}", "-u", f"ann:{PASSWORDS['ann']}", "-T", "-"]
     said = subprocess.run([*words, desk.url("/chunked")], input=large, capture_output=True, timeout=120).stdout
     assert (said, desk.get("ann", "/chunked")) == (b"204", large)
