@@ -5,6 +5,7 @@ import random
 import re
 import subprocess
 import sys
+from unittest import mock
 
 import pytest
 from given import each
@@ -13,6 +14,7 @@ from room_client.faults import OtherVersion
 from room_client.files import Upload
 from room_client.line import Line
 from room_client.manifest import MOST, PIECE
+from room_client.slots import Slot
 
 from .desk import ALL, COMMAND, EVERYBODY, STOPPED, VIEW, before_first, in_child, is_pending, parts, some, steps_to
 
@@ -30,6 +32,15 @@ def test_of_one_that_is_too_large_nothing_is_sent(desk):
     desk.refuses("put", "in", "/bigger", want="FBIG (9) at /bigger: a file has at most 16 MiB (16,777,216 bytes): "
                  "split it; nothing was sent")
     assert desk.front.passed == passed
+
+
+def test_a_removal_begins_with_the_manifest(desk):
+    """What is left where it is stopped is no damaged file."""
+    with desk.room() as room, mock.patch.object(Slot, "ask", autospec=True, side_effect=Slot.ask) as asked:
+        files.put(room, "/gone", OLD)
+        files.remove_all(room, "/gone")
+    commands = [it.args[1] for it in asked.call_args_list]
+    assert next(it["path"] for it in commands if it["cmd"] == "REMOVE") == f"/gone/{manifest.NAME}"
 
 
 def test_progress_at_a_terminal_alone(desk):

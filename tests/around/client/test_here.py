@@ -167,6 +167,8 @@ def test_setting_by_a_flag_puts_the_other_kind_of_user_aside(tmp_path):
     with mock.patch.dict(os.environ, {"ROOM_PATIENCE": "7"}, clear=True):
         its = find_settings({"login": "bob"}, str(tmp_path / "set"))
     assert (its.login, its.room_user, its.patience) == ("bob", None, 7.0)
+    others = replace(its, login="carl"), replace(its, url=f"{URL}2")
+    assert len({it.state_path for it in (its, *others)}) == 3
 
 
 def test_answer_without_end_is_not_read():
