@@ -84,7 +84,7 @@ def test_heads(front, user, method, target, status, fields, body):
 
 
 @each("origin, status", [("ours", "http://127.0.0.1", 200), ("another port", "http://127.0.0.1:8080", 403),
-                         ("another site", "http://a.b", 403), ("none", "null", 403),
+                         ("another site", "http://a.b", 403), ("none", "null", 403), ("its start", "http://127", 403),
                          ("by TLS", "https://127.0.0.1", 403)])
 def test_a_page_of_elsewhere_asks(front, origin, status):
     """With the password that a browser remembers."""
