@@ -324,6 +324,10 @@ def test_others_changes_are_not_seen_where_that_is_not_wished(club, browser, fra
         browser.later(comes_back)
         assert (words, club.lossy.times('"LIST"') > sent) == (words, is_shown)
     browser.sees("two.txt", ".things")
+    browser.act("//tr[.//bdi='two.txt']//input", "click")  # (what is chosen stays so)
+    sent = club.lossy.times('"LIST"')
+    browser.later(comes_back)
+    assert club.lossy.times('"LIST"') == sent
 
 
 def test_one_click_downloads_what_cannot_be_shown(club, browser, frame):

@@ -208,6 +208,18 @@ def test_fault_of_a_menu_that_is_given_up(club, browser):
     assert browser.script("return document.querySelector('main [aria-expanded=true]')") is None
 
 
+def test_fault_of_a_row_that_is_given_up(club, browser):
+    """While its size is asked for; who opens its menu has it asked for anew."""
+    club.lay(f"{TOP}/{NAMES[0]}")
+    club.lossy.lose(f'"STAT","path":"{TOP}/{NAMES[0]}"', 10_000)
+    club.open(TOP)
+    browser.press_anyway("Give up")
+    club.lossy.lose("")
+    browser.sees("Given up.", "#notices")
+    browser.press(f"More for {NAMES[0]}")
+    assert "Download" in offers(browser)
+
+
 def test_fault_of_a_tree_that_is_given_up(club, browser):
     """While folders to choose from are asked for; it is told once."""
     club.lay(f"{TOP}/{NAMES[0]}")

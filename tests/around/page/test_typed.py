@@ -170,6 +170,7 @@ def test_back_leads_to_no_old_name(browser, long):
     browser.script("history.back()")
     browser.until("Back", lambda: browser.script(PLACE) != "#open/club/long/40%20c.txt")
     assert browser.script(PLACE) == "#open/club/long"
+    browser.until("where it was left", lambda: browser.script("return scrollY") > 100)
 
 
 def test_an_unknown_room(club, browser):

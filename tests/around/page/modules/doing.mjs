@@ -6,12 +6,13 @@ import { buttonOf, happens, page, shown } from "./browser.mjs";
 import { Shelf, appOver } from "./shelf.mjs";
 
 const { t } = await page("words");
-const { emptyTrash, moveInto, putBack, remove } = await page("moving");
+const { copyInto, emptyTrash, moveInto, putBack, remove } = await page("moving");
 const { isOwnTrash, nameAt, ownTrash, toTrash, toldBy, trashOf } = await page("trash");
 const { writeCopy, writeFile } = await page("files");
 const { NOBODY, readFile } = await page("reading");
 const { PIECE } = await page("manifest");
 const { useClipboard } = await page("clipboard");
+const { FolderTree, keepRecent } = await page("tree");
 const { helpThem, setBack } = await page("questions");
 const TRASH = "/trash/@d/ann";
 const PRIVATE = { aclflag: 2, entries: [{ type: 0, flag: 3, mask: 0x1f07ff, who: "OWNER@" }] };
@@ -95,6 +96,8 @@ test("a name in the trash tells where it was, as far as it has room", async () =
     assert.ok(new TextEncoder().encode(to.split("/").at(-1)).length <= 64);
     assert.deepEqual([toldBy(to).place, toldBy(to).name], [place, path.split("/").at(-1)]);
   }
+  process.env.TZ = "Asia/Tokyo"; // (the time in it is of no place)
+  assert.equal(toldBy(`${TRASH}/a~d~20260101000000`).when.getTime(), Date.UTC(2026, 0, 1));
   assert.equal(toldBy("/d/a~d~20260101000000"), null);
   assert.equal(toldBy(`${TRASH}/a`), null);
   assert.equal(nameAt(`${TRASH}/..~…~20260101000000`), "..~…~20260101000000"); // (no name leads up)
@@ -145,6 +148,27 @@ test("a move goes back by one press", async () => {
   assert.deepEqual([shelf.names("/d"), shelf.names("/e")], [[], ["a.txt"]]);
   await app.undo();
   assert.deepEqual([shelf.names("/d"), shelf.names("/e")], [["a.txt"], []]);
+});
+
+test("a copy goes on in its room, whichever is shown by then", async () => {
+  const [shelf, other] = [trashed(), trashed()];
+  const app = appOver(shelf);
+  shelf.put("/d/b.txt", "b");
+  shelf.put("/e");
+  shelf.refuses = ({ cmd }) => {
+    if (cmd === "CREATE") app.room = appOver(other).room;
+    return 0;
+  };
+  await copyInto(app, ["/d/a.txt", "/d/b.txt"], "/e");
+  assert.deepEqual([shelf.names("/e"), other.asked], [["a.txt", "b.txt"], []]);
+});
+
+test("where something went lately is offered to one user, in that room", async () => {
+  const offered = (app) => new FolderTree(app, [], "/d").element.querySelectorAll("button.small")[0].textContent;
+  const [ann, bob] = ["ann", "bob"].map((it) => appOver(new Shelf(it)));
+  keepRecent(ann, "/lately");
+  const elsewhere = { ...ann, room: Object.assign(appOver(new Shelf()).room, { name: "other" }) };
+  assert.deepEqual([ann, bob, elsewhere].map(offered), ["lately", t.newFolder, t.newFolder]);
 });
 
 test("what was cut is pasted once, and by who has the same on the clipboard", async () => {
