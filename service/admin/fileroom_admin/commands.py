@@ -12,8 +12,8 @@ from .changes import Change
 from .dav import SERVICE, SOCKET, Dav, need_place
 from .moving import Rooms, units_of
 from .people import FOR_WORKERS
-from .places import (ASIDE, CHANGES, FRONT_FILES, HERE, LISTEN, LOGINS, REDIRECT, WORKERS, Fault, asked, read, said,
-                     sample)
+from .places import (ASIDE, CHANGES, FRONT_FILES, HERE, LISTEN, LOGINS, REDIRECT, WORKERS, Fault, asked, read,
+                     read_json, said, sample)
 
 PORT = 8001  # of each room, in a network of its own
 ROOM_LISTS = "rooms.json"
@@ -23,7 +23,7 @@ OF_ROOM = {"rooms": "room.conf", "queues": "queue.conf"}  # of the front: a fold
 
 class Commands(Rooms, Dav):
     def room_names(self):
-        return json.loads(read(self.places.front(ROOM_LISTS), "[]"))
+        return read_json(self.places.front(ROOM_LISTS), list)
 
     def room_list(self):
         """And where people find them."""

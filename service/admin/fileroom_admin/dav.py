@@ -3,7 +3,7 @@ import json
 import os
 
 from .changes import Change
-from .places import HERE, Fault, asked, read, said, sample
+from .places import HERE, Fault, asked, read_json, said, sample
 
 LIST = "dav.json"  # beside the front's files: the rooms that have it
 SOCKET, SERVICE = "fileroom-dav.socket", "fileroom-dav.service"
@@ -13,7 +13,7 @@ PACKAGES = "apt-get install " + " ".join(f"python3-{it}" for it in NEEDS)
 
 
 def rooms_of(places):
-    return json.loads(read(places.front(LIST), "[]"))
+    return read_json(places.front(LIST), list)
 
 
 def files_of(rooms):

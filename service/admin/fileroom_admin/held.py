@@ -10,7 +10,7 @@ import time
 
 from . import paces, rosters
 from .changes import Change
-from .places import Fault, read, said, write
+from .places import Fault, read, read_json, said, write
 from .warned import HELD, group_of_workers, held_in, own_folder, put
 
 BOUNDS = {"few": 2_000, "usual": 20_000, "many": 200_000, "none": None}  # objects that are made in a day
@@ -31,7 +31,7 @@ class Bounds:
 
     def __init__(self, places):
         self.places, self.path = places, places.at(FILE)
-        self.set = json.loads(read(self.path, "{}"))
+        self.set = read_json(self.path, dict)
 
     def put(self, room, bound, kind=None, name=None):
         need_bound(bound)

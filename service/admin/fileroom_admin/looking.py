@@ -1,7 +1,6 @@
 """`fileroom-admin check`: what is wrong with a machine, each finding with its remedy."""
 import glob
 import grp
-import json
 import os
 import pwd
 import re
@@ -14,8 +13,8 @@ from .changes import JOURNAL, sum_in
 from .commands import OF_ROOM, end_of, of_room
 from .held import JAILS, Bounds
 from .owned import made_at
-from .places import (CHANGES, FRONT_FILES, HERE, LISTEN, LOGINS, SEARCHED, WORKERS, Fault, read, said, said_before,
-                     sample)
+from .places import (CHANGES, FRONT_FILES, HERE, LISTEN, LOGINS, SEARCHED, WORKERS, Fault, read, read_json, said,
+                     said_before, sample)
 
 PROGRAMS = {"nginx": "nginx-light", "openssl": "openssl", "sqlite3": "sqlite3", "nft": "nftables", "curl": "curl",
             "logrotate": "logrotate"}
@@ -114,7 +113,7 @@ class Findings:
             self.add(f"nginx refuses its configuration: {told[:200]}", "correct what it names")
         if not any(map(self.places.has_standby, self.places.rooms())):  # (else it runs where the room is)
             self.unit("nginx")
-        if sorted(json.loads(read(self.places.front("rooms.json")))) != self.places.rooms():
+        if sorted(read_json(self.places.front("rooms.json"), list)) != self.places.rooms():
             self.add("rooms.json and /etc/fileroom name different rooms", FRONT_REMEDY)
         self.listening(read(self.places.at(LISTEN)))
 

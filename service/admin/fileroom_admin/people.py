@@ -7,7 +7,7 @@ import time
 
 from . import held, owned, rosters, sheets
 from .changes import Change, answers
-from .places import WORKERS, Fault, read, said
+from .places import WORKERS, Fault, read, read_json, said
 from .steps import Step
 from .trash import Trashes
 from .warned import owner_of
@@ -32,7 +32,7 @@ class People:
 
     def names(self):
         """The users' names as people write them."""
-        return json.loads(read(self.places.front("names.json"), "{}"))
+        return read_json(self.places.front("names.json"), dict)
 
     def need_room(self, room):
         if room not in self.places.rooms():

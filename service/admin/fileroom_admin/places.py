@@ -1,4 +1,5 @@
 """Where everything lies on a machine, below a root, and how its programs are asked."""
+import json
 import os
 import subprocess
 import tempfile
@@ -143,6 +144,17 @@ def read(path, default=None, encoding="utf-8"):
         return default
     except (OSError, UnicodeDecodeError) as fault:
         raise Fault(f"{path} cannot be read: {fault}") from None
+
+
+def read_json(path, kind):
+    """What a file has, which is a list or a dict; an empty one where it is not there. (People edit such by hand.)"""
+    try:
+        found = json.loads(read(path, json.dumps(kind())))
+    except (ValueError, RecursionError) as fault:
+        raise Fault(f"{path} is no JSON: {fault}") from None
+    if not isinstance(found, kind):
+        raise Fault(f"{path} is another JSON than {json.dumps(kind())} with something in it")
+    return found
 
 
 def write(text, path, mode=0o644, group=-1):
