@@ -6,8 +6,10 @@ import re
 import subprocess
 import sys
 import tarfile
+from unittest import mock
 
 import pytest
+from fileroom_admin import moving, places
 from served import HERE, bytes_of, text_of
 
 from .contents import edit
@@ -184,6 +186,17 @@ def test_what_was_in_the_rooms_folder_stays(there, exported, what):
     assert below(there) == before
 
 
+def test_its_log_is_there_first(tmp_path):
+    """(Where it is stopped in between, a file without its log might pass for the whole room.)"""
+    seen = []
+    archive = mock.Mock(members={"room.db": (0, 0), "room.db-wal": (0, 0)},
+                        copy=lambda *_: seen.append(sorted(os.listdir(tmp_path))))
+    folder = os.open(tmp_path, os.O_RDONLY)
+    moving.unpack(places.Places(tmp_path), archive, folder)
+    os.close(folder)
+    assert seen == [["room.db-wal"], ["room.db", "room.db-wal"]]
+
+
 def test_a_log_without_its_room(there, exported):
     there.write(f"{PLANS}/room.db-wal", "of before")
     refuses(there, exported.path, has="the room plans already exists")
@@ -267,7 +280,7 @@ def test_names_of_the_front(machine):
     texts = [text_of(os.path.join(front, it)) for it in os.listdir(front) if it.endswith(".conf")]
     names = {it for text in texts for it in re.findall(r"(?:zone=|upstream |shared:)fileroom_?(\w+)", text)}
     assert len(names) > 8 and "dav" in names
-    names |= {"top", "rooms", "opens", "page", "room_page", "names", "users"}
+    names |= {"top", "rooms", "opens", "page", "room_page", "names", "users", "Users"}
     words = [sys.executable, "-B", "-c", OF_ROOMS, os.path.dirname(ADMIN), *sorted(names)]
     for path, text in json.loads(subprocess.run(words, capture_output=True, text=True, check=True).stdout).items():
         machine.write(f"etc/nginx/fileroom/{path}", text)

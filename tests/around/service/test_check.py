@@ -78,6 +78,7 @@ def test_numbers_that_are_no_finding(looked_at):
 @pytest.mark.parametrize("hours, more, found", [(25, [], 0), (27, [], 1), (27, ["--backup-hours", "28"], 0)])
 def test_hours_of_a_backup(looked_at, hours, more, found):
     now, club, front = time.time(), looked_at.at(CLUB), looked_at.at(FRONT)
+    looked_at.env.update(TZ="Asia/Tokyo")  # (a backup's name is of no place)
     made = time.strftime("%Y-%m-%dT%H-%M-%SZ", time.gmtime(now - hours * 3600))
     os.rename(os.path.join(club, *os.listdir(club)), os.path.join(club, made))
     assert looked_at.does("check", *more)[0] == found

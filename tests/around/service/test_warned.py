@@ -1,6 +1,7 @@
 """What ends within days is told in time: to a monitor, by `check`, and on the page to the owner of the room alone."""
 import json
 import os
+import shutil
 from unittest import mock
 
 import pytest
@@ -115,6 +116,8 @@ def few_numbers(machine):
 
 def test_the_owner_of_a_room_with_few_numbers(machine, few_numbers):
     assert warned(machine) == {"ann.json": {"club": {"numbers_days": 2}}}
+    shutil.copytree(machine.at(f"{BACKUPS}/club"), machine.at(f"{BACKUPS}/plans"))
+    assert warned(machine) == {"ann.json": {it: {"numbers_days": 2} for it in ("club", "plans")}}
 
 
 @pytest.mark.parametrize("owner", ["../ann", "", "a b", "x" * 33, "ann\nbob"])
