@@ -5,9 +5,11 @@ from collections.abc import Callable
 from . import words
 from .documents import need_path
 from .faults import BadWords, Refused
-from .files import carried, large_at, secure
 from .local import read_local
+from .reading import large_at
+from .replacing import carried
 from .room import Room
+from .securing import secure
 from .showing import show
 from .words import shown
 

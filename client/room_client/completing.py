@@ -4,7 +4,7 @@ import argparse
 import contextlib
 
 from .faults import Fault
-from .files import large_among
+from .reading import large_among
 from .room import Room
 from .settings import Settings, find_settings
 from .state import State

@@ -4,8 +4,9 @@ import os
 
 from . import files, local, trash, trees, words
 from . import manifest as form
-from .faults import ACCESS, BadWords, Fault, LocalFault, Refused
+from .faults import ACCESS, BadWords, Fault, LocalFault, Refused, refused_as
 from .local import Progress, fits_here
+from .reading import large_among, large_at, manifest_at
 from .room import Room
 from .showing import Faults, show, write_bytes
 from .words import FILE, FOLDER, neat, shown
@@ -28,7 +29,7 @@ def targets(to: str, names: list[str]) -> list[str]:
 def moved_to(room: Room, path: str, to: str) -> str:
     """Where it goes, which is into a folder that is there."""
     try:
-        is_folder = room.stat(to)["kind"] == FOLDER and not files.large_at(room, to)
+        is_folder = room.stat(to)["kind"] == FOLDER and not large_at(room, to)
     except Refused:
         is_folder = False
     return trees.join(to, os.path.basename(path)) if is_folder else to
@@ -48,7 +49,7 @@ def there(room: Room, path: str) -> str:
         try:
             room.stat(path)
         except Refused as fault:
-            return neat(path) if files.refused_as(fault, "NOENT") else path
+            return neat(path) if refused_as(fault, "NOENT") else path
     return path
 
 
@@ -72,11 +73,11 @@ def ls(room: Room, asked) -> None:
     if asked.json and not asked.long:
         return show(asked, reply, "")
     names = trash.without_pool(path, dict(reply["names"]))
-    if form.is_large(names) and files.manifest_at(room, path):
+    if form.is_large(names) and manifest_at(room, path):
         raise Refused({"code": 2, "error": "NOTDIR"}, {"path": path})
     left = [it for it in names if form.is_hidden(it)]
     folders = [it for it, kind in names.items() if kind == FOLDER and it not in left]
-    found = files.large_among(room, [trees.join(path, it) for it in folders])
+    found = large_among(room, [trees.join(path, it) for it in folders])
     large = {it: found[trees.join(path, it)] for it in folders if trees.join(path, it) in found}
     seen = {it: FILE if large.get(it) else kind for it, kind in names.items() if it not in left}
     if asked.long:
@@ -143,7 +144,7 @@ def long_lines(room: Room, asked, path: str, seen: dict[str, str], large: dict) 
 def stat(room: Room, asked) -> None:
     path = there(room, asked.path)
     its = room.stat(path)
-    large = its["kind"] == FOLDER and files.large_at(room, path)
+    large = its["kind"] == FOLDER and large_at(room, path)
     if large:
         what = f"file, {large.size} bytes in {len(large.pieces)} pieces"
     else:
@@ -200,7 +201,7 @@ def read_all(room: Room, path: str) -> bytes:
 
 def get_folder(room: Room, asked, path: str, to: str, is_one_of_some: bool) -> None:
     """What is in a folder of the room, into a folder here."""
-    if room.stat(path)["kind"] == FILE or files.manifest_at(room, path):
+    if room.stat(path)["kind"] == FILE or manifest_at(room, path):
         return get_one(room, path, to)
     if is_one_of_some or to == "." or to.endswith("/"):
         to = os.path.join(to, os.path.basename(path.rstrip("/")))
@@ -295,7 +296,7 @@ def append(room: Room, asked) -> None:
     try:
         reply = (append_lines if asked.line else Room.append)(room, path, asked.data)
     except Refused as fault:
-        if files.refused_as(fault, "ISDIR") and files.large_at(room, path):
+        if refused_as(fault, "ISDIR") and large_at(room, path):
             why = "it is a large file, and nothing is added at its end: get it, and put it anew"
             raise Refused(fault.reply, {"path": path}, why) from None
         raise
@@ -332,7 +333,7 @@ def cp(room: Room, asked) -> None:
         if f"{to}/".startswith(f"{path.rstrip('/')}/"):
             raise Refused({"code": 7, "error": "INVAL"}, {"path": path},
                           "nothing is copied into itself: correct the path")
-        if asked.recursive and room.stat(path)["kind"] == FOLDER and not files.manifest_at(room, path):
+        if asked.recursive and room.stat(path)["kind"] == FOLDER and not manifest_at(room, path):
             return copy_folder(room, asked, path, to)
         data = read_all(room, path)
         files.write(room, to, data)
@@ -369,7 +370,7 @@ def rm(room: Room, asked) -> None:
         try:
             name = trash.discard(room, path, place, asked.recursive)
         except Refused as fault:
-            if files.refused_as(fault, "NOTEMPTY") and not asked.recursive:
+            if refused_as(fault, "NOTEMPTY") and not asked.recursive:
                 raise Refused(fault.reply, {"path": path}, WITH_ALL) from None
             raise
         show(asked, {"code": 0}, f"{shown(path)}: removed" if name is None else f"{shown(path)}: in {shown(place)}")

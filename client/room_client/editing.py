@@ -6,7 +6,7 @@ import tempfile
 
 from . import files
 from .documents import need_path, read_all, there
-from .faults import Fault, LocalFault, OtherVersion, Refused
+from .faults import Fault, LocalFault, OtherVersion, Refused, overtaken, refused_as
 from .room import Room, say
 from .settings import Settings
 from .words import neat, shown
@@ -40,7 +40,7 @@ def bytes_at(room: Room, path: str) -> bytes | None:
     try:
         return read_all(room, path)
     except Refused as fault:
-        if files.refused_as(fault, "NOENT"):
+        if refused_as(fault, "NOENT"):
             return None
         raise
 
@@ -58,7 +58,7 @@ def run_editor(path: str) -> None:
 def put_back(settings: Settings, path: str, before: bytes | None, after: bytes) -> None:
     with Room(settings) as room:
         if bytes_at(room, path) != before:
-            raise OtherVersion(files.overtaken(path))
+            raise OtherVersion(overtaken(path))
         path = path if before is not None else neat(path)
         files.write(room, path, after, is_new=before is None)
         print(f"{shown(path)}: {len(after)} bytes", flush=True)

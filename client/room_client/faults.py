@@ -120,3 +120,12 @@ def refusal_line(reply: dict, command: dict, why: str | None = None) -> str:
 def refused(reply: dict, command: dict | None = None) -> Refused:
     kind = SessionLost if reply["code"] in SESSION_CODES else Refused
     return kind(reply, command)
+
+
+def refused_as(fault: Refused, *names: str) -> bool:
+    return fault.reply.get("error") in names
+
+
+def overtaken(path: str, more: str = "") -> str:
+    return (f"{shown(path)}: somebody else wrote another version meanwhile, or removed it, and what they did "
+            f"stands{more}: look at it, and put yours again where it is to take its place")

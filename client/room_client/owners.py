@@ -3,8 +3,10 @@ from collections.abc import Iterator, Sequence
 
 from .documents import there
 from .faults import BadWords, Refused, refused
-from .files import give, large_at, secure
+from .parts import give
+from .reading import large_at
 from .room import Room
+from .securing import secure
 from .showing import Told, show
 from .trash import TOP, places_of
 from .trees import batched, join

@@ -6,8 +6,9 @@ import time
 from collections.abc import Callable
 from dataclasses import dataclass
 
-from . import files, manifest as form
-from .faults import ACCESS, BadWords, Fault, Refused
+from . import manifest as form
+from .clearing import file_at, remove_all, remove_file
+from .faults import ACCESS, BadWords, Fault, Refused, refused_as
 from .room import Room
 from .words import FOLDER, GROUP, LIST_FLAGS, neat, shown
 
@@ -74,7 +75,7 @@ def standing(room: Room, path: str) -> dict | None:
     except Refused as fault:
         if fault.reply["code"] == ACCESS and fault.reply["path"] == path:
             return {"owner": "somebody else"}
-        if fault.reply["code"] == ACCESS or files.refused_as(fault, "NOENT", "NOTDIR"):
+        if fault.reply["code"] == ACCESS or refused_as(fault, "NOENT", "NOTDIR"):
             return None
         raise
 
@@ -133,7 +134,7 @@ def put_in_trash(room: Room, path: str, trash: str) -> str:
             room.rename(path, f"{trash}/{name}")
             return name
         except Refused as fault:
-            if not files.refused_as(fault, "EXIST"):
+            if not refused_as(fault, "EXIST"):
                 raise not_taken(fault, path, trash) from None
     raise BadWords(f"{shown(trash)} has too many things of that name: room trash empty")
 
@@ -141,7 +142,7 @@ def put_in_trash(room: Room, path: str, trash: str) -> str:
 def not_taken(fault: Refused, path: str, trash: str) -> Refused:
     """What to do where it is the trash that does not take it."""
     its = fault.reply
-    if files.refused_as(fault, "FOLDER_FULL", "TOO_DEEP") or its["code"] == ACCESS and its["path"].startswith(TOP):
+    if refused_as(fault, "FOLDER_FULL", "TOO_DEEP") or its["code"] == ACCESS and its["path"].startswith(TOP):
         why = f"the trash {shown(trash)} does not take it: room trash empty, or room rm --for-good ({fault})"
         return Refused(its | {"code": its["code"]}, {"path": path}, why)
     return fault
@@ -157,7 +158,7 @@ def discard(room: Room, path: str, trash: str | None, is_whole: bool) -> str | N
     if done:
         return done["to"].rpartition("/")[2]
     its = room.stat(path)
-    if its["kind"] == FOLDER and its["size"] and not is_whole and files.file_at(room, path) is None:
+    if its["kind"] == FOLDER and its["size"] and not is_whole and file_at(room, path) is None:
         raise Refused({"code": 6, "error": "NOTEMPTY"}, {"path": path})
     return put_in_trash(room, path, trash)
 
@@ -167,11 +168,11 @@ def remove(room: Room, path: str, is_whole: bool) -> None:
     try:
         room.remove(path)
     except Refused as fault:
-        if not files.refused_as(fault, "NOTEMPTY"):
+        if not refused_as(fault, "NOTEMPTY"):
             raise
         if is_whole:
-            files.remove_all(room, path)
-        elif not files.remove_file(room, path):
+            remove_all(room, path)
+        elif not remove_file(room, path):
             raise
 
 
@@ -228,7 +229,7 @@ def empty(room: Room, take: Callable[[Fault], None]) -> int:
     trash, count = need_trash(room), 0
     for name in names_in(room, trash):
         try:
-            files.remove_all(room, f"{trash}/{name}")
+            remove_all(room, f"{trash}/{name}")
             count += 1
         except Refused as fault:
             take(fault)

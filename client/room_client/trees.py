@@ -9,9 +9,10 @@ from dataclasses import dataclass
 
 from . import files, local, trash
 from . import manifest as form
-from .faults import Fault, LocalFault, NotWhole, OtherVersion, Refused, SessionLost, refused
+from .faults import Fault, LocalFault, NotWhole, OtherVersion, Refused, SessionLost, refused, refused_as
 from .local import Tree
 from .manifest import Manifest
+from .reading import manifests
 from .room import MOST_BYTES, Room
 from .words import FILE, FOLDER, neat, shown
 
@@ -82,7 +83,7 @@ def add_level(room: Room, tree: RoomTree, top: str, path: str, names: dict[str, 
 
 def add_large(room: Room, tree: RoomTree, top: str, level: list[str]) -> None:
     paths = [it for it in level if tree.kinds.get(it) == form.NAME]
-    for path, its in zip(paths, files.manifests(room, [join(top, it) for it in paths])):
+    for path, its in zip(paths, manifests(room, [join(top, it) for it in paths])):
         if its:
             tree.kinds[path], tree.large[path] = FILE, its
         else:
@@ -230,7 +231,7 @@ def make_folders(room: Room, top: str, paths: Sequence[str], take: Callable[[Fau
         try:
             room.ask({"cmd": "MKDIR", "path": at}, is_step=True)
         except Refused as fault:
-            if files.refused_as(fault, "EXIST"):
+            if refused_as(fault, "EXIST"):
                 were_there.append(at)
             elif not path:
                 raise

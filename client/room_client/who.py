@@ -7,8 +7,8 @@ from dataclasses import dataclass
 from pathlib import PurePosixPath
 
 from .faults import LocalFault, Refused, reading
-from .files import large_at
 from .manifest import NAME
+from .reading import large_at
 from .room import Room
 from .words import ALL, FILE, FOLDER, GROUP, SETS, mask_words, right_words, shown
 

@@ -6,7 +6,8 @@ import secrets
 import time
 from dataclasses import dataclass
 
-from room_client import files, trash
+from room_client import trash
+from room_client.clearing import remove_all
 from room_client.faults import Refused
 
 from .faults import is_refused
@@ -62,5 +63,5 @@ def name(visit: Visit, place: Place, path: str) -> bool:
     except Refused as fault:
         if not is_refused(fault, "EXIST"):
             raise
-    files.remove_all(visit, place.path)
+    remove_all(visit, place.path)
     return False

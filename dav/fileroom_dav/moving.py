@@ -2,6 +2,7 @@
 import contextlib
 
 from room_client import files, trash
+from room_client.clearing import remove_file
 from room_client.faults import Fault, Refused
 from room_client.manifest import is_hidden
 
@@ -86,7 +87,7 @@ def put_over(gate, visit: Visit, room: str, source: str, target: str) -> None:
     with set_aside(gate, visit, room, source) as aside:
         its = thing_at(visit, aside)
         put_as_named(gate, visit, room, target, bytes_of(visit, its))
-        pool.remove(visit, aside, files.remove_file)
+        pool.remove(visit, aside, remove_file)
     gate.asides.gone(room, visit.settings.user, source)
 
 

@@ -6,9 +6,11 @@ import functools
 import re
 from collections.abc import Callable, Iterator
 
-from room_client import files, spares, trash
+from room_client import spares, trash, uploads
+from room_client.clearing import remove_all, remove_levels
 from room_client.faults import Fault, Held, Refused
 from room_client.manifest import GONE, NAME, PIECES, read_manifest
+from room_client.reading import large_at
 from room_client.room import Room
 
 from .faults import is_refused
@@ -40,7 +42,7 @@ def settled(room: Room, bin_: str | None) -> Iterator[str]:
             room.behind(functools.partial(settle, room, it))
 
 
-class Upload(files.Upload):
+class Upload(uploads.Upload):
     """As page and client make a version; but a new file takes pieces from the pool, and the spare of the next version
     has its name before the answer, since a program may save again at once."""
 
@@ -85,7 +87,7 @@ class Upload(files.Upload):
         return min(fit, key=lambda it: abs(has[it] - need), default=None)
 
 
-def remove(room: Room, path: str, removes: Callable[[Room, str], object] = files.remove_all) -> None:
+def remove(room: Room, path: str, removes: Callable[[Room, str], object] = remove_all) -> None:
     """For good, with all that is in it, or what else `removes` does."""
     try:
         room.remove(path)
@@ -99,7 +101,7 @@ def remove(room: Room, path: str, removes: Callable[[Room, str], object] = files
 def give(room: Room, path: str) -> None:
     """What is removed for good: the pieces of a large file of the caller's own go to the pool, where that has room. It
     is no file any more before."""
-    its, bin_ = files.large_at(room, path), room.bin
+    its, bin_ = large_at(room, path), room.bin
     if its is None or bin_ is None or len(pooled(room, bin_)) >= MOST:
         return
     folder, to = f"{path}/{its.folder}", below(bin_, its.folder)
@@ -126,6 +128,6 @@ def settle(room: Room, path: str) -> None:
             spares.empty(room, documents)
             room.rename(path, path.replace(PIECES, GONE))
         else:
-            files.remove_levels(room, [documents, [path]])
+            remove_levels(room, [documents, [path]])
     except Fault:  # (another request settles it, or the next one)
         pass

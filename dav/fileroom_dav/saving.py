@@ -8,10 +8,12 @@ name, under a list for who put them alone (the veil); and those of before under 
 import contextlib
 from collections.abc import Callable
 
-from room_client import files
-from room_client.faults import Fault, Held, NoAnswer, OtherVersion, Refused, SessionLost
-from room_client.manifest import NAME, Manifest, read_manifest
-from room_client.room import MOST_BYTES
+from room_client import clearing, files
+from room_client.faults import Fault, Held, NoAnswer, OtherVersion, Refused, SessionLost, overtaken
+from room_client.manifest import NAME, Manifest, are_parts, read_manifest
+from room_client.reading import manifest_in, text_at
+from room_client.room import MOST_BYTES, unheard
+from room_client.spares import has_own_list
 from room_client.trash import is_private
 from room_client.words import ALL, FOLDER, GROUP, INHERITED, LIST_FLAGS, TO_FILES, TO_FOLDERS
 
@@ -51,7 +53,7 @@ def put_as_named(gate, visit: Visit, room: str, path: str, data: bytes, is_new: 
     is_large = len(data) > MOST_BYTES
     is_kept = need_private(gate, visit, room, path)
     if is_kept and is_large and is_left_veiled(visit, path):
-        files.remove_all(visit, path)
+        clearing.remove_all(visit, path)
     elif is_kept:
         return put_bytes(visit, path, data, is_new)
     if not put_closed(visit, path, data, lambda at: veil(visit, at, is_large)):
@@ -76,7 +78,7 @@ def need_private(gate, visit: Visit, room: str, path: str) -> bool:
     if one and known_by(visit, path) == one.known:
         return True
     told = visit.get_list(path)
-    if not files.has_own_list(told):
+    if not has_own_list(told):
         if its["kind"] != FOLDER or not is_folder(visit, path):
             veil(visit, path, its["kind"] == FOLDER)
     elif not is_private(told, user):
@@ -89,7 +91,7 @@ def put_bytes(visit: Visit, path: str, data: bytes, is_new: bool = False) -> boo
     """Makes a file or a new version of it. Whether it was not there before."""
     try:
         if len(data) > MOST_BYTES:
-            return not pool.Upload(visit, path, data, files.unheard).run(is_new, False)
+            return not pool.Upload(visit, path, data, unheard).run(is_new, False)
         return not files.put(visit, path, data, is_new=is_new)
     except Refused as fault:
         raise making(fault) from None
@@ -109,7 +111,7 @@ def put_backup(visit: Visit, source: str, path: str, data: bytes) -> bool:
 def is_closed(visit: Visit, path: str) -> bool:
     """Whether it has a list of its own, or one that the caller is not told."""
     try:
-        return files.has_own_list(visit.get_list(path))
+        return has_own_list(visit.get_list(path))
     except Refused as fault:
         if not is_refused(fault, "ACCESS"):
             raise
@@ -129,7 +131,7 @@ def put_closed(visit: Visit, path: str, data: bytes, close: Callable[[str], obje
             return apart.name(visit, place, path)
         except Refused:
             with contextlib.suppress(Fault):
-                files.remove_all(visit, place.path)
+                clearing.remove_all(visit, place.path)
             raise
     except Refused as fault:
         raise making(fault) from None
@@ -138,7 +140,7 @@ def put_closed(visit: Visit, path: str, data: bytes, close: Callable[[str], obje
 def fill(visit: Visit, path: str, data: bytes) -> None:
     """What is empty so far. (What comes from the pool was looked at there.)"""
     if len(data) > MOST_BYTES:
-        upload = pool.Upload(visit, path, data, files.unheard)
+        upload = pool.Upload(visit, path, data, unheard)
         upload.put_pieces(path, upload.spares())
         upload.put_manifest(path, True)
     elif data:
@@ -150,7 +152,7 @@ def is_left_veiled(visit: Visit, path: str) -> bool:
     its = visit.stat(path)
     if its["kind"] != FOLDER or its["owner"] != visit.settings.user:
         return False
-    return files.form.are_parts(visit.children(path)) and is_veil(visit.get_list(path))
+    return are_parts(visit.children(path)) and is_veil(visit.get_list(path))
 
 
 def of_one(who: str, is_folder: bool) -> dict:
@@ -260,7 +262,7 @@ def is_version(visit: Visit, source: str) -> bool:
     if visit.stat(source)["owner"] != visit.settings.user or is_folder(visit, source):
         return False
     its = visit.get_list(source)
-    return is_veil(its) or not files.has_own_list(its)
+    return is_veil(its) or not has_own_list(its)
 
 
 # The exchange
@@ -274,7 +276,7 @@ def exchange(gate, visit: Visit, one: Aside, old: Thing, *, data: bytes = b"", s
     if its and not takes:
         data = bytes_of(visit, its)
     version = its.large if takes else Manifest.of(data)
-    text = files.text_at(visit, one.aside).decode("ascii") if old.large else ""
+    text = text_at(visit, one.aside).decode("ascii") if old.large else ""
     copy = apart.place_for(visit, below(above(one.aside), last(beside(one.path))), bool(old.large))
     step = Step("exchange", one.room, one.user, one.path, one.aside, copy.path, source or "", version.folder, text,
                 takes)
@@ -333,7 +335,7 @@ def close_like(visit: Visit, path: str, copy: str, is_folder: bool, is_again: bo
             raise
         return visit.set_list(copy, PROTECTED, [of_one(visit.settings.user, is_folder)])
     if (its["owner"], its["group"]) == (ours["owner"], ours["group"]):
-        if is_again or files.has_own_list(told):
+        if is_again or has_own_list(told):
             visit.set_list(copy, told["aclflag"], own_entries(told))
         return None
     entries = [named(it, its) for it in told["entries"]]
@@ -354,7 +356,7 @@ def named(entry: dict, its: dict) -> dict:
 
 def put_large(visit: Visit, step: Step, version: Manifest, data: bytes) -> None:
     """As every new version of a large file, but what was before it lies aside."""
-    upload = pool.Upload(visit, step.path, data, files.unheard)
+    upload = pool.Upload(visit, step.path, data, unheard)
     upload.its, upload.before = version, step.text.encode()
     upload.names, upload.whole = visit.children(step.path), visit.stat(step.path)
     if step.takes:
@@ -362,8 +364,8 @@ def put_large(visit: Visit, step: Step, version: Manifest, data: bytes) -> None:
     else:
         upload.put_pieces(step.path, upload.spares() or upload.from_pool())
     upload.share(upload.made_pieces())
-    if files.text_at(visit, step.path) != upload.before:
-        raise OtherVersion(files.overtaken(step.path))
+    if text_at(visit, step.path) != upload.before:
+        raise OtherVersion(overtaken(step.path))
     visit.write(f"{step.path}/{NAME}", version.text())
     upload.tidy_behind(lambda: upload.tidy(upload.names))
 
@@ -428,17 +430,17 @@ def is_undone(visit: Visit, step: Step) -> bool:
     if step.text and step.takes:
         back(visit, f"{step.path}/{step.folder}", f"{step.source}/{step.folder}")
     elif step.text:
-        files.clear(visit, step.path, step.folder)
+        clearing.clear(visit, step.path, step.folder)
     return False
 
 
 def remove_copy(visit: Visit, step: Step) -> None:
     if is_there(visit, step.copy):
-        files.remove_all(visit, step.copy)
+        clearing.remove_all(visit, step.copy)
 
 
 def has_version(visit: Visit, step: Step) -> bool:
-    its = files.manifest_in(visit, step.path)
+    its = manifest_in(visit, step.path)
     return its is not None and its.folder == step.folder
 
 

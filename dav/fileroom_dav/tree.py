@@ -6,10 +6,9 @@ import mmap
 from collections.abc import Callable
 from dataclasses import dataclass
 
-from room_client import files
 from room_client.faults import Refused
-from room_client.manifest import Manifest, NAME, PIECE, is_hidden, is_large
-from room_client.manifest import read_manifest
+from room_client.manifest import Manifest, NAME, PIECE, is_hidden, is_large, read_manifest
+from room_client.reading import fetch, large_at, manifest_in, of_version
 from room_client.words import FOLDER
 
 from .faults import Answered, NotThere, is_refused
@@ -104,7 +103,7 @@ def _thing_at(visit: Visit, path: str, is_shown: bool) -> Thing:
     told = visit.stat(path) if is_shown else {"kind": FOLDER}
     if told["kind"] != FOLDER:
         return Thing(path, False, told["size"])
-    its = files.large_at(visit, path) if is_shown else files.manifest_in(visit, path)
+    its = large_at(visit, path) if is_shown else manifest_in(visit, path)
     return large(path, its) if its else Thing(path, True)
 
 
@@ -114,7 +113,7 @@ def is_folder(visit: Visit, path: str) -> bool:
         names = visit.children(path)
     except Refused as fault:
         return not is_refused(fault, "NOTDIR")
-    return not (is_large(names) and files.manifest_in(visit, path))
+    return not (is_large(names) and manifest_in(visit, path))
 
 
 def bytes_of(visit: Visit, its: Thing, wanted: Callable[[Thing], tuple[int, int] | None] = lambda _: None):
@@ -125,14 +124,14 @@ def bytes_of(visit: Visit, its: Thing, wanted: Callable[[Thing], tuple[int, int]
             its.size, its.sum, its.large = found.size, found.sha256[:DIGITS], found
             first, last = wanted(its) or (0, max(found.size - 1, 0))
             return pieces_of(visit, its.path, found, range(first // PIECE, last // PIECE + 1))
-        its.data = files.of_version(visit, its.path, its.large.text(), gathers)
+        its.data = of_version(visit, its.path, its.large.text(), gathers)
     return its.data
 
 
 def pieces_of(visit: Visit, path: str, its: Manifest, numbers: range) -> bytes | mmap.mmap | None:
     """A large file's bytes in their places, as far as they are in these pieces. Where that is not all, nothing tells
     whether they are of one version but that they lie in its folder."""
-    data = filled(its.size, lambda put: files.fetch(
+    data = filled(its.size, lambda put: fetch(
         visit, path, its, numbers, lambda number, piece: put(PIECE * number, piece)))
     is_all = len(numbers) >= len(its.pieces)
     with visit.pace.floor.away():  # (Python hashes beside what others compute)
@@ -157,7 +156,7 @@ def listed(visit: Visit, path: str, wants_sums: bool, memory: Memory, room: str,
             return shown_without_names(visit, path, fault), []
         raise
     if is_large(names):
-        its = files.manifest_in(visit, path)
+        its = manifest_in(visit, path)
         if its:
             return large(path, its), []
     names = {name: kind for name, kind in names.items() if not is_hidden(name) and not is_passing(name)}

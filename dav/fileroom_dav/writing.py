@@ -1,6 +1,8 @@
 """PUT, MKCOL and DELETE."""
-from room_client import files, trash
+from room_client import trash
 from room_client.faults import Refused
+from room_client.manifest import MOST
+from room_client.reading import large_at
 from room_client.words import FILE
 
 from . import pool
@@ -17,7 +19,7 @@ from .visit import Visit
 def put(gate, visit: Visit, asked: Asked) -> Reply:
     if asked.field("Content-Range") is not None:
         raise Answered(400, "a part of a file cannot be put")
-    data = asked.body(files.form.MOST)
+    data = asked.body(MOST)
     path, rules = place(gate, visit, asked, asked.path), Rules(visit, asked, gate.locks)
     rules.need()
     rules.need_free(path, is_member=True)
@@ -53,7 +55,7 @@ def need_folder_above(gate, visit: Visit, asked: Asked, path: str) -> None:
     if parent == "/" or gate.memory.is_plain(asked.room, asked.user, parent):
         return
     try:
-        is_file = files.large_at(visit, parent) is not None
+        is_file = large_at(visit, parent) is not None
     except Refused:
         return
     if is_file:

@@ -10,11 +10,12 @@ from unittest import mock
 import pytest
 from given import each
 from room_client import files, manifest
-from room_client.faults import OtherVersion
-from room_client.files import Upload
+from room_client.clearing import remove_all
+from room_client.faults import OtherVersion, Refused
 from room_client.line import Line
 from room_client.manifest import MOST, PIECE
 from room_client.slots import Slot
+from room_client.uploads import Upload
 
 from .desk import ALL, COMMAND, EVERYBODY, STOPPED, VIEW, before_first, in_child, is_pending, parts, some, steps_to
 
@@ -38,7 +39,7 @@ def test_a_removal_begins_with_the_manifest(desk):
     """What is left where it is stopped is no damaged file."""
     with desk.room() as room, mock.patch.object(Slot, "ask", autospec=True, side_effect=Slot.ask) as asked:
         files.put(room, "/gone", OLD)
-        files.remove_all(room, "/gone")
+        remove_all(room, "/gone")
     commands = [it.args[1] for it in asked.call_args_list]
     assert next(it["path"] for it in commands if it["cmd"] == "REMOVE") == f"/gone/{manifest.NAME}"
 
@@ -100,7 +101,7 @@ def takes_pieces(desk):
     """A writer who began before, and was slow, may take them for left over."""
     with desk.other() as room:
         folder, = (it for it in room.children("/a") if it.startswith(manifest.PIECES))
-        files.remove_all(room, f"/a/{folder}")
+        remove_all(room, f"/a/{folder}")
 
 
 OVERTAKEN, BEHIND = "somebody else wrote another version meanwhile", "came right behind yours"
@@ -151,7 +152,7 @@ def found(room, before, data):
     """Which of them is there, seen by another: None is nothing, or a folder that is no file yet."""
     try:
         now = files.read(room, "/d/a")
-    except files.Refused as fault:
+    except Refused as fault:
         assert fault.reply["error"] in ("NOENT", "ISDIR")
         return None
     assert now in (before, data)
@@ -181,7 +182,7 @@ def stop_once(desk, stop_at, before, data, ends):
         assert [files.read(other, f"/d/{it}") for it in left] == [data] * len(left[:1])
         assert not left or before == [b"small"]
         desk.need_tidy(other, "/d/a")
-        files.remove_all(other, "/d")
+        remove_all(other, "/d")
     return True
 
 

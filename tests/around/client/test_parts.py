@@ -6,6 +6,7 @@ from room_client import files
 from room_client.faults import Refused
 from room_client.manifest import NAME, PIECE
 from room_client.room import Room
+from room_client.securing import secure
 
 from .desk import some
 
@@ -24,7 +25,7 @@ def anew(room, happens):
     text = room.read(f"/a/{NAME}")
     room.set_list(f"/a/{NAME}", 1, [{"flag": 0, "mask": 3, "type": 0, "who": "bob"}])
     with mock.patch.object(Room, "rename", renamed):
-        files.secure(room, "/a", None)
+        secure(room, "/a", None)
     return text
 
 

@@ -10,6 +10,7 @@ import subprocess
 import pytest
 from given import each
 from room_client import BadWords, files, report
+from room_client.reading import manifest_at
 
 from .desk import COMMAND
 
@@ -97,7 +98,7 @@ def test_report_has_a_large_file_as_one(desk, told):
         for path in "/plans/lake", "/plans/shared":
             files.write(room, path, bytes(70_000))
         room.mkdir("/plans/.room-pieces-0123456789abcdef")
-        pieces.append(f"/plans/shared/{files.manifest_at(room, '/plans/shared').folder}/001")
+        pieces.append(f"/plans/shared/{manifest_at(room, '/plans/shared').folder}/001")
         room.set_list(pieces[0], 0, [{"flag": 0, "mask": 1, "type": 0, "who": "bob"}])
     paths = dict.fromkeys(it[0] for it in table(desk, told(does))[1:])
     assert [*paths] == ["/", "/plans", "/plans/.room-pieces-0123456789abcdef", f"/plans/{MARKUP}", "/plans/lake",

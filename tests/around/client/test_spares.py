@@ -5,11 +5,12 @@ import threading
 from unittest import mock
 
 import pytest
-from room_client import files
+from room_client import files, uploads
 from room_client.faults import OtherVersion, Refused
-from room_client.files import Upload
 from room_client.manifest import PIECE
+from room_client.room import unheard
 from room_client.slots import Slot
+from room_client.uploads import Upload
 
 from .desk import before_first, some
 
@@ -167,10 +168,10 @@ def test_meanwhile_a_version_comes(one, other, step, comes, stands):
 
 def test_meanwhile_a_version_comes_as_its_pieces_are_cleared(one, other):
     """Behind the last look at the manifest."""
-    versions, clear = [some(3 * PIECE - it, it) for it in range(3)], files.clear
+    versions, clear = [some(3 * PIECE - it, it) for it in range(3)], uploads.clear
     files.write(one, "/a", versions[0])
     one.settle()
-    upload = Upload(one, "/a", versions[2], files.unheard)
+    upload = Upload(one, "/a", versions[2], unheard)
     upload.begin(False, False)
     upload.put_pieces("/a")
 
@@ -179,7 +180,7 @@ def test_meanwhile_a_version_comes_as_its_pieces_are_cleared(one, other):
             upload.put_manifest("/a", False)
             upload.look_after()
         clear(room, at, name, *args, **how)
-    with mock.patch.object(files, "clear", late):
+    with mock.patch.object(uploads, "clear", late):
         files.write(other, "/a", versions[1])
         other.settle()
     assert files.read(one, "/a") == versions[2]

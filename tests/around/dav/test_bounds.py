@@ -13,6 +13,7 @@ import pytest
 from fileroom_dav import bodies, props, spool, tree, turns
 from nginx import login
 from room_client import files
+from room_client.reading import manifest_in
 from served import until
 
 from . import desk as shared
@@ -139,7 +140,7 @@ def test_a_range_of_a_damaged_file(desk, data):
     """What is not read is not looked at; what is read has to be there, and of its length."""
     def put(piece, bytes_):
         with desk.room() as room:
-            room.write(f"/parts/{files.manifest_in(room, '/parts').folder}/{piece}", bytes_)
+            room.write(f"/parts/{manifest_in(room, '/parts').folder}/{piece}", bytes_)
     put("003", b"short")
     desk.does("ann", "GET", "/parts", 500)
     desk.does("ann", "GET", "/parts", 500, Range=f"bytes=0-{3 * PIECE}")
