@@ -3,12 +3,11 @@ import os
 import threading
 import time
 
-from people import Failed
+from people import HELD, Failed
 from served import stopping
 
 TOP = "/flood"
 LARGE = 1 << 20  # bytes of a file that it sends besides
-HELD = b"you are held"
 LONGEST = 1800  # seconds
 
 

@@ -19,6 +19,7 @@ from served import HERE, end_with_parent, started_here, stopping
 STAND_IN = os.path.abspath(os.path.join(HERE, "around", "page", "modules", "browser.mjs"))
 COMMAND = os.path.join(TOP, "client", "room")
 LATER = 429, 502, 503, 504
+HELD = b"held"  # in what front and gateway tell who is
 LONGEST = 300  # seconds that a program by WebDAV asks again, and that Chromium may take for a save
 LOCK = (b'<D:lockinfo xmlns:D="DAV:"><D:lockscope><D:exclusive/></D:lockscope><D:locktype><D:write/></D:locktype>'
         b"</D:lockinfo>")
@@ -127,7 +128,7 @@ class Person:
             except (OSError, http.client.HTTPException) as fault:
                 got = 503, None, repr(fault).encode()
             self.refused += got[0] == 429
-            if got[0] not in LATER or b"you are held" in got[2] or time.monotonic() > end or stopping.is_set():
+            if got[0] not in LATER or HELD in got[2] or time.monotonic() > end or stopping.is_set():
                 return got
             time.sleep(0.3)
 

@@ -28,6 +28,7 @@ PYTHON = "/usr/bin/python3"  # (Debian's, which has Debian's packages)
 ADMIN = os.path.join(SERVICE, "admin", "fileroom-admin")
 OWNER, GROUP = "boss", "all"
 PAST = 600_000  # numbers that the room has used: by this more than half, nearly all of what is gone
+LOGS = "root/etc/nginx/fileroom/work"
 JAILS = re.compile("fileroom-(?:made|sent)-(?:few|usual|many)")
 
 
@@ -125,6 +126,11 @@ class Place:
                 shutil.copy(self.room.db + end, self.at(f"copy/room.db{end}"))
         return self.at("copy/room.db")
 
+    def asked(self):
+        """How many requests the front had until now, those of the gateway too."""
+        with open(self.at(f"{LOGS}/access.log"), "rb") as file:
+            return sum(1 for _ in file)
+
     def is_quiet(self, seconds=2.0):
         """Whether the room does nothing for a while."""
         ran = f"/proc/{self.room.server.pid}/schedstat"
@@ -135,10 +141,13 @@ class Place:
     # Who is held.
 
     def begin_to_count(self):
-        """By fail2ban, anew, as on another day: with the filters, jails and action as they are shipped."""
+        """By fail2ban, anew, as on another day, whose log of changes is a new one: with the filters, jails and action
+        as they are shipped."""
         if not shutil.which("fail2ban-server"):
             return False
         self.end_counting()
+        log = self.at(f"{LOGS}/changes.log")
+        os.truncate(log, 0)
         etc = self.at("ban/etc")
         shutil.copytree("/etc/fail2ban", etc, symlinks=True)
         shutil.rmtree(os.path.join(etc, "jail.d"))
@@ -146,7 +155,6 @@ class Place:
         for name, to in (("made", "filter.d/fileroom-made"), ("sent", "filter.d/fileroom-sent"),
                          ("hold", "action.d/fileroom-hold"), ("bounds", "jail.d/bounds")):
             text = text_of(os.path.join(SERVICE, "fail2ban", f"{name}.conf"))
-            log = self.at("root/etc/nginx/fileroom/work/changes.log")
             self.write(f"ban/etc/{to}.conf", text.replace("/var/log/fileroom/changes.log", log))
         words = ["fail2ban-server", "-f", *self.ban_words(), "-p", self.at("ban/pid"), "--logtarget",
                  self.at("ban/log"), "start"]
