@@ -9,7 +9,8 @@ Wählen Sie einen Namen, um ihn zu öffnen; der Knopf ⋯ einer Zeile zeigt, was
   durch eine Datei und behält auf Wunsch die alte daneben: von selbst bewahrt der Raum keine alten Fassungen und keine
   Zeiten auf.
 Was Sie anlegen, auch eine Kopie, gehört Ihnen. **Entfernen** legt Dinge in Ihren Papierkorb, wo Sie einen haben: der
-  Weg dorthin steht ganz oben auf der Seite. Ein neues Passwort gibt, wer den Raum betreibt.
+  Weg dorthin steht neben der Liste (in einem schmalen Fenster hinter ☰). Ein neues Passwort gibt, wer den Raum
+  betreibt.
 Tasten: **Strg /** führt zur Suche, **Alt ↑** zum Ordner darüber, **Strg Z** macht rückgängig; in der Liste sucht **/**,
   **F2** benennt um, **Entf** entfernt, **Strg A** wählt alles, **Strg X** oder **Strg C** und dann **Strg V**
   verschieben oder kopieren in den gezeigten Ordner, und Buchstaben führen zu einem Namen; **Strg S** beendet, was

@@ -6,8 +6,8 @@ Choose a name to open it; the button ⋯ of a row has what you may do with it. A
 **Add text** adds lines at the end of a document, also where somebody else adds at the same time. **Edit** replaces all
   of it, and shows you both texts where somebody changed it meanwhile. **Upload a new version** replaces it by a file,
   and keeps the old one beside it if you want that: by itself the room keeps no old versions, and no times.
-What you make, a copy too, is yours. **Remove** moves things to your trash, where you have one: the way to it is at the
-  top of the page. A new password comes from whoever runs the room.
+What you make, a copy too, is yours. **Remove** moves things to your trash, where you have one: the way to it stands
+  beside the list (in a narrow window behind ☰). A new password comes from whoever runs the room.
 Keys: **Ctrl /** goes to the search, **Alt ↑** to the folder above, **Ctrl Z** undoes; in the list **/** searches,
   **F2** renames, **Delete** removes, **Ctrl A** chooses all, **Ctrl X** or **Ctrl C** and then **Ctrl V** move or copy
   into the folder shown, and letters go to a name; **Ctrl S** ends what is written.

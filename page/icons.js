@@ -12,6 +12,10 @@ const SHAPES = {
   archive: "M5 3h14v18H5zM12 3v2M12 7v2M12 11v2M10 15h4v3h-4z",
   media: "M6 4l13 8-13 8z",
   file: "M6 3h8l4 4v14H6zM14 3v4h4",
+  room: "M4 11l8-7 8 7v9H4zM10 20v-6h4v6",
+  trash: "M4 7h16M9 7V4h6v3M6 7l1 13h10l1-13M10 11v5M14 11v5",
+  recent: "M12 21a9 9 0 1 0 0-18 9 9 0 0 0 0 18zM12 7v5l3 2",
+  star: "M12 3.5l2.6 5.4 5.9.8-4.3 4.1 1 5.9-5.2-2.8-5.2 2.8 1-5.9-4.3-4.1 5.9-.8z",
 };
 
 const ENDINGS = {

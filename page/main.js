@@ -13,9 +13,9 @@ import { head } from "./heads.js";
 import { showHelp } from "./help.js";
 import { isPart } from "./manifest.js";
 import { showMatrix } from "./matrix.js";
+import { drawRail } from "./rail.js";
 import { logOut, sessionOfTab, userNow } from "./session.js";
 import { arrive, leave, standing } from "./stand.js";
-import { ownTrash } from "./trash.js";
 import { warn } from "./warned.js";
 import { fileOfFront } from "./wire.js";
 
@@ -123,14 +123,6 @@ class App {
     }
   }
 
-  /** The way to the user's trash, where there is one. */
-  async linkTrash(room) {
-    const its = part("trash");
-    const { path } = this.room && await ownTrash(this).catch(() => ({})) || {};
-    its.hidden = !path;
-    if (path) its.href = addressOf({ room, path });
-  }
-
   get place() {
     return placeOf(location.hash) ?? { view: "open", room: this.rooms[0], path: ROOT };
   }
@@ -150,11 +142,9 @@ class App {
       if (turn !== this.turn) return;
       part("main").replaceChildren(...nodes);
       part("main").dataset.place = addressOf(place); // (for tests: what is shown, once it is)
-      part("rooms").textContent = shown(place.room);
-      part("rooms").ariaLabel = t.about(t.room, shown(place.room));
       document.title = place.path === ROOT ? place.room : `${shown(lastName(place.path))} – ${place.room}`;
       warn(this.user, place.room);
-      this.linkTrash(place.room);
+      drawRail(this, place);
     });
     if (turn === this.turn) then();
   }
@@ -207,8 +197,6 @@ async function start() {
     const { value } = part("search").querySelector("input");
     if (value.trim()) searchFor(app, value.trim());
   });
-  part("rooms").onclick = () =>
-    openMenu(part("rooms"), rooms.map((room) => ({ words: room, href: addressOf({ room, path: ROOT }) })), t.room);
   watch(() => part("main").querySelector(".typed")?.isUnsaved());
   addEventListener("hashchange", () => app.come());
   lookAgain(app);

@@ -3,8 +3,8 @@
 export const t = {
   and: "und", bytes: "{0} {0|Byte|Bytes}", allThings: "{0} {0|Element|Elemente}", ofAll: "{0} von {1}",
   // the frame
-  room: "Raum", skip: "Zur Liste", help: "Hilfe", logOut: "Abmelden", logIn: "Anmelden", close: "Schließen",
-  cancel: "Abbrechen", refreshing: "{0|Nicht von|Von} selbst auffrischen",
+  rooms: "Räume", places: "Orte", skip: "Zur Liste", help: "Hilfe", logOut: "Abmelden", logIn: "Anmelden",
+  close: "Schließen", cancel: "Abbrechen", refreshing: "{0|Nicht von|Von} selbst auffrischen",
   doneLabel: "Was getan wurde", sendAgain: "Jetzt noch einmal senden", giveUp: "Aufgeben",
   you: "Angemeldet als {0}.", foldersAbove: "Ordner darüber", views: "Ansichten", contents: "Inhalt",
   whoMay: "Wer darf was", noRoom: "Einen Raum {0} gibt es hier nicht.",

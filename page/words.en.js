@@ -3,8 +3,8 @@
 export const t = {
   and: "and", bytes: "{0} {0|byte|bytes}", allThings: "{0} {0|item|items}", ofAll: "{0} of {1}",
   // the frame
-  room: "Room", skip: "To the list", help: "Help", logOut: "Log out", logIn: "Log in", close: "Close", cancel: "Cancel",
-  refreshing: "{0|Do not refresh|Refresh} by itself",
+  rooms: "Rooms", places: "Places", skip: "To the list", help: "Help", logOut: "Log out", logIn: "Log in",
+  close: "Close", cancel: "Cancel", refreshing: "{0|Do not refresh|Refresh} by itself",
   doneLabel: "What was done", sendAgain: "Send again now", giveUp: "Give up", you: "You are {0}.",
   foldersAbove: "Folders above", views: "Views", contents: "Contents", whoMay: "Who may do what",
   noRoom: "There is no room {0} here.",

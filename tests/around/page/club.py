@@ -313,6 +313,12 @@ def of_user(browser, words):
     browser.press(words, MENU)
 
 
+def by_rail(browser, words):
+    """Goes to a place by the rail, which stands behind a button in a window of this width."""
+    browser.press("Places")
+    browser.act(f"//*[@id='rail']//a[.='{words}']", "click")
+
+
 def offers(browser):
     """The words of the menu that is open, without its links."""
     browser.until("a menu", lambda: browser.find(MENU))

@@ -123,13 +123,18 @@ def test_wishes_are_met(club, browser, text):
         assert (wish, [browser.script(moves), browser.script(outline)]) == (wish, wanted)
 
 
-def test_rooms_stand_in_a_menu(club, browser, text):
-    """Nothing is left before one of them is chosen; the name of a language is in that one."""
+def test_rooms_stand_in_the_rail(club, browser, text):
+    """Beside the list, or in a narrow window behind a button; the name of a language is in a menu, in that one."""
     club.open(TOP)
-    browser.act("//header//button[@aria-label='Room: club']", "click")
-    browser.sees("club", "[role=menu]")
-    assert browser.script(PLACE) == f"#open/club{TOP}"
-    browser.keys("enter")
+    in_sight = "return ['rail', 'places'].map((it) => document.getElementById(it).checkVisibility())"
+    assert browser.script(in_sight) == [False, True]
+    browser.press("Places")
+    assert browser.script(in_sight) == [True, True]
+    browser.keys("escape")
+    assert browser.script(in_sight) == [False, True]
+    browser.size(1280, 800)
+    assert browser.script(in_sight) == [True, False]
+    browser.act("//*[@id='rail']//a[.='club']", "click")
     browser.until("the room", lambda: browser.script(PLACE) == "#open/club")
     assert browser.script("return document.querySelectorAll('header select').length") == 0
     browser.act("//header//button[@id='user']", "click")

@@ -5,7 +5,8 @@ from urllib.parse import quote
 import pytest
 from room_client import trash
 
-from .club import ALL, DIALOG, MENU, TEXTS, TYPED, USERS, by_menu, entry, of_folder, offers, remove, row, to_folder
+from .club import (ALL, DIALOG, MENU, TEXTS, TYPED, USERS, by_menu, by_rail, entry, of_folder, offers, remove, row,
+                   to_folder)
 
 OLD, (TRASH, *_) = "/trash/ann", trash.places_of("ann")  # (the first is that of rooms of before)
 STAMP = "20261126214307"
@@ -86,7 +87,7 @@ def test_trash_is_emptied(club, browser, thrown, trashes):
     browser.sees("/other/thrown.txt is in the trash.", "#notices")
     club.lay(f"{TRASH}/more.txt~other~{STAMP}")
     club.open()
-    browser.act("//header//a[.='Trash']", "click")
+    by_rail(browser, "Trash")
     browser.until("where they were", lambda: browser.shown().count("was in /other, removed ") == 2)
     assert browser.script(TEXTS, MAKERS) == ["Empty the trash"]
     browser.press("Empty the trash")
@@ -104,11 +105,10 @@ def test_trash_is_emptied(club, browser, thrown, trashes):
 def test_trash_is_at_hand_everywhere(club, browser, thrown, trashes):
     """And what is in it comes back by one press."""
     club.open("/other/t")
-    browser.sees("Trash", "header")
     of_folder(browser, "Remove")
     browser.press("Remove", DIALOG)
     browser.sees("/other/t is in the trash.", "#notices")
-    browser.act("//header//a[.='Trash']", "click")
+    by_rail(browser, "Trash")
     browser.press("Restore t", "//main")
     browser.sees("/other/t is there again.", "#notices")
     assert "t" in club.names("/other")
@@ -116,7 +116,7 @@ def test_trash_is_at_hand_everywhere(club, browser, thrown, trashes):
 
 def test_trash_that_is_not_there_has_no_way(club, browser):
     club.open()
-    assert browser.script("return document.getElementById('trash').hidden") is True
+    browser.until("the rail", lambda: browser.script(TEXTS, "#rail a") == ["club"])
 
 
 def test_trash_on_a_phone(club, browser, trashes):

@@ -3,7 +3,7 @@ import time
 
 import pytest
 
-from .club import DIALOG, PLACE, TEXTS, TYPED, by_menu, edit, of_user, rename
+from .club import DIALOG, PLACE, TEXTS, TYPED, by_menu, by_rail, edit, of_user, rename
 
 PATH = "/plans/june.txt"
 ASKED = "const it = new Event('beforeunload', {cancelable: true}); dispatchEvent(it); return it.defaultPrevented"
@@ -177,8 +177,8 @@ def test_an_unknown_room(club, browser):
     """It is told at once, and which are there."""
     browser.go(club.address("#open/nowhere/plans"))
     browser.sees("There is no room nowhere here.", "main")
-    browser.act("//header//button[@id='rooms']", "click")
-    browser.sees("club", "[role=menu]")
+    by_rail(browser, "club")
+    browser.until("it is shown", lambda: browser.script(PLACE) == "#open/club")
 
 
 def test_nothing_can_be_pressed_until_a_view_is_there(club, browser):
