@@ -1,10 +1,10 @@
 /** What is shown of a document; and small pictures in rows. */
 import { button, link, make, shown, t, toBase64, toText } from "./common.js";
-import { readFile } from "./reading.js";
+import { NOBODY, readFile } from "./reading.js";
 
 const MOST_TEXT = 2 ** 20; // letters
-const MOST_PIXELS = 100e6; // of a picture, and of the small ones of a folder
-const SMALL = { file: 2 ** 20, folder: 2 ** 23, pixels: 16e6 }; // most bytes of one file, of a folder; pixels of one
+const MOST_PIXELS = 100e6; // of a picture
+const SMALL = { bytes: 2 ** 25, pixels: 3e8, side: 96 }; // most of a folder's that are read and drawn; what is kept
 
 /** By how the bytes begin, and never by the name. */
 const TYPES = { "image/png": /^\x89PNG\r\n\x1a\n/, "image/jpeg": /^\xff\xd8\xff/, "image/gif": /^GIF8/,
@@ -36,11 +36,14 @@ async function picture(bytes, alt, most) {
 const MOVES = /^GIF[^]*(NETSCAPE|!\xf9\x04[^]{4}\0[^]*!\xf9\x04[^]{4}\0)|^.PNG[^]*acTL|^RIFF[^]*ANIM/;
 const isMoving = (bytes) => MOVES.test(new TextDecoder("latin1").decode(bytes));
 
-/** Its first picture alone. */
-function still(it) {
-  const { naturalWidth: width, naturalHeight: height, alt } = it;
+/** Its first picture alone, no larger than it needs to be to cover a square of that side. */
+function still(it, side = Infinity) {
+  const { naturalWidth, naturalHeight, alt } = it;
+  const part = Math.min(1, side / Math.min(naturalWidth, naturalHeight));
+  const [width, height] = [naturalWidth, naturalHeight].map((its) => Math.ceil(its * part));
   const first = make("canvas", { width, height, role: alt && "img", ariaLabel: alt });
-  first.getContext("2d").drawImage(it, 0, 0);
+  const pen = Object.assign(first.getContext("2d"), { imageSmoothingQuality: "high" });
+  pen.drawImage(it, 0, 0, width, height);
   return first;
 }
 
@@ -86,7 +89,7 @@ export const isPicture = (name) => /\.(gif|jpe?g|png|webp)$/i.test(name);
 
 export class SmallPictures {
   constructor(room) {
-    Object.assign(this, { room, left: SMALL.folder, pixels: MOST_PIXELS, turn: Promise.resolve() });
+    Object.assign(this, { room: room.behind(), left: SMALL.bytes, pixels: SMALL.pixels, turn: Promise.resolve() });
   }
 
   placeOf(name) {
@@ -96,17 +99,20 @@ export class SmallPictures {
   show(element, path, size) {
     if (!element.className) return;
     const fail = () => { element.className = "no-picture"; }; // (as large: rows below stay where they are)
-    if (!(size <= Math.min(SMALL.file, this.left))) return fail();
+    if (!(size <= this.left)) return fail();
     this.left -= size;
     this.turn = this.turn.then(() => this.#draw(element, path, fail)).catch(fail);
   }
 
   async #draw(element, path, fail) {
-    if (!element.isConnected) return; // (another view is shown by now)
-    const bytes = await readFile(this.room, path);
-    const it = await picture(bytes, "", Math.min(SMALL.pixels, this.pixels));
+    const check = () => {
+      if (!element.isConnected) throw new Error(t.stopped); // (another view is shown by now)
+    };
+    check();
+    const bytes = await readFile(this.room, path, { ...NOBODY, check });
+    const it = await picture(bytes, "", Math.min(MOST_PIXELS, this.pixels));
     if (!it) return fail();
     this.pixels -= pixelsOf(it);
-    element.replaceChildren(isMoving(bytes) ? still(it) : it);
+    element.replaceChildren(still(it, SMALL.side));
   }
 }

@@ -16,10 +16,14 @@ export class Questions {
     return once(this.asked, key, task);
   }
 
+  stat(path) {
+    return this.once(`stat ${path}`, () => this.app.room.asideIfAllowed("STAT", path));
+  }
+
   /** Kind, owner, group and list, or null where the caller may not see them. */
   object(path) {
     return this.once(path, async () => {
-      const stat = await this.app.room.asideIfAllowed("STAT", path);
+      const stat = await this.stat(path);
       const list = stat && await this.app.room.asideIfAllowed("GETLIST", path);
       if (!list) return null;
       const { owner, group } = stat;

@@ -42,8 +42,8 @@ async function readLarge(room, path, transfer) {
   for (let times = 0; times < TRIES && text; times += 1) {
     const bytes = await wholeOf(room, path, form.readManifest(text), transfer);
     if (bytes) {
-      const isTold = transfer === NOBODY || await manifestFollows(room, path); // (of small pictures nobody is)
-      if (!isTold) transfer.fail(t.prepared(shown(path)));
+      const isHeard = transfer.fail !== NOBODY.fail;
+      if (isHeard && !await manifestFollows(room, path)) transfer.fail(t.prepared(shown(path)));
       return bytes;
     }
     const before = text;
@@ -64,7 +64,7 @@ async function wholeOf(room, path, its, transfer) {
       bytes.set(piece, at * form.PIECE); // (a piece that does not fit is a fault of range)
       ends[at] = piece.length;
       transfer.add(piece.length);
-    });
+    }, room.width);
   } catch (fault) {
     if (isRefused(fault, NOENT, ISDIR, NOTDIR) || fault instanceof RangeError) return null;
     throw fault;

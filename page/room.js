@@ -7,7 +7,10 @@ export const BEHIND = "behind"; // of a step that goes on behind an answer
 
 /** What the map has there, which the task makes first. */
 export function once(map, key, task) {
-  if (!map.has(key)) map.set(key, task());
+  if (!map.has(key)) {
+    map.set(key, task());
+    map.get(key)?.catch?.(() => map.delete(key)); // (it is asked anew)
+  }
   return map.get(key);
 }
 

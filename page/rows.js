@@ -16,9 +16,10 @@ const LIKE_FILE = /\.(?=\d*[a-z])\w{1,5}$/i; // (no date)
 const seenAs = new Map(); // what the room's folders are to people, by room and path, as far as it was looked at
 
 /** `{kind, words, size}`; a folder's size is the count of what is in it. */
-async function lookAt(room, path, kind) {
+async function lookAt({ app: { room }, seers }, path, kind) {
   const sized = (its, size) => ({ kind: its, words: size === undefined ? "" : sizeWords(size), size });
-  if (kind !== FOLDER) return sized(FILE, (await room.asideIfAllowed("STAT", path))?.size);
+  const stat = kind === FOLDER ? null : await seers.questions.stat(path);
+  if (kind !== FOLDER && stat?.kind !== FOLDER) return sized(FILE, stat?.size); // (a search has a large file as one)
   const { kind: found, names, its } = await lookInto(room, path);
   if (!names || found === UNFINISHED) return { kind: found, words: "", isShut: !names };
   return found === LARGE ? sized(LARGE, its?.size) :
@@ -40,6 +41,7 @@ export class Row {
       { tabIndex: -1, "aria-label": `${t.putBack} ${shown(this.called)}` });
     this.more = button("⋯", () => this.open(), { tabIndex: -1, "aria-label": t.moreFor(shown(this.called)),
       "aria-haspopup": "menu", "aria-expanded": "false", className: "small" });
+    this.whoCell = make("td.who");
     this.kindCell = make("td.kind");
     this.sizeCell = make("td.size");
     const before = beforeWords(path);
@@ -49,7 +51,8 @@ export class Row {
     this.element = make("tr", { "aria-selected": "false" }, make("td.tick", this.tick),
       make("th", { scope: "row" }, make("div", this.picture,
         below.length ? make("div", this.link, make("div.about", below)) : this.link)),
-      this.where && make("td.where", this.where), this.kindCell, this.sizeCell, make("td.own", this.back, this.more));
+      this.where && make("td.where", this.where), this.whoCell, this.kindCell, this.sizeCell,
+      make("td.own", this.back, this.more));
     this.element.row = this;
     this.showKind();
     dragRow(this);
@@ -59,7 +62,7 @@ export class Row {
   }
 
   get stops() {
-    return [this.tick, this.link, this.where, this.back, this.more].filter(Boolean);
+    return [this.tick, this.link, this.where, this.whoCell.firstChild, this.back, this.more].filter(Boolean);
   }
 
   showKind() {
@@ -88,13 +91,22 @@ export class Row {
   }
 
   async #look() {
-    this.its = await lookAt(this.app.room, this.path, this.kind);
+    this.its = await lookAt(this.things, this.path, this.kind);
     this.sizeCell.textContent = this.its.words;
     this.isFolder = this.its.kind === FOLDER;
     if (this.kind === FOLDER) seenAs.set(this.key, this.its.kind);
     this.showKind();
     this.pictures.show(this.picture, this.path, this.its.size);
     return this.its;
+  }
+
+  /** Who can see it; the way from there leads to Share. */
+  async tellWho() {
+    const { kind, isShut } = await this.look();
+    const found = isShut ? null : await this.things.seers.of({ path: this.path, kind });
+    if (!found) return;
+    const href = addressOf({ view: "access", room: this.things.place.room, path: this.path });
+    this.whoCell.replaceChildren(Object.assign(link(href, found.words), { tabIndex: -1, title: found.told }));
   }
 
   choose(isChosen) {

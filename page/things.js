@@ -4,9 +4,11 @@ import { downloadAll } from "./downloads.js";
 import { copyTo, move, putAllBack, remove } from "./moving.js";
 import { SmallPictures } from "./preview.js";
 import { Row } from "./rows.js";
+import { Seers } from "./seers.js";
 import { isOwnTrash } from "./trash.js";
 
 const SORT = "fileroom/sort";
+const WIDTH_WHO = 2; // rows of which it is asked at once who can see them
 const PAUSE = 700; // milliseconds after which letters begin anew
 
 const BY = {
@@ -15,8 +17,8 @@ const BY = {
   size: (one, other) => (one.its?.size ?? -1) - (other.its?.size ?? -1),
   where: (one, other) => inOrder(one.folder, other.folder),
 };
-const HEADS = ["name", "kind", "size"];
-const HEADS_FOUND = ["name", "where", "kind", "size"];
+const HEADS = ["name", "who", "kind", "size"];
+const HEADS_FOUND = ["name", "where", "who", "kind", "size"];
 
 class ChosenBar {
   constructor(things) {
@@ -121,10 +123,10 @@ class GridKeys {
 /** `names` are `[NAME, KIND]`, or what was found `[NAME, KIND, FOLDER]`; `rights` are those on the folder, or null. */
 export class Things {
   constructor(app, place, names, rights) {
-    Object.assign(this, { app, place, rights, last: null, isFound: rights === null });
+    Object.assign(this, { app, place, rights, last: null, isFound: rights === null, inSight: new Set() });
     const [by, isDown] = (localStorage.getItem(SORT) ?? "name").split(" ");
     this.sort = { by: HEADS.includes(by) ? by : "name", isDown: Boolean(isDown) };
-    this.pictures = new SmallPictures(app.room);
+    [this.pictures, this.seers] = [new SmallPictures(app.room), new Seers(app)];
     this.rows = names.map((it) => new Row(this, it));
     this.bodies = [make("tbody"), make("tbody")]; // folders, and documents behind them
     this.bar = new ChosenBar(this);
@@ -144,14 +146,14 @@ export class Things {
     this.all = make("input", { type: "checkbox", tabIndex: -1, "aria-label": t.chooseAll });
     this.all.onchange = () => this.choose(this.all.checked ? this.rows : []);
     this.heads = (this.isFound ? HEADS_FOUND : HEADS).map((by) => {
-      const its = button(t.heads[by], () => this.sortBy(by), { tabIndex: -1 });
-      return { by, button: its, cell: make(`th.${by}`, { scope: "col" }, its) };
+      const its = by in BY && button(t.heads[by], () => this.sortBy(by), { tabIndex: -1 });
+      return { by, button: its, cell: make(`th.${by}`, { scope: "col" }, its || t.heads[by]) };
     });
     return make("thead", make("tr", make("td.tick", this.all), this.heads.map((it) => it.cell), make("td.own")));
   }
 
   get stops() {
-    return [this.all, ...this.heads.map((it) => it.button)];
+    return [this.all, ...this.heads.map((it) => it.button).filter(Boolean)];
   }
 
   get shown() {
@@ -170,7 +172,7 @@ export class Things {
   }
 
   draw() {
-    for (const { by, cell } of this.heads) {
+    for (const { by, cell } of this.heads.filter((it) => it.button)) {
       const isBy = by === this.sort.by;
       cell.setAttribute("aria-sort", isBy ? this.sort.isDown ? "descending" : "ascending" : "none");
     }
@@ -192,12 +194,27 @@ export class Things {
 
   watch() {
     this.seen = new IntersectionObserver((entries) => {
-      for (const { target } of entries.filter((it) => it.isIntersecting)) {
-        this.seen.unobserve(target);
-        target.row.look().catch(tellIt);
+      for (const { target: { row }, isIntersecting } of entries) {
+        this.inSight[isIntersecting ? "add" : "delete"](row);
+        if (isIntersecting) row.look().catch(tellIt);
       }
+      this.tellWho();
     });
     for (const it of this.rows) this.seen.observe(it.element);
+  }
+
+  /** Of rows that are in sight, a few at once. (What a room does not tell is left out.) */
+  async tellWho() {
+    if (this.isTelling) return;
+    this.isTelling = true;
+    while (this.inSight.size) {
+      await forEach(this.inSight, (row) => {
+        this.inSight.delete(row);
+        this.seen.unobserve(row.element);
+        return row.tellWho().catch(() => {});
+      }, WIDTH_WHO);
+    }
+    this.isTelling = false;
   }
 
   /** One more, behind all others: they stay where they are. */

@@ -156,10 +156,11 @@ export const t = {
   // what is shown of an object
   owned: "owner {0}, group {1}", inIt: "{0} {0|item|items}", failedOf: "{0} of {1} failed",
   unfinished: "unfinished upload",
-  heads: { name: "Name", kind: "Kind", size: "Size", where: "Folder" },
+  heads: { name: "Name", who: "Who can see it", kind: "Kind", size: "Size", where: "Folder" },
   kinds: { folder: "Folder", text: "Text", picture: "Picture", pdf: "PDF", table: "Table", writing: "Document",
     slides: "Slides", archive: "Archive", media: "Sound, film", file: "File" },
-  shutKind: "No access",
+  shutKind: "No access", onlyYou: "Only you", everyoneHere: "Everyone here", yourself: "You", nobody: "Nobody",
+  people: "{0} {0|person|people}",
   choose: "Select {0}", chooseAll: "Select all", chosen: "{0} selected", chosenLabel: "What is selected",
   chooseNone: "Clear selection", notOffered: "You may not do that with {0}.", moreFor: "More for {0}",
   onlyLook: "You may only look.", dropHere: "Files can be dropped anywhere on this page.",

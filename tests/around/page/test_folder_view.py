@@ -63,11 +63,11 @@ def test_icons_tell_kinds(browser, frame):
 
 def test_heads_sort(club, browser, frame):
     """They tell it, and it is kept."""
-    assert (browser.script(ROWS), browser.script(SORTS)) == (NAMES, ["ascending", "none", "none"])
+    assert (browser.script(ROWS), browser.script(SORTS)) == (NAMES, ["ascending", None, "none", "none"])
     by_size = ["attic", "cellar", "notes.txt", "letter.docx", "list.xlsx", "bill.pdf"]
     browser.press("Size")
     browser.until("by size", lambda: browser.script(ROWS) == by_size)
-    assert browser.script(SORTS) == ["none", "none", "ascending"]
+    assert browser.script(SORTS) == ["none", None, "none", "ascending"]
     browser.press("Size")
     browser.until("the other way", lambda: browser.script(ROWS)[2:] == by_size[:1:-1])
     club.anew(TOP)
@@ -138,7 +138,7 @@ def test_keys_move_in_the_list(browser, frame):
     """Arrows, Home, End and letters."""
     browser.keys("tab", "tab", "tab")
     for keys, at in (["down"], "cellar"), (["end"], "notes.txt"), (["home"], "attic"), (["l"], "letter.docx"), \
-            (["up"], "bill.pdf"), (["li"], "list.xlsx"), (["right"], "More for list.xlsx"):
+            (["up"], "bill.pdf"), (["li"], "list.xlsx"), (["right"], "eng"), (["right"], "More for list.xlsx"):
         browser.keys(*keys)
         assert (keys, browser.script(FOCUS)) == (keys, at)
         browser.script("return new Promise((go) => setTimeout(go, 750))")  # (letters begin anew)

@@ -1,15 +1,17 @@
 """Pictures and PDFs: small in a folder, shown where they are opened, never run, and nothing that moves by itself (WCAG
 2.2, criterion 2.2.2)."""
+import cases
 import pytest
 
-from .club import PIECE, TOP
+from .club import NAME, PIECE, TOP
 from .drawn import PDF, PNG, RED, SVG, apng, gif, png, webp
 
 # what is shown small of each thing in the list, by its name
 SMALL = ("return Object.fromEntries([...document.querySelectorAll('.things tbody tr')].map((it) => "
          "[it.querySelector('.name').textContent, it.querySelector('.small-picture')?.firstChild?.tagName ?? null]))")
 WIDTHS = ("return [...document.querySelectorAll('.things tr')].filter((it) => it.querySelector('.small-picture'))"
-          ".map((it) => [it.querySelector('bdi').textContent, it.querySelector('img')?.naturalWidth ?? null]).sort()")
+          ".map((it) => [it.querySelector('bdi').textContent, it.querySelector('canvas')?.width ?? null]).sort()")
+NONE = "return document.querySelectorAll('.no-picture').length"
 SHOWN = "return document.querySelector('.picture > :is(img, canvas):not([hidden])')?.tagName"
 WIDTH = "const it = document.querySelector('.picture img'); return it && [it.complete, it.naturalWidth]"
 DOT = ("return [...document.querySelector('.picture canvas').getContext('2d').getImageData(0, 0, 1, 1).data]"
@@ -27,15 +29,36 @@ def lay(club, things):
 # In a folder
 
 def test_small_pictures(club, browser):
-    """Also of large files, by what their bytes are, and up to a size, of pixels too."""
-    lay(club, {"dot.png": PNG, "not.png": SVG, "large.png": PNG + bytes(PIECE), "huge.png": PNG + bytes(1 << 20),
-               "some.png": bits(800), "vast.png": bits(20_000)})
+    """Also of large files, by what their bytes are, up to a size of pixels, and made smaller."""
+    lay(club, {"dot.png": PNG, "not.png": SVG, "large.png": PNG + bytes(3 << 19), "some.png": bits(800),
+               "vast.png": bits(20_000)})
     club.open(TOP)
-    wanted = [["dot.png", 1], ["large.png", 1], ["some.png", 800]]
+    wanted = [["dot.png", 1], ["large.png", 1], ["some.png", 96]]
     browser.until("small pictures", lambda: browser.script(WIDTHS) == wanted)
-    assert [it for it in club.lossy.bodies if b"huge.png/.room-pieces" in it] == []
     heights = "return [...document.querySelectorAll('.things tbody tr')].map((it) => it.offsetHeight)"
     assert len({*browser.script(heights)}) == 1  # (a row without one is as high)
+
+
+def test_small_pictures_of_a_folder_are_bounded(club, browser):
+    """Files that say that they have so many bytes together that the last is not read."""
+    for name in "a.png", "b.png", "c.png":
+        its = cases.manifest_of(bytes(12 << 20))
+        lay(club, {f"{name}/{NAME}": cases.compact(its)})
+    club.open(TOP)
+    browser.until("none is shown", lambda: browser.script(NONE) == 3)
+    asked = [sum(f"{it}.png/.room-pieces".encode() in body for body in club.lossy.bodies) > 0 for it in "abc"]
+    assert asked == [True, True, False]
+
+
+def test_a_small_picture_is_read_while_its_row_is_shown(club, browser):
+    lay(club, {"large.png": PNG + bytes(1 << 20)})
+    club.lossy.hold('"READ"', ".room-pieces")
+    club.open(TOP)
+    browser.until("it is read", lambda: club.lossy.held)
+    club.open(f"{TOP}/nothing")
+    club.lossy.go_on()
+    club.open()
+    assert club.lossy.times(".room-pieces") <= 4
 
 
 def bits(side):
@@ -46,8 +69,7 @@ def bits(side):
 def test_small_pictures_stand_still(club, browser):
     lay(club, MOVING | STILL)
     club.open(TOP)
-    wanted = {**dict.fromkeys(MOVING, "CANVAS"), **dict.fromkeys(STILL, "IMG")}
-    browser.until("small pictures", lambda: browser.script(SMALL) == wanted)
+    browser.until("small pictures", lambda: browser.script(SMALL) == dict.fromkeys(MOVING | STILL, "CANVAS"))
 
 
 # Where they are opened

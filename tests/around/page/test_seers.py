@@ -1,0 +1,98 @@
+"""Who can see a thing, beside its name: what Share and the matrix tell, in few words."""
+import pytest
+
+from .club import ALL, GROUP, PIECE, PLACE, VIEW, entry, search_in
+
+TOP = "/seen"
+SEERS = ("return Object.fromEntries([...document.querySelectorAll('.things tbody tr')].map((it) => "
+         "[it.querySelector('bdi').textContent, it.querySelector('.who').textContent]))")
+OWNER, ENG, BOB, EVERYONE = entry("OWNER@", ALL), entry("eng", VIEW, 3 | GROUP), entry("bob", VIEW), \
+    entry("EVERYONE@", VIEW)
+LISTS = {"alone": [OWNER], "bob": [OWNER, BOB], "eng": [OWNER, ENG], "eve": [OWNER, entry("eve", VIEW)],
+         "everyone": [OWNER, EVERYONE], "not bob": [OWNER, entry("bob", 1, 3, 1), EVERYONE],
+         "staff": [OWNER, entry("staff", VIEW, 3 | GROUP)]}
+WORDS = {"alone": "Only you", "bob": "You, Bob Ray", "eng": "eng", "eve": "You, eve", "everyone": "Everyone here",
+         "not bob": "You, eve", "staff": "You, staff", "nobody": "Nobody"}
+
+
+def lay(club, top=EVERYONE):
+    """Folders with each of the lists, in one of whose list that is, and a document that nobody may read."""
+    club.lay(*(f"{TOP}/{it}/" for it in LISTS), f"{TOP}/nobody")
+    club.sets(f"{TOP}/nobody", entry("OWNER@", 0x20080, 0), flags=2)
+    for name, its in LISTS.items():
+        club.sets(f"{TOP}/{name}", *its, flags=2)
+    club.sets("/", OWNER, EVERYONE, flags=2)
+    club.sets(TOP, OWNER, top, flags=2)
+
+
+def told(browser, wanted):
+    browser.until(wanted, lambda: browser.script(SEERS) == wanted)
+
+
+@pytest.fixture
+def names(tells):
+    tells("names.json", {"bob": "Bob Ray"})
+
+
+def test_a_row_tells_who_can_see_it(club, browser, names):
+    """And leads to Share, whose change it tells."""
+    lay(club)
+    club.open(TOP)
+    told(browser, WORDS)
+    browser.follow("You, staff")
+    browser.until("Share", lambda: browser.script(PLACE) == f"#access/club{TOP}/staff")
+    browser.press("Stop sharing with the group staff")
+    browser.sees("Sharing updated", "#notices")
+    club.open(TOP)
+    told(browser, WORDS | {"staff": "Only you"})
+
+
+def test_who_does_not_get_there_does_not_see_it(club, browser, names):
+    """The list of the folder above counts."""
+    lay(club, ENG)
+    club.open(TOP)
+    told(browser, WORDS | {"everyone": "You, Bob Ray", "eve": "Only you", "not bob": "Only you"})
+
+
+def test_people_who_are_many_are_counted(club, browser, tells):
+    users = {"ann": [], **{name: [] for name in ("bob", "eve", "kim", "lea")}, "max": []}
+    tells("rooms/club.users.json", users)
+    club.lay(f"{TOP}/a.txt")
+    club.sets("/", OWNER, EVERYONE, flags=2)
+    club.sets(f"{TOP}/a.txt", entry("OWNER@", ALL, 0), *(entry(it, VIEW, 0) for it in [*users][1:5]), flags=2)
+    club.open(TOP)
+    told(browser, {"a.txt": "5 people"})
+
+
+def test_a_large_file_is_seen_by_whom_its_pieces_let(club, browser):
+    """Also where it was found."""
+    club.lay((f"{TOP}/large", bytes(PIECE + 1)))
+    club.sets("/", OWNER, EVERYONE, flags=2)
+    club.sets(f"{TOP}/large", OWNER, entry("bob", VIEW), entry("eve", VIEW, 0), flags=2)
+    size = "return document.querySelector('.things td.size').textContent"
+    for go in (lambda: club.open(TOP)), (lambda: search_in(club, "", "large")):
+        go()
+        told(browser, {"large": "You, bob"})
+        browser.until("its size", lambda: browser.script(size) == "64 KiB")
+
+
+def test_what_one_may_not_know_is_left_out(club, browser):
+    """What is not told of a list, or of the list of a folder above, is no guess; who is alone is alone anyway."""
+    lay(club, entry("EVERYONE@", VIEW & ~0x20000))
+    club.sets(f"{TOP}/bob", OWNER, entry("EVERYONE@", VIEW & ~0x20000), flags=2)
+    club.sets(f"{TOP}/alone", entry("eve", VIEW), flags=2)
+    club.log_in("eve")
+    club.open(TOP)
+    told(browser, {it: "Only you" if it == "alone" else "" for it in WORDS})
+
+
+def test_rows_out_of_sight_ask_for_no_list(club, browser):
+    club.lay(*(f"/many/{at:03}.txt" for at in range(120)))
+    before = club.lossy.times("GETLIST")
+    club.open("/many")
+    browser.until("the first", lambda: browser.script(SEERS)["000.txt"])
+    browser.until("those in sight", lambda: browser.script(SEERS)["010.txt"])
+    assert club.lossy.times("GETLIST") - before < 40
+    browser.script("scrollTo(0, 9e9)")
+    browser.until("the last", lambda: browser.script(SEERS)["119.txt"])
+    assert browser.script(SEERS)["060.txt"] == ""
