@@ -5,8 +5,10 @@ import { ADD_FILE, ADD_FOLDER, ALL, APPEND, DELETE, DELETE_CHILD, EXIST, FILE, F
   shown, t, tellFault, toBase64, toText } from "./common.js";
 import { download, downloadFolder } from "./downloads.js";
 import { writeCopy } from "./files.js";
+import { isStarred, turnStar } from "./mine.js";
 import { copyTo, move, putBack, remove, wayBack } from "./moving.js";
 import { makeLike, placeIn } from "./overflow.js";
+import { drawRail } from "./rail.js";
 import { isTrash, toldBy } from "./trash.js";
 import { filesButton, newVersion } from "./uploads.js";
 
@@ -15,6 +17,12 @@ export const rightsOn = async (room, path) => await room.rights(path) ?? ALL;
 async function copyLink(address) {
   await navigator.clipboard.writeText(new URL(address, location.href.split("#")[0]).href)
     .then(() => say(t.linkCopied), (fault) => tellFault(t.about(t.copyLink, fault.message)));
+}
+
+function star(app, path, kind) {
+  turnStar(app, path, kind === FOLDER);
+  say(t.isStar(shown(lastName(path)), isStarred(app, path)));
+  drawRail(app, app.place);
 }
 
 const has = (rights, ...bits) => bits.every((it) => rights & it);
@@ -50,6 +58,7 @@ export function offersFor(app, path, kind, { own, above, size }) {
     [!isThrown && has(own, READ_LIST), { words: t.share, href: at("access"), isApart: true, isView: true }],
     [!isThrown, { words: t.whoMay, href: at("who"), isView: true }],
     [!isThrown, { words: t.copyLink, does: () => copyLink(at("open")), isView: true }],
+    [!isThrown && !isTop, { words: t.star(isStarred(app, path)), does: () => star(app, path, kind), isView: true }],
   ]);
 }
 

@@ -1,16 +1,17 @@
 /** The view of what is in a folder, or of a document. */
 import { asButton, makeDocument, makeFolder, offered, offersFor, rightsAt, textOffers } from "./actions.js";
-import { ACCESS, ADD_FILE, ADD_FOLDER, FILE, FOLDER, LARGE, READ, Refusal, UNFINISHED, addressOf, button, byName,
+import { ACCESS, ADD_FILE, ADD_FOLDER, FILE, FOLDER, LARGE, READ, ROOT, Refusal, UNFINISHED, addressOf, button, byName,
   faultLine, folderOf, fromBase64, inFolder, lastName, link, make, menuButton, openMenu, orFault, personText, pointOf,
   shown, t, toText } from "./common.js";
 import { head } from "./heads.js";
 import { NAME, beside, isPart } from "./manifest.js";
+import { note } from "./mine.js";
 import { emptyTrash } from "./moving.js";
 import { canShow, isPdf, isPicture, nothing, preview } from "./preview.js";
 import { NOBODY, manifestAt, readFile } from "./reading.js";
 import { Things } from "./things.js";
 import { sizeWords } from "./transfers.js";
-import { beforeWords, isOwnTrash, isTrash, ownTrash, withoutPool } from "./trash.js";
+import { beforeWords, isInTrash, isOwnTrash, isTrash, ownTrash, withoutPool } from "./trash.js";
 import { kindBy } from "./trees.js";
 import { filesButton, upload } from "./uploads.js";
 
@@ -61,6 +62,7 @@ async function folder(app, place, stat, rights, found) {
     mayPut && filesButton(t.upload, {}, (chosen) => upload(app, path, chosen)),
     await trashTool(app, place, found.names && withoutPool(path, found.names).length === 0));
   if (found instanceof Refusal) return [...top, bar, about(place, stat, t.kinds.folder), faultLine(found.message)];
+  if (path !== ROOT && !isInTrash(path)) note(app, path, true);
   const listed = withoutPool(path, found.names);
   const names = listed.filter(([name]) => !isPart(name)).sort(byName);
   const things = names.length ? new Things(app, place, names, rights) : null;
@@ -87,6 +89,7 @@ async function document_(app, place, stat, rights) {
   const { path } = place;
   const found = await orShut(app.room.run("READ", path), path);
   const isShut = found instanceof Refusal;
+  if (!isShut && !isInTrash(path)) note(app, path, false);
   const bytes = isShut ? null : fromBase64(found.data);
   const first = textOffers(app, path, rights.own, bytes, bytes && toText(bytes));
   const words = isShut ? t.kinds.writing : t.bytes(bytes.length);
@@ -98,6 +101,7 @@ async function large(app, place, stat, rights) {
   const { path } = place;
   const its = await manifestAt(app.room, path);
   if (!its) return null;
+  if (!isInTrash(path)) note(app, path, false);
   const area = make("div");
   const show = async () => {
     const told = [];

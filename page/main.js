@@ -3,8 +3,8 @@ import { showAccess } from "./access.js";
 import { lookAgain, looksAgain, turnLooking } from "./beside.js";
 import * as busy from "./busy.js";
 import { useClipboard } from "./clipboard.js";
-import { LANGUAGES, ROOT, Refusal, Room, addressOf, ask, button, choose, closeAll, end, faultLine, isMenuOpen,
-  isUnsaved, isWithin, language, lastName, learnNames, make, namesOf, onSubmit, openMenu, part, pass, pathOf,
+import { LANGUAGES, NOENT, ROOT, Refusal, Room, addressOf, ask, button, choose, closeAll, end, faultLine, isMenuOpen,
+  isRefused, isUnsaved, isWithin, language, lastName, learnNames, make, namesOf, onSubmit, openMenu, part, pass, pathOf,
   placeOf, say, settle, shown, t, tellFault, untilClosed, watch } from "./common.js";
 import { showContents } from "./contents.js";
 import { takeDrops } from "./drag.js";
@@ -13,6 +13,7 @@ import { head } from "./heads.js";
 import { showHelp } from "./help.js";
 import { isPart } from "./manifest.js";
 import { showMatrix } from "./matrix.js";
+import { forget, forgetOthers } from "./mine.js";
 import { drawRail } from "./rail.js";
 import { logOut, sessionOfTab, userNow } from "./session.js";
 import { arrive, leave, standing } from "./stand.js";
@@ -119,6 +120,7 @@ class App {
       this.room = await this.openRoom(place.room);
       return await (VIEWS.get(place.view) ?? showContents)(this, place);
     } catch (fault) {
+      if (isRefused(fault, NOENT)) forget(this, place.path);
       return [...head(place, { hasViews: false }), faultLine(fault.message)];
     }
   }
@@ -190,6 +192,7 @@ async function start() {
   const user = await userNow();
   const rooms = JSON.parse(await fileOfFront("/rooms.json") ?? "[]");
   if (!user || !rooms.length) return fail(t.noRooms);
+  forgetOthers(user);
   await learnNames();
   const app = new App(user, rooms);
   userMenu(user);

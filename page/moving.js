@@ -4,10 +4,11 @@ import { removeAll } from "./clearing.js";
 import { ACCESS, ADD_FILE, ADD_FOLDER, EXIST, FILE, FOLDER, NOENT, NOTDIR, ROOT, ask, checkbox, clean, faultLine,
   folderOf, forEach, inFolder, isRefused, isWithin, lastName, nameFault, nameInput, shown, t,
   tellFaults } from "./common.js";
+import { follow, note } from "./mine.js";
 import { NOBODY } from "./reading.js";
 import { transferring } from "./transfers.js";
 import { calledAt, isInTrash, nameAt, toTrash, toldBy, trashOf, withoutPool } from "./trash.js";
-import { FolderTree, keepRecent } from "./tree.js";
+import { FolderTree } from "./tree.js";
 import { copy, whole } from "./trees.js";
 import { freePath, freePaths } from "./uploads.js";
 
@@ -38,16 +39,20 @@ async function askWhere(app, paths, { words, does, start = folderOf(paths[0]), c
   const faultOf = () => (isOne ? nameFault(clean(name.value)) : "") || (goals().includes(paths[0]) ? t.isHere : "");
   const isDone = await ask({ title: t.doTo(does, shortNamed(paths)), does, words: [words, tree.element],
     fields: isOne ? [[t.heads.name, name]] : [], faultOf, task: () => task(goals()) });
-  if (isDone) keepRecent(app, tree.value);
+  if (isDone) note(app, tree.value, true);
   return isDone && goals();
 }
 
-export const wayBack = (app, places) => async () => {
-  const paths = [...places.keys()];
-  await withEach(t.undo, paths, (it) => app.room.aside("RENAME", places.get(it), { to: it }));
-  const moved = paths.length === 1 ? { from: places.get(paths[0]), to: paths[0] } : null;
-  await app.done(t.isBack(named(paths), paths.length), moved);
-};
+export function wayBack(app, places) {
+  follow(app, places);
+  return async () => {
+    const paths = [...places.keys()];
+    await withEach(t.undo, paths, (it) => app.room.aside("RENAME", places.get(it), { to: it }));
+    follow(app, new Map(paths.map((it) => [places.get(it), it])));
+    const moved = paths.length === 1 ? { from: places.get(paths[0]), to: paths[0] } : null;
+    await app.done(t.isBack(named(paths), paths.length), moved);
+  };
+}
 
 async function moveTo(app, paths, goals) {
   const to = new Map(paths.map((it, at) => [it, goals[at]]));

@@ -1,6 +1,7 @@
 /** The rail: the ways to places, beside what is shown; on a phone behind one button. */
-import { ROOT, addressOf, link, make, nameText, part, t } from "./common.js";
-import { icon } from "./icons.js";
+import { FILE, FOLDER, ROOT, addressOf, lastName, link, make, nameText, part, shown, t } from "./common.js";
+import { icon, kindBy } from "./icons.js";
+import { latest, stars } from "./mine.js";
 import { isInTrash, isOwnTrash, ownTrash } from "./trash.js";
 
 function roomsIn({ rooms }, place) {
@@ -15,12 +16,21 @@ async function trashIn(app, place) {
   return { links: path ? [{ words: t.trash, kind: "trash", href, isNow: isOwnTrash(app, place.path) }] : [] };
 }
 
-/** From above to below, by the app and the place that is shown. Each gives its links, `{words, kind, href, isNow}` with
- * the kind of an icon, and a `title` if it has one; without links nothing of it is shown. */
-const SECTIONS = [roomsIn, trashIn];
+/** Places of the user's own in the room, as the browser keeps them. */
+const own = (title, { room }, place, all) => ({ title, links: all.filter(([path]) => !isInTrash(path)).map(
+  ([path, isFolder]) => ({ words: nameText(lastName(path)), kind: kindBy(lastName(path), isFolder ? FOLDER : FILE),
+    href: addressOf({ room: room.name, path }), told: shown(path), isNow: path === place.path })) });
 
-function linkOf({ words, kind, href, isNow }) {
-  const its = link(href, icon(kind), make("span", words));
+const starsIn = (app, place) => own(t.favourites, app, place, app.room ? stars(app) : []);
+const latestIn = (app, place) => own(t.latest, app, place,
+  app.room ? latest(app).filter(([path]) => path !== place.path) : []);
+
+/** From above to below, by the app and the place that is shown. Each gives its links, `{words, kind, href, isNow}` with
+ * the kind of an icon, `told` to who points at it, and a `title` if it has one; without links nothing is shown. */
+const SECTIONS = [roomsIn, starsIn, latestIn, trashIn];
+
+function linkOf({ words, kind, href, isNow, told = "" }) {
+  const its = Object.assign(link(href, icon(kind), make("span", words)), { title: told });
   if (isNow) its.setAttribute("aria-current", "page");
   return make("li", its);
 }

@@ -4,17 +4,10 @@ import { FOLDER, LARGE, NOTDIR, ROOT, ask, button, byName, clean, foldersAbove, 
   nameFault, nameInput, nameText, shown, t, tellIt } from "./common.js";
 import { icon } from "./icons.js";
 import { isPart } from "./manifest.js";
+import { latest } from "./mine.js";
 import { kindBy, lookInto } from "./trees.js";
 
 const LIKE_FILE = /\.[^.]{1,5}$/; // of such folders it is asked whether they are large files
-const MOST_RECENT = 4;
-const recentKey = (app) => `fileroom/recent/${app.user}/${app.room.name}`;
-const recentOf = (app) => JSON.parse(localStorage.getItem(recentKey(app)) ?? "[]");
-
-export function keepRecent(app, folder) {
-  const all = [folder, ...recentOf(app).filter((it) => it !== folder)];
-  localStorage.setItem(recentKey(app), JSON.stringify(all.slice(0, MOST_RECENT)));
-}
 
 async function foldersIn(room, path) {
   const names = await room.list(path);
@@ -34,7 +27,8 @@ export class FolderTree {
     this.list = make("ul.tree", { role: "tree", "aria-label": t.toFolder });
     this.list.onkeydown = (event) => this.key(event);
     this.list.onclick = (event) => this.click(event);
-    const recent = recentOf(app).filter((it) => it !== value && !this.isBarred(it)).map((it) =>
+    const folders = latest(app).filter(([it, isFolder]) => isFolder && it !== value && !this.isBarred(it));
+    const recent = folders.map(([it]) =>
       button(nameText(this.nameOf(it)), () => this.goTo(it), { className: "small", title: shown(it) }));
     this.element = make("fieldset.chooser", this.legend, recent.length > 0 && make("p", t.recent, " ", recent),
       this.list, this.told, make("p", button(t.newFolder, () => this.makeHere(), "small")));

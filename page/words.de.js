@@ -3,8 +3,9 @@
 export const t = {
   and: "und", bytes: "{0} {0|Byte|Bytes}", allThings: "{0} {0|Element|Elemente}", ofAll: "{0} von {1}",
   // the frame
-  rooms: "Räume", places: "Orte", skip: "Zur Liste", help: "Hilfe", logOut: "Abmelden", logIn: "Anmelden",
-  close: "Schließen", cancel: "Abbrechen", refreshing: "{0|Nicht von|Von} selbst auffrischen",
+  rooms: "Räume", places: "Orte", favourites: "Favoriten", latest: "Zuletzt", skip: "Zur Liste", help: "Hilfe",
+  logOut: "Abmelden", logIn: "Anmelden", close: "Schließen", cancel: "Abbrechen",
+  refreshing: "{0|Nicht von|Von} selbst auffrischen",
   doneLabel: "Was getan wurde", sendAgain: "Jetzt noch einmal senden", giveUp: "Aufgeben",
   you: "Angemeldet als {0}.", foldersAbove: "Ordner darüber", views: "Ansichten", contents: "Inhalt",
   whoMay: "Wer darf was", noRoom: "Einen Raum {0} gibt es hier nicht.",
@@ -182,6 +183,8 @@ export const t = {
   newDocument: "Neues Dokument", uploadFolder: "Ordner hochladen", download: "Herunterladen",
   downloadZip: "Als zip herunterladen", newVersion: "Neue Fassung hochladen", rename: "Umbenennen",
   copyLink: "Link kopieren", linkCopied: "Der Link ist kopiert: wer dies sehen darf, kann es damit öffnen.",
+  star: "{0|Aus den Favoriten entfernen|Zu den Favoriten hinzufügen}",
+  isStar: "{0} ist {1|jetzt ein Favorit|kein Favorit mehr}.",
   putBack: "Wiederherstellen", move: "Verschieben", copy: "Kopieren", append: "Text hinzufügen", edit: "Bearbeiten",
   make: "Anlegen", replace: "Ersetzen", save: "Speichern", text: "Text", doTo: "{0}: {1}",
   appendTo: "Text hinzufügen zu {0}",

@@ -3,8 +3,9 @@
 export const t = {
   and: "and", bytes: "{0} {0|byte|bytes}", allThings: "{0} {0|item|items}", ofAll: "{0} of {1}",
   // the frame
-  rooms: "Rooms", places: "Places", skip: "To the list", help: "Help", logOut: "Log out", logIn: "Log in",
-  close: "Close", cancel: "Cancel", refreshing: "{0|Do not refresh|Refresh} by itself",
+  rooms: "Rooms", places: "Places", favourites: "Favourites", latest: "Latest", skip: "To the list", help: "Help",
+  logOut: "Log out", logIn: "Log in", close: "Close", cancel: "Cancel",
+  refreshing: "{0|Do not refresh|Refresh} by itself",
   doneLabel: "What was done", sendAgain: "Send again now", giveUp: "Give up", you: "You are {0}.",
   foldersAbove: "Folders above", views: "Views", contents: "Contents", whoMay: "Who may do what",
   noRoom: "There is no room {0} here.",
@@ -178,6 +179,7 @@ export const t = {
   uploadFolder: "Upload a folder", download: "Download", downloadZip: "Download as zip",
   newVersion: "Upload a new version", rename: "Rename", copyLink: "Copy the link",
   linkCopied: "The link is copied: whoever may see this can open it by that.", putBack: "Restore", move: "Move",
+  star: "{0|Remove from|Add to} favourites", isStar: "{0} is {1|a favourite now|no favourite any more}.",
   copy: "Copy", append: "Add text", edit: "Edit", make: "Create", replace: "Replace", save: "Save", text: "Text",
   doTo: "{0} {1}",
   appendTo: "Add text to {0}", onOwnLine: "The text is added at the end, on a line of its own.", appended: "Added.",
