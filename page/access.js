@@ -5,7 +5,7 @@ import { FOLDER, LARGE, MOST_ENTRIES, REACH, RIGHTS, ROOT, SETS, WHOM, Refusal, 
   sentence, setOf, shown, t, tellFault, whomFault, whomOf, whomText, withFollows, withWhom } from "./common.js";
 import { head } from "./heads.js";
 import { NAME } from "./manifest.js";
-import { helpThem, letAll, named, origins, setBack, setList, shutOut } from "./questions.js";
+import { helpThem, letAll, letterOf, named, origins, setBack, setList, shutOut } from "./questions.js";
 import { NOBODY } from "./reading.js";
 import { secure } from "./secure.js";
 import { SharePanel } from "./share.js";
@@ -199,7 +199,8 @@ class ListView {
     const found = await this.app.attempt(t.listOf(shown(object.path)), () => shutOut(this.app, object, news));
     const changes = this.changes.splice(0);
     const told = found ? await helpThem(this.app, object, news, found, changes) : "";
-    await this.app.done(`${t.listSet} ${told}`.trim(), null, this.undo(changes));
+    const words = [`${t.listSet} ${told}`.trim(), news.length > 0 && [" ", letterOf(this.place)]];
+    await this.app.done(words, null, this.undo(changes));
   }
 
   news() {

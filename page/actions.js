@@ -2,7 +2,7 @@
 import { ADD_FILE, ADD_FOLDER, ALL, APPEND, DELETE, DELETE_CHILD, EXIST, FILE, FOLDER, LARGE, MOST_BYTES,
   PASS_THROUGH as PASS, READ, READ_LIST, ROOT, UNFINISHED, WRITE, addressOf, area, ask, besideIt, button, clean,
   faultLine, folderOf, fromBase64, fromText, inFolder, isRefused, lastName, make, nameFault, nameInput, pathFault, say,
-  shown, t, tellFault, toBase64, toText } from "./common.js";
+  shown, t, tellFault, toBase64, toText, wholeLink } from "./common.js";
 import { download, downloadFolder } from "./downloads.js";
 import { writeCopy } from "./files.js";
 import { isStarred, turnStar } from "./mine.js";
@@ -15,7 +15,7 @@ import { filesButton, newVersion } from "./uploads.js";
 export const rightsOn = async (room, path) => await room.rights(path) ?? ALL;
 
 async function copyLink(address) {
-  await navigator.clipboard.writeText(new URL(address, location.href.split("#")[0]).href)
+  await navigator.clipboard.writeText(wholeLink(address))
     .then(() => say(t.linkCopied), (fault) => tellFault(t.about(t.copyLink, fault.message)));
 }
 

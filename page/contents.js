@@ -1,8 +1,8 @@
 /** The view of what is in a folder, or of a document. */
 import { asButton, makeDocument, makeFolder, offered, offersFor, rightsAt, textOffers } from "./actions.js";
 import { ACCESS, ADD_FILE, ADD_FOLDER, FILE, FOLDER, LARGE, READ, ROOT, Refusal, UNFINISHED, addressOf, button, byName,
-  faultLine, folderOf, fromBase64, inFolder, lastName, link, make, menuButton, openMenu, orFault, personText, pointOf,
-  shown, t, toText } from "./common.js";
+  closedLine, faultLine, folderOf, fromBase64, inFolder, lastName, link, make, menuButton, openMenu, orFault,
+  personText, pointOf, shown, t, toText } from "./common.js";
 import { head } from "./heads.js";
 import { NAME, beside, isPart } from "./manifest.js";
 import { note } from "./mine.js";
@@ -19,6 +19,8 @@ const PREVIEWED = 2 ** 22; // bytes of a large file that are read unasked
 
 /** Gives a refusal of a right on this very object: then the rest of the view is still of use. */
 const orShut = (task, path) => orFault(task, (it) => it.code === ACCESS && it.path === path);
+
+const closed = (refusal, place) => closedLine(refusal, addressOf(place), place.path);
 
 function about(place, stat, size) {
   const whose = stat.owner ? t.owned(personText(stat.owner), stat.group) : "";
@@ -61,7 +63,7 @@ async function folder(app, place, stat, rights, found) {
     news.length > 0 && menuButton(`+ ${t.new}`, { className: "main" }, () => news, t.new),
     mayPut && filesButton(t.upload, {}, (chosen) => upload(app, path, chosen)),
     await trashTool(app, place, found.names && withoutPool(path, found.names).length === 0));
-  if (found instanceof Refusal) return [...top, bar, about(place, stat, t.kinds.folder), faultLine(found.message)];
+  if (found instanceof Refusal) return [...top, bar, about(place, stat, t.kinds.folder), closed(found, place)];
   if (path !== ROOT && !isInTrash(path)) note(app, path, true);
   const listed = withoutPool(path, found.names);
   const names = listed.filter(([name]) => !isPart(name)).sort(byName);
@@ -94,7 +96,7 @@ async function document_(app, place, stat, rights) {
   const first = textOffers(app, path, rights.own, bytes, bytes && toText(bytes));
   const words = isShut ? t.kinds.writing : t.bytes(bytes.length);
   return object(app, place, { stat, rights, kind: FILE, size: bytes?.length, words, first }, isShut ?
-    faultLine(found.message) : preview(bytes, lastName(path)));
+    closed(found, place) : preview(bytes, lastName(path)));
 }
 
 async function large(app, place, stat, rights) {

@@ -21,6 +21,12 @@ export const button = (words, onclick, how = {}) =>
   make("button", { type: "button", onclick, ...typeof how === "string" ? { className: how } : how }, words);
 
 export const link = (href, ...words) => make("a", { href }, ...words);
+
+/** What an address of the page leads to from elsewhere; and a letter about it, which the user's own program writes. */
+export const wholeLink = (address) => new URL(address, location.href.split("#")[0]).href;
+export const letterLink = (words, about, text, address) => link(`mailto:?subject=${encodeURIComponent(about)}&body=${
+  encodeURIComponent([text, wholeLink(address)].filter(Boolean).join("\n\n"))}`, words);
+
 export const faultLine = (...words) => make("p.fault", ...words);
 export const listOf = (all) => make("ul", all.map((it) => make("li", it)));
 

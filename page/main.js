@@ -3,9 +3,9 @@ import { showAccess } from "./access.js";
 import { lookAgain, looksAgain, turnLooking } from "./beside.js";
 import * as busy from "./busy.js";
 import { useClipboard } from "./clipboard.js";
-import { LANGUAGES, NOENT, ROOT, Refusal, Room, addressOf, ask, button, choose, closeAll, end, faultLine, isMenuOpen,
-  isRefused, isUnsaved, isWithin, language, lastName, learnNames, make, namesOf, onSubmit, openMenu, part, pass, pathOf,
-  placeOf, say, settle, shown, t, tellFault, untilClosed, watch } from "./common.js";
+import { LANGUAGES, NOENT, ROOT, Refusal, Room, addressOf, ask, button, choose, closeAll, closedLine, end, faultLine,
+  isMenuOpen, isRefused, isUnsaved, isWithin, language, lastName, learnNames, make, namesOf, onSubmit, openMenu, part,
+  pass, pathOf, placeOf, say, settle, shown, t, tellFault, untilClosed, watch } from "./common.js";
 import { showContents } from "./contents.js";
 import { takeDrops } from "./drag.js";
 import { forgetFound, searchFor, showFind } from "./find.js";
@@ -121,7 +121,7 @@ class App {
       return await (VIEWS.get(place.view) ?? showContents)(this, place);
     } catch (fault) {
       if (isRefused(fault, NOENT)) forget(this, place.path);
-      return [...head(place, { hasViews: false }), faultLine(fault.message)];
+      return [...head(place, { hasViews: false }), closedLine(fault, addressOf(place), place.path)];
     }
   }
 

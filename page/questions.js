@@ -1,6 +1,7 @@
 /** What users may do with objects, as the room says; and a way for those who cannot get there. */
-import { FOLDER, LARGE, PASS_THROUGH, ask, askedOf, byWhom, foldersAbove, forEach, givenHere, inFolder, isDeny,
-  listOf, make, ofLarge, once, ownOf, rightsIn, shown, t, whomOf, whomText, withWhom } from "./common.js";
+import { FOLDER, LARGE, PASS_THROUGH, ROOT, addressOf, ask, askedOf, byWhom, foldersAbove, forEach, givenHere, inFolder,
+  isDeny, lastName, letterLink, listOf, make, ofLarge, once, ownOf, rightsIn, shown, t, whomOf, whomText,
+  withWhom } from "./common.js";
 import { NAME } from "./manifest.js";
 import { lookInto } from "./trees.js";
 
@@ -162,4 +163,10 @@ export async function helpThem(app, object, entries, found, changes) {
   const isDone = await ask({ title: t.notAll, does: folders.size > 0 && t.letPass, task: pass, stays: t.close,
     words: [t.listSet, listOf(told), folders.size > 0 && make("p.about", t.passWords)] });
   return folders.size && isDone ? allCan : t.cannot(named(found));
+}
+
+/** By which the user tells others what they have access to now. */
+export function letterOf(place) {
+  const name = shown(place.path === ROOT ? place.room : lastName(place.path));
+  return letterLink(t.tellThem, t.isShared(name), "", addressOf({ ...place, view: "open" }));
 }

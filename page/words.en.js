@@ -49,7 +49,7 @@ export const t = {
   refused: "The room refuses this ({0} {1}). Ask who runs the room.",
   noAccess: "You don't have access to {0}.", lacksRight: "You may not {1} ({0}).",
   isYours: "It is yours: you can change who has access.",
-  askOwner: "Ask {0}.",
+  askOwner: "Ask {0}.", askFor: "Write to {0}", accessTo: "Access to {0}", pleaseLet: "Please give me access to this:",
   askAbove: "Ask its owner, or {0}, who owns the folder above.",
   askAnyOwner: "Ask its owner.",
   // warnings
@@ -138,7 +138,8 @@ export const t = {
   without: "Without the tick, what is handed down now stays, as entries of its own; what comes later does not.",
   taken: "What was handed down stands among its own entries now: remove there what shall not count.",
   alone: "What the folder above hands down does not count. With the tick it stands behind its own entries.",
-  listOf: "The list of {0}", listSet: "Sharing updated.", listBack: "Sharing is as it was.",
+  listOf: "The list of {0}", tellThem: "Send the link by mail", isShared: "{0} is shared with you",
+  listSet: "Sharing updated.", listBack: "Sharing is as it was.",
   needWhom: "An entry is for nobody yet. Choose for whom it counts.", theirs: "Theirs", yours: "Yours",
   takeTheirs: "Take theirs", setAllTheSame: "Set it all the same",
   countsForNobody: "{0} The entry counts for nobody until the roster has that name.",

@@ -1,11 +1,12 @@
 """A fault stays told until somebody has closed it, or what it is about went well."""
 import io
 import zipfile
+from urllib.parse import parse_qs, urlsplit
 
 import pytest
 
-from .club import (ALL, DIALOG, EDIT, MENU, TYPED, VIEW, by_menu, ends, entry, of_folder, offers, row, search_in,
-                   set_list, to_folder)
+from .club import (ALL, DIALOG, EDIT, MENU, PASS, TYPED, VIEW, by_menu, ends, entry, of_folder, offers, row, search_in,
+                   set_list, share, to_folder)
 
 TOP = "/told"
 LINES = "return [...document.querySelectorAll('#notices [data-about]')].map((it) => it.innerText)"
@@ -144,8 +145,15 @@ def test_word_goes_by_itself(club, browser):
     browser.until("it is gone", lambda: browser.text_of("#notices") == "")
 
 
+def letters(browser, where):
+    """The words of links there by which a letter is begun, with what each is about and says."""
+    found = browser.script("return [...document.querySelectorAll(`${arguments[0]} a[href^='mailto:']`)]"
+                           ".map((it) => [it.textContent, it.href])", where)
+    return [(words, *parse_qs(urlsplit(href).query).values()) for words, href in found]
+
+
 def test_fault_of_a_closed_door_says_whom_to_ask(club, browser, tells):
-    """By name, without ways to what may not be seen."""
+    """By name, with a letter to them, and without ways to what may not be seen."""
     club.lay("/closed/in.txt")
     club.lets("eve", "/", VIEW, 0)
     club.sets("/closed", entry("OWNER@", ALL), flags=2)
@@ -155,6 +163,34 @@ def test_fault_of_a_closed_door_says_whom_to_ask(club, browser, tells):
     browser.sees("You don't have access to /closed/in.txt. Ask its owner, or Ann Lee (ann), who owns the "
                  "folder above.", "main")
     assert browser.script("return document.querySelector('.views')") is None
+    link = club.address("#open/club/closed/in.txt")
+    assert letters(browser, "main") == [
+        ("Write to Ann Lee", ["Access to /closed/in.txt"], [f"Please give me access to this:\n\n{link}"])]
+
+
+def test_fault_of_a_closed_door_knows_nobody(club, browser):
+    """Where the room tells the user no owner, there is nobody to write to."""
+    club.lay("/closed/in.txt")
+    club.sets("/", entry("EVERYONE@", PASS, 0), flags=2)
+    club.sets("/closed", entry("OWNER@", ALL), flags=2)
+    club.log_in("eve")
+    club.open("/closed/in.txt")
+    browser.sees("You don't have access to /closed/in.txt. Ask its owner.", "main")
+    assert letters(browser, "main") == []
+
+
+def test_who_shares_can_send_the_link(club, browser):
+    """Of what was shared, once somebody has access who had none."""
+    club.lay("/sent/")
+    club.open("/sent", "access")
+    share(browser, "bob", "Can view")
+    browser.sees("Sharing updated.", "#notices")
+    assert letters(browser, "#notices") == [
+        ("Send the link by mail", ["sent is shared with you"], [club.address("#open/club/sent")])]
+    browser.press("Stop sharing with bob")
+    browser.until("it is taken back", lambda: "bob" not in browser.text_of(".shares"))
+    browser.sees("Sharing updated.", "#notices")
+    assert letters(browser, "#notices") == []
 
 
 def test_fault_of_a_list_is_told_until_it_is_taken(club, browser):
