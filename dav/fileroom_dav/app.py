@@ -10,7 +10,7 @@ from collections.abc import Iterable
 
 from room_client.faults import Fault
 
-from . import bodies, locking, moving, props, reading, saving, writing
+from . import bodies, latest, locking, moving, props, reading, saving, writing
 from .asked import Asked, Reply
 from .bodies import DAV
 from .faults import Answered, LATER, REASONS, as_answered
@@ -102,6 +102,8 @@ class Gate:
     def visited(self, visit, asked: Asked) -> Reply:
         if asked.method == "LOCK" or asked.field("If"):  # (locks are looked at before the room is asked)
             self.need_login(asked, "/whoami")
+        if asked.wants_latest:
+            return latest.get(self, visit, asked)
         saving.settle(self, visit, asked)
         return METHODS[asked.method](self, visit, asked)
 

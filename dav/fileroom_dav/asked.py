@@ -60,6 +60,11 @@ class Asked:
         return self.environ.get("PATH_INFO", "").endswith("/")
 
     @property
+    def wants_latest(self) -> bool:
+        """Whether the page asks who changed what in a folder, and when."""
+        return self.method == "GET" and self.environ.get("QUERY_STRING") == "latest"
+
+    @property
     def depth(self) -> str:
         told = (self.field("Depth") or "infinity").strip().lower()
         if told not in ("0", "1", "infinity"):

@@ -102,6 +102,6 @@ class Seats:
     def settings(self, user: str, password: str, **how) -> Settings:
         return Settings(login=user, password=password, patience=self.patience, **how)
 
-    def file_of_front(self, user: str, password: str, target: str) -> tuple[int, bytes]:
+    def file_of_front(self, user: str, password: str, target: str, **fields: str) -> tuple[int, bytes]:
         settings = self.settings(user, password, url="http://localhost", state="")
-        return file_of_front(self.front, settings, self.pace(user), target)
+        return file_of_front(self.front, settings, self.pace(user), target, fields)

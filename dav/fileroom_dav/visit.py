@@ -284,9 +284,10 @@ class Visit(Room):
         return self.ask({"cmd": "ACCESS", "keep": False, "mask": mask, "path": path})["allowed"]
 
 
-def file_of_front(front: str, settings: Settings, pace: UserPace, target: str) -> tuple[int, bytes]:
+def file_of_front(front: str, settings: Settings, pace: UserPace, target: str, fields: dict) -> tuple[int, bytes]:
     """What the front answers to a caller's own login, beside the rooms: asked until it answers, as a room is."""
     line = line_to(front)(settings)
+    line.fields |= fields
     try:
         return Seat(0, line, settings, None, pace, lambda _: None).until_answered("GET", target, "").status, line.text
     finally:
