@@ -3,6 +3,7 @@ import { asButton, makeDocument, makeFolder, offered, offersFor, rightsAt, textO
 import { ACCESS, ADD_FILE, ADD_FOLDER, FILE, FOLDER, LARGE, READ, ROOT, Refusal, UNFINISHED, addressOf, button, byName,
   closedLine, faultLine, folderOf, fromBase64, inFolder, lastName, link, make, menuButton, openMenu, orFault,
   personText, pointOf, shown, t, toText } from "./common.js";
+import { changesIn, hasDav } from "./dav.js";
 import { head } from "./heads.js";
 import { NAME, beside, isPart } from "./manifest.js";
 import { note } from "./mine.js";
@@ -67,7 +68,8 @@ async function folder(app, place, stat, rights, found) {
   if (path !== ROOT && !isInTrash(path)) note(app, path, true);
   const listed = withoutPool(path, found.names);
   const names = listed.filter(([name]) => !isPart(name)).sort(byName);
-  const things = names.length ? new Things(app, place, names, rights) : null;
+  const changes = () => (hasDav(app) && !isInTrash(path) ? changesIn(app, [path]) : null);
+  const things = names.length ? new Things(app, place, names, rights, changes()) : null;
   const words = isOwn ? t.inTrash : mayPut && t.dropHere;
   await things?.inOrder;
   const area = make("div.drops", await leftWords(listed), things?.element ?? make("p.empty", t.nothingThere),

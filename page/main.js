@@ -7,6 +7,7 @@ import { LANGUAGES, NOENT, ROOT, Refusal, Room, addressOf, ask, button, choose, 
   isMenuOpen, isRefused, isUnsaved, isWithin, language, lastName, learnNames, make, namesOf, onSubmit, openMenu, part,
   pass, pathOf, placeOf, say, settle, shown, t, tellFault, untilClosed, watch } from "./common.js";
 import { showContents } from "./contents.js";
+import { learnDav } from "./dav.js";
 import { takeDrops } from "./drag.js";
 import { forgetFound, searchFor, showFind } from "./find.js";
 import { head } from "./heads.js";
@@ -15,12 +16,14 @@ import { isPart } from "./manifest.js";
 import { showMatrix } from "./matrix.js";
 import { forget, forgetOthers } from "./mine.js";
 import { drawRail } from "./rail.js";
+import { showRecent } from "./recent.js";
 import { logOut, sessionOfTab, userNow } from "./session.js";
 import { arrive, leave, standing } from "./stand.js";
 import { warn } from "./warned.js";
 import { fileOfFront } from "./wire.js";
 
-const VIEWS = new Map([["open", showContents], ["access", showAccess], ["who", showMatrix], ["find", showFind]]);
+const VIEWS = new Map([["open", showContents], ["access", showAccess], ["who", showMatrix], ["find", showFind],
+  ["recent", showRecent]]);
 
 class App {
   constructor(user, rooms) {
@@ -193,7 +196,7 @@ async function start() {
   const rooms = JSON.parse(await fileOfFront("/rooms.json") ?? "[]");
   if (!user || !rooms.length) return fail(t.noRooms);
   forgetOthers(user);
-  await learnNames();
+  await Promise.all([learnNames(), learnDav()]);
   const app = new App(user, rooms);
   userMenu(user);
   part("search").onsubmit = onSubmit(() => {

@@ -3,7 +3,7 @@
 import { isWithin } from "./common.js";
 
 const KEPT = "fileroom/mine/";
-const MOST = { latest: 6, stars: 20 };
+const MOST = { latest: 20, stars: 20 };
 const keyOf = ({ user, room }) => `${KEPT}${user}/${room.name}`;
 const mineOf = (app) => ({ latest: [], stars: [], ...JSON.parse(localStorage.getItem(keyOf(app)) ?? "{}") });
 const without = (all, path) => all.filter(([it]) => it !== path);

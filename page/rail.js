@@ -1,13 +1,21 @@
 /** The rail: the ways to places, beside what is shown; on a phone behind one button. */
 import { FILE, FOLDER, ROOT, addressOf, lastName, link, make, nameText, part, shown, t } from "./common.js";
+import { hasDav } from "./dav.js";
 import { icon, kindBy } from "./icons.js";
 import { latest, stars } from "./mine.js";
 import { isInTrash, isOwnTrash, ownTrash } from "./trash.js";
 
+const MOST_LATEST = 5;
+
 function roomsIn({ rooms }, place) {
-  const isNow = (room) => room === place.room && !isInTrash(place.path);
+  const isNow = (room) => room === place.room && !isInTrash(place.path) && place.view !== "recent";
   return { title: t.rooms, links: rooms.map((room) =>
     ({ words: nameText(room), kind: "room", href: addressOf({ room, path: ROOT }), isNow: isNow(room) })) };
+}
+
+function changesIn(app, { room, view }) {
+  const href = addressOf({ view: "recent", room, path: ROOT });
+  return { links: hasDav(app) ? [{ words: t.recentChanges, kind: "recent", href, isNow: view === "recent" }] : [] };
 }
 
 async function trashIn(app, place) {
@@ -23,11 +31,11 @@ const own = (title, { room }, place, all) => ({ title, links: all.filter(([path]
 
 const starsIn = (app, place) => own(t.favourites, app, place, app.room ? stars(app) : []);
 const latestIn = (app, place) => own(t.latest, app, place,
-  app.room ? latest(app).filter(([path]) => path !== place.path) : []);
+  app.room ? latest(app).filter(([path]) => path !== place.path).slice(0, MOST_LATEST) : []);
 
 /** From above to below, by the app and the place that is shown. Each gives its links, `{words, kind, href, isNow}` with
  * the kind of an icon, `told` to who points at it, and a `title` if it has one; without links nothing is shown. */
-const SECTIONS = [roomsIn, starsIn, latestIn, trashIn];
+const SECTIONS = [roomsIn, changesIn, starsIn, latestIn, trashIn];
 
 function linkOf({ words, kind, href, isNow, told = "" }) {
   const its = Object.assign(link(href, icon(kind), make("span", words)), { title: told });

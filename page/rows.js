@@ -2,8 +2,8 @@
  * stands among folders or documents by what it was before, or by its name: a row moves only where the user sorts, or
  * the view is drawn anew. Else a click would meet another. */
 import { offersFor, rightsOn } from "./actions.js";
-import { FILE, FOLDER, LARGE, UNFINISHED, addressOf, button, inFolder, link, make, nameText, openMenu, shown, t,
-  tellFault, tellIt } from "./common.js";
+import { FILE, FOLDER, LARGE, UNFINISHED, addressOf, button, displayName, inFolder, language, link, make, nameText,
+  openMenu, shown, t, tellFault, tellIt } from "./common.js";
 import { download } from "./downloads.js";
 import { dragRow, takeFiles, takeRows } from "./drag.js";
 import { icon, isForDisk, kindBy } from "./icons.js";
@@ -26,6 +26,14 @@ async function lookAt({ app: { room }, seers }, path, kind) {
     { kind: FOLDER, words: t.inIt(names.length), size: names.length };
 }
 
+/** The time of what was changed today, else the day; and by whom. */
+function whenWords({ who, when }) {
+  const [then, now] = [new Date(when * 1000), new Date()];
+  const how = then.toDateString() === now.toDateString() ? { timeStyle: "short" } : { dateStyle: "medium" };
+  return make("time", { dateTime: then.toISOString(), title: then.toLocaleString(language) },
+    t.changedBy(then.toLocaleString(language, how), displayName(who) || who));
+}
+
 export class Row {
   constructor(things, [name, kind, folder = things.place.path]) {
     const { app, place, pictures } = things;
@@ -42,17 +50,19 @@ export class Row {
     this.more = button("⋯", () => this.open(), { tabIndex: -1, "aria-label": t.moreFor(shown(this.called)),
       "aria-haspopup": "menu", "aria-expanded": "false", className: "small" });
     this.whoCell = make("td.who");
+    this.whenCell = make("td.when");
     this.kindCell = make("td.kind");
     this.sizeCell = make("td.size");
     const before = beforeWords(path);
     const way = () => link(addressOf({ room: place.room, path: folder }), nameText(folder));
     this.where = things.isFound ? Object.assign(way(), { tabIndex: -1 }) : null;
+    const cells = { where: make("td.where", this.where), who: this.whoCell, when: this.whenCell, kind: this.kindCell,
+      size: this.sizeCell };
     const below = [before, things.isFound && make("span.place", nameText(folder))].filter(Boolean);
     this.element = make("tr", { "aria-selected": "false" }, make("td.tick", this.tick),
       make("th", { scope: "row" }, make("div", this.picture,
         below.length ? make("div", this.link, make("div.about", below)) : this.link)),
-      this.where && make("td.where", this.where), this.whoCell, this.kindCell, this.sizeCell,
-      make("td.own", this.back, this.more));
+      things.columns.slice(1).map((it) => cells[it]), make("td.own", this.back, this.more));
     this.element.row = this;
     this.showKind();
     dragRow(this);
@@ -107,6 +117,11 @@ export class Row {
     if (!found) return;
     const href = addressOf({ view: "access", room: this.things.place.room, path: this.path });
     this.whoCell.replaceChildren(Object.assign(link(href, found.words), { tabIndex: -1, title: found.told }));
+  }
+
+  tellWhen(change) {
+    this.change = change;
+    if (change) this.whenCell.replaceChildren(whenWords(change));
   }
 
   choose(isChosen) {

@@ -16,9 +16,9 @@ const BY = {
   kind: (one, other) => one.kindName === other.kindName ? 0 : inOrder(t.kinds[one.kindName], t.kinds[other.kindName]),
   size: (one, other) => (one.its?.size ?? -1) - (other.its?.size ?? -1),
   where: (one, other) => inOrder(one.folder, other.folder),
+  when: (one, other) => (one.change?.when ?? 0) - (other.change?.when ?? 0),
 };
-const HEADS = ["name", "who", "kind", "size"];
-const HEADS_FOUND = ["name", "where", "who", "kind", "size"];
+const HEADS = ["name", "where", "who", "when", "kind", "size"];
 
 class ChosenBar {
   constructor(things) {
@@ -120,12 +120,16 @@ class GridKeys {
   }
 }
 
-/** `names` are `[NAME, KIND]`, or what was found `[NAME, KIND, FOLDER]`; `rights` are those on the folder, or null. */
+/** `names` are `[NAME, KIND]`, or what was found `[NAME, KIND, FOLDER]`; `rights` are those on the folder, or null.
+ * `changes` will tell by paths who changed what and when, where that can be known; what was found comes by them. */
 export class Things {
-  constructor(app, place, names, rights) {
-    Object.assign(this, { app, place, rights, last: null, isFound: rights === null, inSight: new Set() });
-    const [by, isDown] = (localStorage.getItem(SORT) ?? "name").split(" ");
-    this.sort = { by: HEADS.includes(by) ? by : "name", isDown: Boolean(isDown) };
+  constructor(app, place, names, rights, changes = null) {
+    const isFound = rights === null;
+    Object.assign(this, { app, place, rights, last: null, isFound, inSight: new Set() });
+    const without = [...isFound ? [] : ["where"], ...changes ? isFound ? ["who", "kind"] : [] : ["when"]];
+    this.columns = HEADS.filter((it) => !without.includes(it));
+    const [by, isDown] = isFound && changes ? ["when", "down"] : (localStorage.getItem(SORT) ?? "name").split(" ");
+    this.sort = { by: this.columns.includes(by) ? by : "name", isDown: Boolean(isDown) };
     [this.pictures, this.seers] = [new SmallPictures(app.room), new Seers(app)];
     this.rows = names.map((it) => new Row(this, it));
     this.bodies = [make("tbody"), make("tbody")]; // folders, and documents behind them
@@ -139,13 +143,14 @@ export class Things {
     this.draw();
     this.keys = new GridKeys(this);
     this.watch();
-    this.inOrder = this.sort.by === "size" ? this.lookAtAll() : null;
+    const dated = changes?.then((found) => this.tellWhen(found)).catch(() => {}); // (what is not known is left out)
+    this.inOrder = { size: () => this.lookAtAll(), when: () => dated }[this.sort.by]?.() ?? null;
   }
 
   head() {
     this.all = make("input", { type: "checkbox", tabIndex: -1, "aria-label": t.chooseAll });
     this.all.onchange = () => this.choose(this.all.checked ? this.rows : []);
-    this.heads = (this.isFound ? HEADS_FOUND : HEADS).map((by) => {
+    this.heads = this.columns.map((by) => {
       const its = by in BY && button(t.heads[by], () => this.sortBy(by), { tabIndex: -1 });
       return { by, button: its, cell: make(`th.${by}`, { scope: "col" }, its || t.heads[by]) };
     });
@@ -192,6 +197,11 @@ export class Things {
     this.draw();
   }
 
+  tellWhen(found) {
+    for (const it of this.rows) it.tellWhen(found.get(it.path));
+    if (this.sort.by === "when") this.draw();
+  }
+
   watch() {
     this.seen = new IntersectionObserver((entries) => {
       for (const { target: { row }, isIntersecting } of entries) {
@@ -205,7 +215,7 @@ export class Things {
 
   /** Of rows that are in sight, a few at once. (What a room does not tell is left out.) */
   async tellWho() {
-    if (this.isTelling) return;
+    if (this.isTelling || !this.columns.includes("who")) return;
     this.isTelling = true;
     while (this.inSight.size) {
       await forEach(this.inSight, (row) => {

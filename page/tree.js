@@ -7,6 +7,7 @@ import { isPart } from "./manifest.js";
 import { latest } from "./mine.js";
 import { kindBy, lookInto } from "./trees.js";
 
+const MOST_RECENT = 4;
 const LIKE_FILE = /\.[^.]{1,5}$/; // of such folders it is asked whether they are large files
 
 async function foldersIn(room, path) {
@@ -28,7 +29,7 @@ export class FolderTree {
     this.list.onkeydown = (event) => this.key(event);
     this.list.onclick = (event) => this.click(event);
     const folders = latest(app).filter(([it, isFolder]) => isFolder && it !== value && !this.isBarred(it));
-    const recent = folders.map(([it]) =>
+    const recent = folders.slice(0, MOST_RECENT).map(([it]) =>
       button(nameText(this.nameOf(it)), () => this.goTo(it), { className: "small", title: shown(it) }));
     this.element = make("fieldset.chooser", this.legend, recent.length > 0 && make("p", t.recent, " ", recent),
       this.list, this.told, make("p", button(t.newFolder, () => this.makeHere(), "small")));

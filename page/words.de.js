@@ -3,7 +3,7 @@
 export const t = {
   and: "und", bytes: "{0} {0|Byte|Bytes}", allThings: "{0} {0|Element|Elemente}", ofAll: "{0} von {1}",
   // the frame
-  rooms: "Räume", places: "Orte", favourites: "Favoriten", latest: "Zuletzt", skip: "Zur Liste", help: "Hilfe",
+  rooms: "Räume", places: "Orte", favourites: "Favoriten", latest: "Zuletzt geöffnet", skip: "Zur Liste", help: "Hilfe",
   logOut: "Abmelden", logIn: "Anmelden", close: "Schließen", cancel: "Abbrechen",
   refreshing: "{0|Nicht von|Von} selbst auffrischen",
   doneLabel: "Was getan wurde", sendAgain: "Jetzt noch einmal senden", giveUp: "Aufgeben",
@@ -163,7 +163,10 @@ export const t = {
   // what is shown of an object
   owned: "Eigentümer {0}, Gruppe {1}", inIt: "{0} {0|Element|Elemente}", failedOf: "{0} von {1} nicht gelungen",
   unfinished: "unfertig hochgeladen",
-  heads: { name: "Name", who: "Wer es sieht", kind: "Art", size: "Größe", where: "Ordner" },
+  heads: { name: "Name", who: "Wer es sieht", when: "Geändert", kind: "Art", size: "Größe", where: "Ordner" },
+  changedBy: "{0}, {1}", recentChanges: "Letzte Änderungen", noChanges: "Es sind keine Änderungen bekannt.",
+  aboutChanges: "Was Sie lesen dürfen: ganz oben, in Ihren Favoriten und in den Ordnern, die Sie in diesem Browser " +
+    "zuletzt geöffnet haben. Der Raum selbst bewahrt keine Zeiten auf.",
   kinds: { folder: "Ordner", text: "Text", picture: "Bild", pdf: "PDF", table: "Tabelle", writing: "Dokument",
     slides: "Folien", archive: "Archiv", media: "Ton, Film", file: "Datei" },
   shutKind: "Kein Zugriff", onlyYou: "Nur Sie", everyoneHere: "Alle hier", yourself: "Sie", nobody: "Niemand",

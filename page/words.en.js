@@ -3,7 +3,7 @@
 export const t = {
   and: "and", bytes: "{0} {0|byte|bytes}", allThings: "{0} {0|item|items}", ofAll: "{0} of {1}",
   // the frame
-  rooms: "Rooms", places: "Places", favourites: "Favourites", latest: "Latest", skip: "To the list", help: "Help",
+  rooms: "Rooms", places: "Places", favourites: "Favourites", latest: "Opened last", skip: "To the list", help: "Help",
   logOut: "Log out", logIn: "Log in", close: "Close", cancel: "Cancel",
   refreshing: "{0|Do not refresh|Refresh} by itself",
   doneLabel: "What was done", sendAgain: "Send again now", giveUp: "Give up", you: "You are {0}.",
@@ -158,7 +158,10 @@ export const t = {
   // what is shown of an object
   owned: "owner {0}, group {1}", inIt: "{0} {0|item|items}", failedOf: "{0} of {1} failed",
   unfinished: "unfinished upload",
-  heads: { name: "Name", who: "Who can see it", kind: "Kind", size: "Size", where: "Folder" },
+  heads: { name: "Name", who: "Who can see it", when: "Changed", kind: "Kind", size: "Size", where: "Folder" },
+  changedBy: "{0}, {1}", recentChanges: "Recent changes", noChanges: "No changes are known.",
+  aboutChanges: "Of what you may read at the top, in your favourites, and in the folders that you opened of late in " +
+    "this browser. The room itself keeps no times.",
   kinds: { folder: "Folder", text: "Text", picture: "Picture", pdf: "PDF", table: "Table", writing: "Document",
     slides: "Slides", archive: "Archive", media: "Sound, film", file: "File" },
   shutKind: "No access", onlyYou: "Only you", everyoneHere: "Everyone here", yourself: "You", nobody: "Nobody",

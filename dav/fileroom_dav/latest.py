@@ -1,5 +1,5 @@
-"""Who changed what is in a folder, and when: the room keeps no times, and the front's log of the latest changes has some
-(front/fileroom.conf). They are told to whom the room, asked now, names the thing and lets read it.
+"""Who changed what is in a folder, and when: the room keeps no times, and the front's log of the latest changes has
+some (front/fileroom.conf). They are told to whom the room, asked now, names the thing and lets read it.
 
 The log names paths, and what is at a path may be another thing by now. So a line counts as long as no other one put
 something to its path or took it away, or a folder above it; where two lines of two users may have come in either order,
@@ -33,19 +33,21 @@ def get(gate, visit: Visit, asked: Asked) -> Reply:
     with visit.pace.floor.away():
         time.sleep(SETTLED)
     found = Latest(asked.room, folder).of(lines(gate, asked)).found
-    told = json.dumps({name: found[name] for name in names if name in found})
+    told = json.dumps({name: [*found[name], kind] for name, kind in names.items() if name in found})
     return Reply(200, told.encode(), [("Content-Type", "application/json")])
 
 
-def seen(visit: Visit, folder: str) -> list[str]:
-    """The names there of what the caller may read. (Each is asked about, whether the log has it or not.)"""
-    names = [it for it in visit.children(folder) if not is_hidden(it)]
+def seen(visit: Visit, folder: str) -> dict[str, str]:
+    """The names there, with the kinds, of what the caller may read. (Each is asked about, whether the log has it or
+    not.)"""
+    names = {it: kind for it, kind in visit.children(folder).items() if not is_hidden(it)}
     replies = visit.ask_all({"cmd": "ACCESS", "keep": False, "mask": SEES, "path": below(folder, it)} for it in names)
-    return [name for name, reply in zip(names, replies) if reply.get("allowed") == SEES]
+    return {it: names[it] for it, reply in zip(names, replies) if reply.get("allowed") == SEES}
 
 
 def lines(gate, asked: Asked) -> list[bytes]:
-    """The end of the log, the oldest first. (A line that stands twice, as the log is turned over, is one sent again.)"""
+    """The end of the log, the oldest first. (A line that is there twice, as the log is turned over, is as one that was
+    sent again.)"""
     found = b""
     for target in LOGS:
         status, its = gate.seats.file_of_front(asked.user, asked.password, target, range=f"bytes=-{MOST}")

@@ -25,7 +25,7 @@ def latest(desk, user, path="/open", status=200):
 
 def who(desk, user, path="/open"):
     """By name, who changed it."""
-    return {name: its for name, (its, _) in latest(desk, user, path).items()}
+    return {name: its for name, (its, *_) in latest(desk, user, path).items()}
 
 
 @pytest.fixture
@@ -50,8 +50,9 @@ def test_it_is_told_who_and_when(place):
     place.does("ann", "DELETE", "/open/gone", 204)
     place.does("bob", "PUT", "/open/a", 204, b"bob's")
     found = latest(place, "cat")
-    assert {name: its for name, (its, _) in found.items()} == {"a": "bob", "large": "bob", "sub": "bob"}
-    assert all(begun <= when <= time.time() for _, when in found.values())
+    assert {name: (its, kind) for name, (its, _, kind) in found.items()} == {
+        "a": ("bob", "file"), "large": ("bob", "folder"), "sub": ("bob", "folder")}
+    assert all(begun <= when <= time.time() for _, when, _ in found.values())
     assert who(place, "ann", "/") == {}  # (what was made past the front)
 
 

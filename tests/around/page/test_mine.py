@@ -42,9 +42,9 @@ def test_latest_places_are_at_hand(club, browser, plans):
     """The last one first; not where one is, and not what is not there. As goals of a move, folders alone."""
     for path in "/plans", "/plans/notes.txt", "/minutes", "/nowhere":
         club.open(path)
-    browser.until("all are there", lambda: in_rail(browser, "Latest") == ["minutes", "notes.txt", "plans"])
+    browser.until("all are there", lambda: in_rail(browser, "Opened last") == ["minutes", "notes.txt", "plans"])
     club.open("/plans")
-    browser.until("one is in it", lambda: in_rail(browser, "Latest") == ["minutes", "notes.txt"])
+    browser.until("one is in it", lambda: in_rail(browser, "Opened last") == ["minutes", "notes.txt"])
     by_menu(browser, "2026", "Move")
     browser.until("the tree", lambda: browser.find(f"{DIALOG}//*[@role='tree']"))
     assert browser.script(TEXTS, "dialog .chooser p button.small") == ["minutes", "New folder"]
@@ -60,4 +60,4 @@ def test_next_login_finds_nothing_of_the_one_before(club, browser, plans):
     club.log_in("bob")
     club.open()
     assert browser.script(KEPT) == []
-    assert in_rail(browser, "Favourites") + in_rail(browser, "Latest") == []
+    assert in_rail(browser, "Favourites") + in_rail(browser, "Opened last") == []

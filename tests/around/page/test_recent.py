@@ -1,0 +1,88 @@
+"""Who changed what, and when, in a room with WebDAV, whose gateway tells it: beside each name, and of all of one's own
+places."""
+import os
+import time
+
+import gateway
+import pytest
+from nginx import Front
+
+from .club import ALL, PAGE, PLACE, ROWS, TEXTS, USERS, by_rail, entry
+
+WHEN = "return [...document.querySelectorAll('.things tbody tr .when')].map((it) => it.innerText)"
+
+
+@pytest.fixture
+def dated(stage, room, tmp_path):
+    """The same room and browser, at a front that has a gateway."""
+    folder, socket = str(tmp_path / "front"), str(tmp_path / "gate.sock")
+    front = Front(folder, {user: f"{user}-word" for user in USERS}, {"club": stage.room.port}, PAGE, dav=socket,
+                  opens="100r/s")
+    its = gateway.start(os.path.join(folder, "work/dav.sock"), str(tmp_path / "state"), socket)
+    before, stage.port, stage.user = stage.port, front.port, ""
+    stage.puts = lambda user, path: front.once(user, "PUT", f"/dav/club{path}", b"some words")
+    stage.enter(str(tmp_path))
+    yield stage
+    stage.leave()
+    stage.port, stage.user = before, ""
+    gateway.stop(its)
+    front.server.terminate()
+    front.server.wait()
+
+
+def who_changed(browser):
+    return [(name, when.split(", ")[-1]) for name, when in zip(browser.script(ROWS), browser.script(WHEN))]
+
+
+@pytest.fixture
+def plans(dated):
+    """A folder in which bob writes, and one of ann's alone."""
+    dated.lay("/plans/", "/shut/")
+    dated.lets("bob", "/plans", ALL)
+    dated.sets("/shut", entry("OWNER@", ALL), flags=2)
+    assert [dated.puts(*it).status for it in (("bob", "/plans/b.txt"), ("ann", "/plans/a.txt"),
+                                             ("ann", "/shut/secret.txt"))] == [201] * 3
+    dated.lay("/plans/old.txt")  # (past the front)
+    return dated
+
+
+def test_each_name_tells_who_changed_it(plans):
+    """The newest first, if wanted; and after a while who changed it then."""
+    browser = plans.browser
+    plans.open("/plans")
+    assert browser.script(TEXTS, ".things thead th") == ["Name", "Who can see it", "Changed", "Kind", "Size"]
+    first = [("a.txt", "ann"), ("b.txt", "bob"), ("old.txt", "")]
+    browser.until("who changed it", lambda: who_changed(browser) == first)
+    time.sleep(1)
+    assert plans.puts("bob", "/plans/a.txt").status == 204
+    plans.anew("/plans")
+    browser.until("who changed it now", lambda: ("a.txt", "bob") in who_changed(browser))
+    browser.press("Changed")
+    browser.press("Changed")
+    newest = [("a.txt", "bob"), ("b.txt", "bob"), ("old.txt", "")]
+    assert who_changed(browser) == newest
+    plans.anew("/plans")
+    assert who_changed(browser) == newest  # (at once)
+
+
+def test_recent_changes_are_those_of_ones_own_places(plans):
+    """And of these what one may read: the newest first, each with its folder."""
+    browser = plans.browser
+    plans.log_in("bob")
+    plans.open("/plans")
+    by_rail(browser, "Recent changes")
+    browser.until("they are shown", lambda: browser.script(PLACE) == "#recent/club")
+    assert sorted(browser.script(ROWS)) == ["a.txt", "b.txt"]
+    assert browser.script(TEXTS, ".things td.where") == ["/plans", "/plans"]
+    assert "secret" not in browser.shown()
+    plans.sets("/plans/a.txt", entry("bob", 1, 0, 1))
+    plans.open()
+    by_rail(browser, "Recent changes")
+    browser.until("what is closed is gone", lambda: browser.script(ROWS) == ["b.txt"])
+
+
+def test_room_without_webdav_tells_no_times(club, browser):
+    club.lay("/plans/a.txt")
+    club.open("/plans")
+    assert browser.script(TEXTS, ".things thead th") == ["Name", "Who can see it", "Kind", "Size"]
+    assert "Recent changes" not in browser.script(TEXTS, "#rail a")
