@@ -1,15 +1,17 @@
 /** The view of what is in a folder, or of a document. */
 import { asButton, makeDocument, makeFolder, offered, offersFor, rightsAt, textOffers } from "./actions.js";
-import { ACCESS, ADD_FILE, ADD_FOLDER, FILE, FOLDER, LARGE, READ, ROOT, Refusal, UNFINISHED, addressOf, button, byName,
-  closedLine, faultLine, folderOf, fromBase64, inFolder, lastName, link, make, menuButton, openMenu, orFault,
-  personText, pointOf, shown, t, toText } from "./common.js";
+import { ACCESS, ADD_FILE, ADD_FOLDER, FILE, FOLDER, LARGE, READ, READ_LIST, ROOT, Refusal, UNFINISHED, addressOf,
+  button, byName, closedLine, faultLine, folderOf, fromBase64, inFolder, lastName, link, make, menuButton, openMenu,
+  orFault, personText, pointOf, shown, t, toText } from "./common.js";
 import { changesIn, hasDav } from "./dav.js";
 import { head } from "./heads.js";
+import { icon } from "./icons.js";
 import { NAME, beside, isPart } from "./manifest.js";
 import { note } from "./mine.js";
 import { emptyTrash } from "./moving.js";
 import { canShow, isPdf, isPicture, nothing, preview } from "./preview.js";
 import { NOBODY, manifestAt, readFile } from "./reading.js";
+import { Seers } from "./seers.js";
 import { Things } from "./things.js";
 import { sizeWords } from "./transfers.js";
 import { beforeWords, isInTrash, isOwnTrash, isTrash, ownTrash, withoutPool } from "./trash.js";
@@ -52,6 +54,12 @@ async function trashTool(app, { path }, isEmpty) {
   return isTheirs && button(t.emptyTrash, () => emptyTrash(app, path));
 }
 
+/** Beside the word for it: with whom the folder is shared, where that is known. */
+async function tellWho(share, seers, path) {
+  const found = await seers.of({ path, kind: FOLDER }).catch(() => null);
+  if (found) share.append(make("span.about", found.words));
+}
+
 const titleOf = ({ path }) => (isTrash(path) ? t.trashOf(lastName(path)) : undefined);
 
 async function folder(app, place, stat, rights, found) {
@@ -60,9 +68,10 @@ async function folder(app, place, stat, rights, found) {
   const news = isOwn ? [] : newsFor(app, path, rights.own);
   const mayPut = (rights.own & ADD_FILE) !== 0 && !isOwn;
   const top = head(place, { app, menu: () => offersFor(app, path, FOLDER, rights), title: titleOf(place) });
+  const share = rights.own & READ_LIST && !isOwn && link(addressOf({ ...place, view: "access" }), t.share);
   const bar = make("p.tools.makers",
     news.length > 0 && menuButton(`+ ${t.new}`, { className: "main" }, () => news, t.new),
-    mayPut && filesButton(t.upload, {}, (chosen) => upload(app, path, chosen)),
+    mayPut && filesButton(t.upload, {}, (chosen) => upload(app, path, chosen)), share,
     await trashTool(app, place, found.names && withoutPool(path, found.names).length === 0));
   if (found instanceof Refusal) return [...top, bar, about(place, stat, t.kinds.folder), closed(found, place)];
   if (path !== ROOT && !isInTrash(path)) note(app, path, true);
@@ -72,13 +81,17 @@ async function folder(app, place, stat, rights, found) {
   const things = names.length ? new Things(app, place, names, rights, changes()) : null;
   const words = isOwn ? t.inTrash : mayPut && t.dropHere;
   await things?.inOrder;
-  const area = make("div.drops", await leftWords(listed), things?.element ?? make("p.empty", t.nothingThere),
-    about(place, stat, t.inIt(names.length)), words && make("p.about", words));
+  const more = words && make("p.about", words);
+  const area = make("div.drops", await leftWords(listed),
+    things?.element ?? make(mayPut ? "div.empty.inviting" : "div.empty", icon(isOwn ? "trash" : "folder"),
+      make("p", t.nothingThere), more),
+    about(place, stat, t.inIt(names.length)), things && more);
   area.oncontextmenu = (event) => {
     if (!news.length || event.target !== area) return;
     event.preventDefault();
     openMenu(bar.querySelector("button"), news, t.new, pointOf(event));
   };
+  if (share) tellWho(share, things?.seers ?? new Seers(app), path);
   app.watched = { path, listing: JSON.stringify(found.names), things, put: mayPut };
   return [...top, bar, ...things ? [things.bar.element] : [], area];
 }

@@ -5,6 +5,7 @@ from .club import (ALL, CHOSEN, DIALOG, FOUND, FRAME, MENU, PIECE, PLACE, ROWS, 
                    of_folder, of_user, offers, row, search_in, to_folder)
 
 NAMES = [*FRAME]
+TO_ROW = ["tab"] * 4  # over the folder's own buttons
 FOCUS = ("const it = document.activeElement; return it.matches('.things .name') ? it.textContent "
          ": it.getAttribute('aria-label') ?? it.textContent")
 SORTS = "return [...document.querySelectorAll('.things thead th')].map((it) => it.getAttribute('aria-sort'))"
@@ -30,11 +31,11 @@ def test_the_first_row_is_near_the_top(club, browser, frame, width, height, most
     assert browser.script(WIDTH) == width
 
 
-def test_the_first_row_is_three_tabs_away(browser, frame):
+def test_the_first_row_is_four_tabs_away(browser, frame):
     """And a button skips to it."""
     browser.sees("notes.txt", ".things")
     assert browser.script(FOCUS) == "frame"
-    browser.keys("tab", "tab", "tab")
+    browser.keys(*TO_ROW)
     assert browser.script(FOCUS) == "attic"
     browser.script("document.activeElement.blur(); document.body.focus(); scrollTo(0, 0)")
     browser.script("document.getElementById('skip').focus()")
@@ -136,7 +137,7 @@ def test_the_second_click_of_a_double_click_leads_nowhere(browser, frame):
 
 def test_keys_move_in_the_list(browser, frame):
     """Arrows, Home, End and letters."""
-    browser.keys("tab", "tab", "tab")
+    browser.keys(*TO_ROW)
     for keys, at in (["down"], "cellar"), (["end"], "notes.txt"), (["home"], "attic"), (["l"], "letter.docx"), \
             (["up"], "bill.pdf"), (["li"], "list.xlsx"), (["right"], "eng"), (["right"], "More for list.xlsx"):
         browser.keys(*keys)
@@ -146,7 +147,7 @@ def test_keys_move_in_the_list(browser, frame):
 
 def test_keys_choose_in_the_list(browser, frame):
     """Space, Shift and an arrow, Ctrl+A and Escape."""
-    browser.keys("tab", "tab", "tab", "end", "up", "space")
+    browser.keys(*TO_ROW, "end", "up", "space")
     assert browser.script(CHOSEN) == ["list.xlsx"]
     browser.chord("shift", "down")
     assert browser.script(CHOSEN) == ["list.xlsx", "notes.txt"]
@@ -158,7 +159,7 @@ def test_keys_choose_in_the_list(browser, frame):
 
 def test_f2_renames_and_delete_removes(club, browser, frame):
     """The row has the focus behind it."""
-    browser.keys("tab", "tab", "tab", "end", "f2")
+    browser.keys(*TO_ROW, "end", "f2")
     browser.fill("Name", "notes 2.txt")
     browser.keys("enter")
     browser.sees("is now", "#notices")
@@ -171,7 +172,7 @@ def test_f2_renames_and_delete_removes(club, browser, frame):
 
 def test_a_row_that_is_renamed_has_the_focus(browser, frame):
     """Wherever it stands then; and the old name comes back by one press."""
-    browser.keys("tab", "tab", "tab", "end", "f2")
+    browser.keys(*TO_ROW, "end", "f2")
     browser.fill("Name", "ahead.txt")
     browser.keys("enter")
     browser.until("the row", lambda: browser.script(FOCUS) == "ahead.txt")

@@ -1,7 +1,7 @@
 """Who can see a thing, beside its name: what Share and the matrix tell, in few words."""
 import pytest
 
-from .club import ALL, GROUP, PIECE, PLACE, VIEW, entry, search_in
+from .club import ALL, GROUP, PIECE, PLACE, TOP as FRAME_TOP, VIEW, entry, search_in
 
 TOP = "/seen"
 SEERS = ("return Object.fromEntries([...document.querySelectorAll('.things tbody tr')].map((it) => "
@@ -9,7 +9,7 @@ SEERS = ("return Object.fromEntries([...document.querySelectorAll('.things tbody
 OWNER, ENG, BOB, EVERYONE = entry("OWNER@", ALL), entry("eng", VIEW, 3 | GROUP), entry("bob", VIEW), \
     entry("EVERYONE@", VIEW)
 LISTS = {"alone": [OWNER], "bob": [OWNER, BOB], "eng": [OWNER, ENG], "eve": [OWNER, entry("eve", VIEW)],
-         "everyone": [OWNER, EVERYONE], "not bob": [OWNER, entry("bob", 1, 3, 1), EVERYONE],
+         "everyone": [OWNER, EVERYONE], "not bob": [OWNER, entry("bob", 1, 3, 1), EVERYONE, ENG],
          "staff": [OWNER, entry("staff", VIEW, 3 | GROUP)]}
 WORDS = {"alone": "Only you", "bob": "You, Bob Ray", "eng": "eng", "eve": "You, eve", "everyone": "Everyone here",
          "not bob": "You, eve", "staff": "You, staff", "nobody": "Nobody"}
@@ -96,3 +96,24 @@ def test_rows_out_of_sight_ask_for_no_list(club, browser):
     browser.script("scrollTo(0, 9e9)")
     browser.until("the last", lambda: browser.script(SEERS)["119.txt"])
     assert browser.script(SEERS)["060.txt"] == ""
+
+
+def test_the_shown_folder_tells_with_whom_it_is_shared(club, browser, names):
+    lay(club)
+    club.open(f"{TOP}/bob")
+    told = "return document.querySelector('.tools > a .about')?.textContent"
+    browser.until("who", lambda: browser.script(told) == "You, Bob Ray")
+    browser.act("//main//p[contains(@class, 'tools')]/a", "click")
+    browser.until("Share", lambda: browser.script(PLACE) == f"#access/club{TOP}/bob")
+
+
+def test_on_a_phone_it_stands_below_the_name(club, browser, frame):
+    """Beside the size, and nothing scrolls sideways."""
+    browser.size(360, 740)
+    club.anew(FRAME_TOP)
+    browser.until("who", lambda: browser.script(SEERS)["notes.txt"] == "eng")
+    boxes = ("const rows = document.querySelectorAll('.things tbody tr'); return ['.name', '.size', '.who'].map((it) => "
+             "[...rows].at(-1).querySelector(it).getBoundingClientRect()).map((it) => [it.left, it.top])")
+    (_, top), (left, of_size), (right, of_who) = browser.script(boxes)
+    assert (of_size > top + 16, of_who > top + 16, right > left) == (True, True, True)
+    assert browser.script("return document.documentElement.scrollWidth") == 360
