@@ -112,8 +112,8 @@ def test_on_a_phone_it_stands_below_the_name(club, browser, frame):
     browser.size(360, 740)
     club.anew(FRAME_TOP)
     browser.until("who", lambda: browser.script(SEERS)["notes.txt"] == "eng")
-    boxes = ("const rows = document.querySelectorAll('.things tbody tr'); return ['.name', '.size', '.who'].map((it) => "
-             "[...rows].at(-1).querySelector(it).getBoundingClientRect()).map((it) => [it.left, it.top])")
+    boxes = ("const all = document.querySelectorAll('.things tbody tr'); return ['.name', '.size', '.who'].map((it) => "
+             "[...all].at(-1).querySelector(it).getBoundingClientRect()).map((it) => [it.left, it.top])")
     (_, top), (left, of_size), (right, of_who) = browser.script(boxes)
     assert (of_size > top + 16, of_who > top + 16, right > left) == (True, True, True)
     assert browser.script("return document.documentElement.scrollWidth") == 360
