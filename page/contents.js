@@ -85,7 +85,7 @@ async function folder(app, place, stat, rights, found) {
   const area = make("div.drops", await leftWords(listed),
     things?.element ?? make(mayPut ? "div.empty.inviting" : "div.empty", icon(isOwn ? "trash" : "folder"),
       make("p", t.nothingThere), more),
-    about(place, stat, t.inIt(names.length)), things && more);
+    about(place, stat, t.allThings(names.length)), things && more);
   area.oncontextmenu = (event) => {
     if (!news.length || event.target !== area) return;
     event.preventDefault();

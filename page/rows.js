@@ -23,7 +23,7 @@ async function lookAt({ app: { room }, seers }, path, kind) {
   const { kind: found, names, its } = await lookInto(room, path);
   if (!names || found === UNFINISHED) return { kind: found, words: "", isShut: !names };
   return found === LARGE ? sized(LARGE, its?.size) :
-    { kind: FOLDER, words: t.inIt(names.length), size: names.length };
+    { kind: FOLDER, words: t.allThings(names.length), size: names.length };
 }
 
 /** The time of what was changed today, else the day; and by whom. */
@@ -78,7 +78,7 @@ export class Row {
   showKind() {
     this.kindName = kindBy(this.called, this.isFolder ? FOLDER : FILE);
     const isShut = Boolean(this.its?.isShut); // (whether it is a folder or a large file is not told then)
-    this.kindCell.textContent = isShut ? t.shutKind : this.its?.kind === UNFINISHED ? t.unfinished :
+    this.kindCell.textContent = isShut ? t.levels.none[0] : this.its?.kind === UNFINISHED ? t.unfinished :
       t.kinds[this.kindName];
     const picture = icon(isShut ? "locked" : this.kindName);
     if (!this.picture.querySelector("img, canvas")) this.picture.replaceChildren(picture);

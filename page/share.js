@@ -19,6 +19,7 @@ function whomBy(text, roster) {
 
 const isSame = (one, other) => one.id === other.id && one.name === other.name;
 const keyOf = (whom) => JSON.stringify(whom);
+const levelOfPreset = (name) => t.levels[name] ?? t.levels.change;
 
 export class SharePanel {
   /** Of an object with its `own` entries and those that are `handed` down to it. `set` sets the own entries, and gets
@@ -26,7 +27,7 @@ export class SharePanel {
   constructor({ kind, owner, group }, { own, handed }, roster, does) {
     const { shares, others } = sharesOf(own, kind);
     Object.assign(this, { kind, owner, group, own, roster: roster ?? {}, isWhole: roster !== null, shares, ...does });
-    this.presets = Object.keys(presetsOf(kind)).map((it) => [it, t.presets[it]]);
+    this.presets = Object.keys(presetsOf(kind)).map((it) => [it, levelOfPreset(it)[0]]);
     this.told = new Map(); // by whom, where it is told that they do not get there
     this.from = new Map(); // by whom, where it is told from where they have it
     const above = byWhom(handed.filter((it) => !isDeny(it))).filter(([{ id }]) => !(owner && id === "OWNER@"));
@@ -65,9 +66,9 @@ export class SharePanel {
   row({ whom, name }) {
     const words = this.wordsOf(whom);
     const items = this.presets.map(([it, its]) => ({ words: its, isNow: it === name,
-      about: (t.levels[it] ?? t.levels.change)[1], does: () => this.give(whom, it) }));
+      about: levelOfPreset(it)[1], does: () => this.give(whom, it) }));
     return this.line(whom, make("span", words),
-      menuButton(t.presets[name], { title: t.mayWhat(words) }, () => items, t.mayWhat(words)),
+      menuButton(levelOfPreset(name)[0], { title: t.mayWhat(words) }, () => items, t.mayWhat(words)),
       this.takeButton(whom, words));
   }
 
