@@ -126,7 +126,8 @@ export class Things {
   constructor(app, place, names, rights, changes = null) {
     const isFound = rights === null;
     Object.assign(this, { app, place, rights, last: null, isFound, inSight: new Set() });
-    const without = [...isFound ? [] : ["where"], ...changes ? isFound ? ["who", "kind"] : [] : ["when"]];
+    const without = [...isFound ? [] : ["where"], ...changes ? isFound ? ["who", "kind"] : [] : ["when"],
+      ...isOwnTrash(app, place.path) ? ["who"] : []];
     this.columns = HEADS.filter((it) => !without.includes(it));
     const [by, isDown] = isFound && changes ? ["when", "down"] : (localStorage.getItem(SORT) ?? "name").split(" ");
     this.sort = { by: this.columns.includes(by) ? by : "name", isDown: Boolean(isDown) };
