@@ -199,8 +199,8 @@ class ListView {
     const found = await this.app.attempt(t.listOf(shown(object.path)), () => shutOut(this.app, object, news));
     const changes = this.changes.splice(0);
     const told = found ? await helpThem(this.app, object, news, found, changes) : "";
-    const words = [`${t.listSet} ${told}`.trim(), news.length > 0 && [" ", letterOf(this.place)]];
-    await this.app.done(words, null, this.undo(changes));
+    const words = `${t.listSet} ${told}`.trim();
+    await this.app.done(news.length ? [words, " ", letterOf(this.place)] : words, null, this.undo(changes));
   }
 
   news() {
