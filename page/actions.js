@@ -3,6 +3,7 @@ import { ADD_FILE, ADD_FOLDER, ALL, APPEND, DELETE, DELETE_CHILD, EXIST, FILE, F
   PASS_THROUGH as PASS, READ, READ_LIST, ROOT, UNFINISHED, WRITE, addressOf, area, ask, besideIt, button, clean,
   faultLine, folderOf, fromBase64, fromText, inFolder, isRefused, lastName, make, nameFault, nameInput, pathFault, say,
   shown, t, tellFault, toBase64, toText, wholeLink } from "./common.js";
+import { hasDav, showAddresses } from "./dav.js";
 import { download, downloadFolder } from "./downloads.js";
 import { writeCopy } from "./files.js";
 import { isStarred, turnStar } from "./mine.js";
@@ -58,6 +59,8 @@ export function offersFor(app, path, kind, { own, above, size }) {
     [!isThrown && has(own, READ_LIST), { words: t.share, href: at("access"), isApart: true, isView: true }],
     [!isThrown, { words: t.whoMay, href: at("who"), isView: true }],
     [!isThrown, { words: t.copyLink, does: () => copyLink(at("open")), isView: true }],
+    [kind === FOLDER && !isThrown && hasDav(app),
+      { words: t.openInFiles, does: () => showAddresses(app, path), isView: true }],
     [!isThrown && !isTop, { words: t.star(isStarred(app, path)), does: () => star(app, path, kind), isView: true }],
   ]);
 }

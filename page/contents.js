@@ -96,8 +96,9 @@ async function folder(app, place, stat, rights, found) {
   return [...top, bar, ...things ? [things.bar.element] : [], area];
 }
 
-async function object(app, place, { stat, rights, kind, size, words, first = [] }, body) {
-  const offers = [...first, ...offersFor(app, place.path, kind, { ...rights, size })].filter((it) => !it.isView);
+async function object(app, place, { stat, rights, kind, size, words, first = [], bytes = null }, body) {
+  const offers = [...first, ...offersFor(app, place.path, kind, { ...rights, size }).filter((it) => !it.isView),
+    ...bytes && canShow(bytes) && !isPdf(bytes) ? [{ words: t.print, does: () => print() }] : []];
   const bar = make("p.tools", offers.map(asButton), await neighbours(app, place));
   return [...head(place), bar, about(place, stat, words), body];
 }
@@ -110,7 +111,7 @@ async function document_(app, place, stat, rights) {
   const bytes = isShut ? null : fromBase64(found.data);
   const first = textOffers(app, path, rights.own, bytes, bytes && toText(bytes));
   const words = isShut ? t.kinds.writing : t.bytes(bytes.length);
-  return object(app, place, { stat, rights, kind: FILE, size: bytes?.length, words, first }, isShut ?
+  return object(app, place, { stat, rights, kind: FILE, size: bytes?.length, words, first, bytes }, isShut ?
     closed(found, place) : preview(bytes, lastName(path)));
 }
 
@@ -131,7 +132,8 @@ async function large(app, place, stat, rights) {
   if (bytes && !canShow(bytes)) area.append(nothing());
   else if (rights.own & READ && isAsked) await show().catch((fault) => area.append(fault.message));
   else area.append(button(t.show, () => app.attempt(shown(path), show)));
-  return object(app, place, { stat, rights, kind: LARGE, size: its.size, words: sizeWords(its.size) }, area);
+  const more = { kind: LARGE, size: its.size, words: sizeWords(its.size), bytes: isAsked ? bytes : null };
+  return object(app, place, { stat, rights, ...more }, area);
 }
 
 async function neighbours(app, { path, room }) {

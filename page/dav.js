@@ -1,6 +1,6 @@
 /** What the gateway of WebDAV has for the page, in the rooms that have it: who changed what, and when, of what the user
- * may read. */
-import { forEach, inFolder, namesOf } from "./common.js";
+ * may read; and addresses for file managers. */
+import { ask, forEach, inFolder, namesOf, t } from "./common.js";
 import { fileOfFront } from "./wire.js";
 
 let rooms = [];
@@ -16,4 +16,11 @@ export async function changesIn(app, folders) {
     for (const [name, [who, when, kind]] of Object.entries(its)) found.set(inFolder(folder, name), { who, when, kind });
   }, 3);
   return found;
+}
+
+export function showAddresses(app, path) {
+  const its = `${location.origin}${wayTo(app, path)}`;
+  const words = [t.inWindows(its), t.inFinder(its), t.inGnome(its.replace("http", "dav")),
+    t.inDolphin(its.replace("http", "webdav")), t.davLogin];
+  return ask({ title: t.openInFiles, stays: t.close, words });
 }

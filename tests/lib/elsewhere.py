@@ -1,5 +1,5 @@
 """Other browsers than tests/lib/browser.py has, with the same calls: Debian's Firefox, which speaks Marionette over
-plain TCP (Debian has no geckodriver, which hands WebDriver's commands on to that), and Chromium as a phone, by touch."""
+plain TCP (Debian has no geckodriver, which hands WebDriver's commands on to it), and Chromium as a phone, by touch."""
 import contextlib
 import json
 import os

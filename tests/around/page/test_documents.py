@@ -160,7 +160,7 @@ def test_a_right_that_is_taken_while_she_types(club, browser):
     club.log_in("eve")
     club.open(path)
     browser.sees("text", "pre")
-    assert browser.script(BUTTONS) == ["Add text", "Download", "Copy"]
+    assert browser.script(BUTTONS) == ["Add text", "Download", "Copy", "Print"]
     append(browser, "more", lambda: club.sets(path))
     browser.sees("You may not append to it (/plans/june.txt). Ask ann.", "dialog")
     assert (club.text(path), browser.script(TYPED)) == ("text", "more")

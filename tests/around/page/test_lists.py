@@ -144,9 +144,9 @@ def test_list_of_a_large_file(club, browser, whole, closed):
 # What is offered
 
 @pytest.mark.parametrize("mask, wanted", [
-    (VIEW, ["Download", "Copy"]), (ADD, ["Add text", "Download", "Copy"]),
-    (EDIT, ["Add text", "Edit", "Download", "Upload a new version", "Copy"]),
-    (ALL, ["Add text", "Edit", "Download", "Upload a new version", "Rename", "Move", "Copy", "Remove"])],
+    (VIEW, ["Download", "Copy", "Print"]), (ADD, ["Add text", "Download", "Copy", "Print"]),
+    (EDIT, ["Add text", "Edit", "Download", "Upload a new version", "Copy", "Print"]),
+    (ALL, ["Add text", "Edit", "Download", "Upload a new version", "Rename", "Move", "Copy", "Remove", "Print"])],
     ids=["view", "add", "edit", "all"])
 def test_what_a_document_offers(club, browser, mask, wanted):
     """What one's rights refuse is not."""
@@ -164,7 +164,7 @@ def test_what_a_folder_and_its_rows_offer(club, browser):
     club.open("/other")
     browser.sees("dot.txt", ".things")
     browser.act("//main//h1/button", "click")
-    assert offers(browser) == ["Download as zip", "Copy", "Copy the link"]
+    assert offers(browser) == ["Download as zip", "Copy", "Copy the link", "Add to favourites"]
     browser.keys("escape")
     browser.press("More for dot.txt")
-    assert offers(browser) == ["Download", "Copy", "Copy the link"]
+    assert offers(browser) == ["Download", "Copy", "Copy the link", "Add to favourites"]

@@ -3,7 +3,7 @@
 import cases
 import pytest
 
-from .club import NAME, PIECE, TOP
+from .club import BUTTONS, NAME, PIECE, TOP
 from .drawn import PDF, PNG, RED, SVG, apng, gif, png, webp
 
 # what is shown small of each thing in the list, by its name
@@ -137,3 +137,24 @@ def test_a_pdf(club, browser, data):
     assert kind == ["application/pdf", None, None]
     browser.close_tab()
     browser.turn_to(before[0])
+
+
+def test_a_text_and_a_picture_are_printed(club, browser):
+    """Without what is pressed, and in one page; what the browser shows by itself has its own way."""
+    lay(club, {"dot.png": PNG, "it.pdf": PDF, "words.txt": b"some words", "other.bin": bytes(9)})
+    for name, is_printed in ("dot.png", True), ("it.pdf", False), ("other.bin", False), ("words.txt", True):
+        club.open(f"{TOP}/{name}")
+        assert ("Print" in browser.script(BUTTONS)) == is_printed, name
+    browser.script("window.print = () => { window.isPrinted = true; }")
+    browser.press("Print", "//main")
+    assert browser.script("return window.isPrinted")
+    try:
+        browser.devtools("Emulation.setEmulatedMedia", media="print")
+        assert browser.shown().split("\n")[-1] == "some words"
+        assert not {"Print", "Edit", "fileroom", "Rooms"} & {*browser.shown().split("\n")}
+        club.open(f"{TOP}/dot.png")
+        browser.until("the picture", lambda: browser.script(SHOWN))
+        style = "return getComputedStyle(document.querySelector('.picture > *')).maxHeight"
+        assert browser.script(style) == f"{0.85 * browser.script('return innerHeight'):g}px"
+    finally:
+        browser.devtools("Emulation.setEmulatedMedia", media="")

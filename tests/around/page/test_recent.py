@@ -7,7 +7,7 @@ import gateway
 import pytest
 from nginx import Front
 
-from .club import ALL, PAGE, PLACE, ROWS, TEXTS, USERS, by_rail, entry
+from .club import ALL, DIALOG, PAGE, PLACE, ROWS, TEXTS, USERS, by_rail, entry, of_folder, offers
 
 WHEN = "return [...document.querySelectorAll('.things tbody tr .when')].map((it) => it.innerText)"
 
@@ -81,8 +81,23 @@ def test_recent_changes_are_those_of_ones_own_places(plans):
     browser.until("what is closed is gone", lambda: browser.script(ROWS) == ["b.txt"])
 
 
+def test_a_folder_says_how_file_managers_open_it(plans):
+    browser = plans.browser
+    plans.lay("/plans/Q1 \u00e4/")
+    plans.open("/plans/Q1 \u00e4")
+    of_folder(browser, "Open in a file manager")
+    at = f"://127.0.0.1:{plans.port}/dav/club/plans/Q1%20%C3%A4/"
+    for words in (f"Map network drive: http{at}", f"Connect to Server: http{at}", f"Other Locations: dav{at}",
+                  f"as an address: webdav{at}"):
+        browser.sees(words, "dialog")
+    browser.press("Close", DIALOG)
+
+
 def test_room_without_webdav_tells_no_times(club, browser):
+    """And no address for a file manager."""
     club.lay("/plans/a.txt")
     club.open("/plans")
     assert browser.script(TEXTS, ".things thead th") == ["Name", "Who can see it", "Kind", "Size"]
     assert "Recent changes" not in browser.script(TEXTS, "#rail a")
+    browser.act("//main//h1/button", "click")
+    assert "Open in a file manager" not in offers(browser)
