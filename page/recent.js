@@ -6,11 +6,12 @@ import { latest, stars } from "./mine.js";
 import { Things } from "./things.js";
 import { isInTrash } from "./trash.js";
 
-const MOST = 100; // changes that are shown
+const [MOST, MOST_FOLDERS] = [100, 20]; // that are shown, and asked about
 
 export async function showRecent(app, place) {
   const own = [...stars(app), ...latest(app)].map(([path, isFolder]) => (isFolder ? path : folderOf(path)));
-  const found = await changesIn(app, new Set([ROOT, ...own.filter((it) => !isInTrash(it))]));
+  const folders = new Set([ROOT, ...own.filter((it) => !isInTrash(it))]);
+  const found = await changesIn(app, [...folders].slice(0, MOST_FOLDERS));
   const newest = [...found].sort(([, one], [, other]) => other.when - one.when).slice(0, MOST);
   const entries = newest.map(([path, { kind }]) => [lastName(path), kind, folderOf(path)]);
   const things = entries.length > 0 && new Things(app, place, entries, null, Promise.resolve(found));
