@@ -21,13 +21,15 @@ def dated(stage, room, tmp_path):
     its = gateway.start(os.path.join(folder, "work/dav.sock"), str(tmp_path / "state"), socket)
     before, stage.port, stage.user = stage.port, front.port, ""
     stage.puts = lambda user, path: front.once(user, "PUT", f"/dav/club{path}", b"some words")
-    stage.enter(str(tmp_path))
-    yield stage
-    stage.leave()
-    stage.port, stage.user = before, ""
-    gateway.stop(its)
-    front.server.terminate()
-    front.server.wait()
+    try:
+        stage.enter(str(tmp_path))
+        yield stage
+        stage.leave()
+    finally:
+        stage.port, stage.user = before, ""
+        gateway.stop(its)
+        front.server.terminate()
+        front.server.wait()
 
 
 def who_changed(browser):
