@@ -1,5 +1,5 @@
 /** Who can see a thing, in few words: by what Share and the matrix ask the room, as far as the caller may know. */
-import { LARGE, READ, displayName, folderOf, inOrder, joined, once, personText, t, whomOf } from "./common.js";
+import { LARGE, READ, displayName, foldersAbove, inOrder, joined, once, personText, t, whomOf } from "./common.js";
 import { Questions, named } from "./questions.js";
 
 const MOST_NAMES = 3; // more are counted
@@ -15,7 +15,7 @@ export class Seers {
     const [its, roster] = [await this.questions.object(object.path), await this.app.room.users()];
     if (!its || !roster) return null;
     const [{ path, kind }, { owner, group, entries }] = [object, its];
-    const key = kind === LARGE ? path : JSON.stringify([folderOf(path), owner, group, entries]);
+    const key = kind === LARGE ? path : JSON.stringify([foldersAbove(path), owner, group, entries]);
     return once(this.known, key, async () => {
       const users = await this.#users(object, roster);
       const told = users && joined(named(users.map((user) => ({ user: personText(user) }))));
@@ -41,10 +41,10 @@ export class Seers {
     const { user: me } = this.app;
     if (users.length === 1 && users[0] === me) return t.onlyYou;
     if (users.length === Object.keys(roster).length) return t.everyoneHere;
-    const named = new Set(entries.map(whomOf).map(({ id, name }) => ({ group: name, "GROUP@": group }[id])));
+    const listed = new Set(entries.map(whomOf).map(({ id, name }) => ({ group: name, "GROUP@": group }[id])));
     const members = (one) => Object.keys(roster).filter((user) => roster[user].includes(one));
     const isIn = (one) => members(one).length > 0 && members(one).every((it) => users.includes(it));
-    const groups = [...named].filter((one) => one && isIn(one)).sort(inOrder);
+    const groups = [...listed].filter((one) => one && isIn(one)).sort(inOrder);
     const others = users.filter((user) => !roster[user].some((it) => groups.includes(it)));
     const names = [...others.includes(me) ? [t.yourself] : [], ...groups,
       ...others.filter((it) => it !== me).map((it) => displayName(it) || it).sort(inOrder)];

@@ -1,11 +1,12 @@
 """Who can see a thing, beside its name: what Share and the matrix tell, in few words."""
 import pytest
 
-from .club import ALL, GROUP, PIECE, PLACE, TOP as FRAME_TOP, VIEW, entry, search_in
+from .club import ALL, GROUP, PASS, PIECE, PLACE, TOP as FRAME_TOP, VIEW, entry, search_in
 
 TOP = "/seen"
 SEERS = ("return Object.fromEntries([...document.querySelectorAll('.things tbody tr')].map((it) => "
          "[it.querySelector('bdi').textContent, it.querySelector('.who').textContent]))")
+OF_FOLDER = "return document.querySelector('.tools > a .about')?.textContent"
 OWNER, ENG, BOB, EVERYONE = entry("OWNER@", ALL), entry("eng", VIEW, 3 | GROUP), entry("bob", VIEW), \
     entry("EVERYONE@", VIEW)
 LISTS = {"alone": [OWNER], "bob": [OWNER, BOB], "eng": [OWNER, ENG], "eve": [OWNER, entry("eve", VIEW)],
@@ -52,6 +53,16 @@ def test_who_does_not_get_there_does_not_see_it(club, browser, names):
     lay(club, ENG)
     club.open(TOP)
     told(browser, WORDS | {"everyone": "You, Bob Ray", "eve": "Only you", "not bob": "Only you"})
+
+
+def test_who_gets_no_further_sees_the_top_alone(club, browser):
+    """Where what is in it has the very same list."""
+    club.lay("/in/")
+    for path in "/in", "/":
+        club.sets(path, OWNER, entry("bob", VIEW & ~PASS), flags=2)
+    club.open()
+    told(browser, {"in": "Only you"})
+    browser.until("of the top", lambda: browser.script(OF_FOLDER) == "You, bob")
 
 
 def test_people_who_are_many_are_counted(club, browser, tells):
@@ -101,8 +112,7 @@ def test_rows_out_of_sight_ask_for_no_list(club, browser):
 def test_the_shown_folder_tells_with_whom_it_is_shared(club, browser, names):
     lay(club)
     club.open(f"{TOP}/bob")
-    told = "return document.querySelector('.tools > a .about')?.textContent"
-    browser.until("who", lambda: browser.script(told) == "You, Bob Ray")
+    browser.until("who", lambda: browser.script(OF_FOLDER) == "You, Bob Ray")
     browser.act("//main//p[contains(@class, 'tools')]/a", "click")
     browser.until("Share", lambda: browser.script(PLACE) == f"#access/club{TOP}/bob")
 
