@@ -103,6 +103,7 @@ class App {
     if (isUnsaved() && location.hash !== this.here && !this.isLosing) return this.askToLeave();
     this.isLosing = false;
     closeAll();
+    part("rail").hidePopover(); // (also by Back)
     pass();
     if (this.saying) say(...this.saying);
     this.saying = null;

@@ -143,6 +143,16 @@ def test_rooms_stand_in_the_rail(club, browser, text):
     assert browser.script(said) == [["de", "Deutsch"]]
 
 
+def test_the_rail_goes_with_the_place(club, browser, text):
+    """Also where Back leads away."""
+    club.open()
+    club.open(TOP)
+    browser.press("Places")
+    browser.script("history.back()")
+    browser.until("the place before", lambda: browser.script(PLACE) == "#open/club")
+    assert browser.script("return document.getElementById('rail').checkVisibility()") is False
+
+
 @pytest.fixture
 def long(club):
     """A folder with sixty documents."""
