@@ -154,7 +154,7 @@ def test_a_text_and_a_picture_are_printed(club, browser):
         assert not {"Print", "Edit", "fileroom", "Rooms"} & {*browser.shown().split("\n")}
         club.open(f"{TOP}/dot.png")
         browser.until("the picture", lambda: browser.script(SHOWN))
-        style = "return getComputedStyle(document.querySelector('.picture > *')).maxHeight"
+        style = "return getComputedStyle(document.querySelector('.picture > :is(img, canvas)')).maxHeight"
         assert browser.script(style) == f"{0.85 * browser.script('return innerHeight'):g}px"
     finally:
         browser.devtools("Emulation.setEmulatedMedia", media="")
