@@ -181,7 +181,7 @@ def test_a_text_that_is_copied_moves_nothing(club, browser, both):
     browser.chord("ctrl", "x")
     browser.sees("2 items are cut", "#notices")
     club.open(CELLAR)
-    browser.script("getSelection().selectAllChildren(document.querySelector('.empty'))")
+    browser.script("getSelection().selectAllChildren(document.querySelector('.empty p'))")
     browser.chord("ctrl", "c")
     browser.script("getSelection().removeAllRanges()")
     browser.chord("ctrl", "v")
