@@ -12,7 +12,7 @@ const { writeCopy, writeFile } = await page("files");
 const { NOBODY, readFile } = await page("reading");
 const { PIECE } = await page("manifest");
 const { useClipboard } = await page("clipboard");
-const { FolderTree, keepRecent } = await page("tree");
+const { latest, note } = await page("mine");
 const { helpThem, setBack } = await page("questions");
 const TRASH = "/trash/@d/ann";
 const PRIVATE = { aclflag: 2, entries: [{ type: 0, flag: 3, mask: 0x1f07ff, who: "OWNER@" }] };
@@ -163,12 +163,11 @@ test("a copy goes on in its room, whichever is shown by then", async () => {
   assert.deepEqual([shelf.names("/e"), other.asked], [["a.txt", "b.txt"], []]);
 });
 
-test("where something went lately is offered to one user, in that room", async () => {
-  const offered = (app) => new FolderTree(app, [], "/d").element.querySelectorAll("button.small")[0].textContent;
-  const [ann, bob] = ["ann", "bob"].map((it) => appOver(new Shelf(it)));
-  keepRecent(ann, "/lately");
-  const elsewhere = { ...ann, room: Object.assign(appOver(new Shelf()).room, { name: "other" }) };
-  assert.deepEqual([ann, bob, elsewhere].map(offered), ["lately", t.newFolder, t.newFolder]);
+test("the latest places are one user's, in that room", () => {
+  const [kim, lou] = ["kim", "lou"].map((it) => appOver(new Shelf(it)));
+  const elsewhere = { ...kim, room: Object.assign(appOver(new Shelf("kim")).room, { name: "other" }) };
+  note(kim, "/lately", true);
+  assert.deepEqual([kim, lou, elsewhere].map((app) => latest(app).length), [1, 0, 0]);
 });
 
 test("what was cut is pasted once, and by who has the same on the clipboard", async () => {
