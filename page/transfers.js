@@ -1,13 +1,16 @@
 /** What goes on beside the page: how far it is, and an end to it. */
-import { ask, besideIt, button, lastName, make, part, say, settle, shown, t, tellFaults, watchEnd } from "./common.js";
+import { ask, besideIt, button, language, lastName, make, part, say, settle, shown, t, tellFaults,
+  watchEnd } from "./common.js";
 import { NOBODY } from "./reading.js";
 
 class Cancelled extends Error {}
 
+const { format: inTenths } = new Intl.NumberFormat(language, { minimumFractionDigits: 1, maximumFractionDigits: 1 });
+
 export function sizeWords(bytes) {
   if (bytes < 1_024) return t.bytes(bytes);
   const [count, unit] = bytes < 2 ** 20 ? [bytes / 1_024, "KiB"] : [bytes / 2 ** 20, "MiB"];
-  return `${count < 10 ? count.toFixed(1) : Math.round(count)} ${unit}`;
+  return `${count < 10 ? inTenths(count) : Math.round(count)} ${unit}`;
 }
 
 class Transfer {
@@ -23,7 +26,7 @@ class Transfer {
   }
 
   get seconds() {
-    return ((performance.now() - this.start) / 1_000).toFixed(1);
+    return inTenths((performance.now() - this.start) / 1_000);
   }
 
   quiet() {

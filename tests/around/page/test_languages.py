@@ -1,5 +1,7 @@
 """The page's words in another language, of which none is lacking."""
-from .club import DIALOG, of_user
+import re
+
+from .club import DIALOG, choose, of_user, row
 
 SHAPES = """const [done] = arguments;
 const blanks = (it) => [...new Set([...it.matchAll(/{([0-9])/g)].map(([, at]) => at))].sort().join();
@@ -34,3 +36,14 @@ def test_language_is_chosen_and_kept(club, browser):
     browser.press("Schließen", DIALOG)
     of_user(browser, "English")
     browser.sees("+ New", "main")
+
+
+def test_sizes_are_written_as_the_language_has_them(club, browser):
+    """And how long it took."""
+    club.lay(("/notes.txt", b"x" * 2560))
+    club.open()
+    browser.until("its size", lambda: "2.5 KiB" in row(browser, "notes.txt"))
+    of_user(browser, "Deutsch")
+    browser.until("its size", lambda: "2,5 KiB" in row(browser, "notes.txt"))
+    choose(browser, "Hochladen", club.on_disk("more.txt", b"x" * 1536))
+    browser.until("its end", lambda: re.search(r"1,5 KiB in \d+,\d Sekunden", browser.text_of("#notices")))
