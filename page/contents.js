@@ -68,7 +68,7 @@ async function folder(app, place, stat, rights, found) {
   const news = isOwn ? [] : newsFor(app, path, rights.own);
   const mayPut = (rights.own & ADD_FILE) !== 0 && !isOwn;
   const top = head(place, { app, menu: () => offersFor(app, path, FOLDER, rights), title: titleOf(place) });
-  const share = rights.own & READ_LIST && !isOwn && link(addressOf({ ...place, view: "access" }), t.share);
+  const share = (rights.own & READ_LIST) !== 0 && !isOwn && link(addressOf({ ...place, view: "access" }), t.share);
   const bar = make("p.tools.makers",
     news.length > 0 && menuButton(`+ ${t.new}`, { className: "main" }, () => news, t.new),
     mayPut && filesButton(t.upload, {}, (chosen) => upload(app, path, chosen)), share,

@@ -179,6 +179,17 @@ def test_fault_of_a_closed_door_knows_nobody(club, browser):
     assert letters(browser, "main") == []
 
 
+def test_closed_folder_tells_nothing_else(club, browser):
+    """Neither its list nor what is in it may be seen."""
+    club.lay("/closed/")
+    club.sets("/", entry("EVERYONE@", PASS, 0), flags=2)
+    club.sets("/closed", entry("OWNER@", ALL), flags=2)
+    club.log_in("eve")
+    club.open("/closed")
+    told = [it for it in browser.text_of("main > :not(.head)").split("\n") if it]
+    assert told == ["Folder", "You don't have access to /closed. Ask its owner."]
+
+
 def test_who_shares_can_send_the_link(club, browser):
     """Of what was shared, once somebody has access who had none."""
     club.lay("/sent/")
