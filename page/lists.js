@@ -1,4 +1,5 @@
 /** Entries of a list in words, and back (docs/LISTS.md); and what people mostly give. */
+import { personText } from "./names.js";
 import { ALL, CHANGE, DELETE, EDIT, FILE, FOLDER, LARGE, OF_OWNERS, PASS_THROUGH, READ, RIGHTS, VIEW, bothWords,
   rightsIn, setOf } from "./rights.js";
 import { joined, t } from "./words.js";
@@ -84,7 +85,7 @@ export const withFollows = (aclflag, isWanted) => (follows(aclflag) === isWanted
   aclflag & ~(AUTO_INHERIT | PROTECTED) | (isWanted ? AUTO_INHERIT : PROTECTED));
 
 export const whomText = ({ id, name }, whose) =>
-  [t.whom[id], name, whose && `(${whose})`].filter((it) => it).join(" ");
+  [t.whom[id], id === "user" ? personText(name) : name, whose && `(${whose})`].filter((it) => it).join(" ");
 
 function whomWords(entry, { owner, group }) {
   const its = whomOf(entry);

@@ -1,6 +1,6 @@
 /** What users may do with objects, as the room says; and a way for those who cannot get there. */
 import { FOLDER, LARGE, PASS_THROUGH, ROOT, addressOf, ask, askedOf, byWhom, foldersAbove, forEach, givenHere, inFolder,
-  isDeny, lastName, letterLink, listOf, make, ofLarge, once, ownOf, rightsIn, shown, t, whomOf, whomText,
+  isDeny, lastName, letterLink, listOf, make, ofLarge, once, ownOf, personText, rightsIn, shown, t, whomOf, whomText,
   withWhom } from "./common.js";
 import { NAME } from "./manifest.js";
 import { lookInto } from "./trees.js";
@@ -92,7 +92,7 @@ export async function shutOut(app, { path, kind }, entries) {
 }
 
 export function named(all) {
-  const users = [...new Set(all.map(({ user }) => user))].sort();
+  const users = [...new Set(all.map(({ user }) => personText(user)))].sort();
   const more = users.length - MOST_NAMED;
   return more > 1 ? [...users.slice(0, MOST_NAMED), t.others(more)] : users;
 }

@@ -1,5 +1,5 @@
 /** Who can see a thing, in few words: by what Share and the matrix ask the room, as far as the caller may know. */
-import { LARGE, READ, displayName, foldersAbove, inOrder, joined, once, personText, t, whomOf } from "./common.js";
+import { LARGE, READ, displayName, foldersAbove, inOrder, joined, once, t, whomOf } from "./common.js";
 import { Questions, named } from "./questions.js";
 
 const MOST_NAMES = 3; // more are counted
@@ -18,7 +18,7 @@ export class Seers {
     const key = kind === LARGE ? path : JSON.stringify([foldersAbove(path), owner, group, entries]);
     return once(this.known, key, async () => {
       const users = await this.#users(object, roster);
-      const told = users && joined(named(users.map((user) => ({ user: personText(user) }))));
+      const told = users && joined(named(users.map((user) => ({ user }))));
       return users && { told, words: this.#words(users, its, roster) };
     });
   }

@@ -191,6 +191,16 @@ def test_share_by_keys_with_people_by_name(club, browser, passed, tells):
     browser.until("it is shared", lambda: club.own(PATH) == [(0, 3, VIEW, "bob")])
 
 
+def test_share_tells_by_name_who_cannot_get_there(club, browser, board, tells):
+    tells("names.json", {"bob": "Bob Ray"})
+    club.log_in("ann")
+    club.open(PATH, "access")
+    share(browser, "Bob Ray", "Can view")
+    browser.sees("Bob Ray (bob) cannot get through /board.", "dialog")
+    browser.press("Allow", DIALOG)
+    browser.sees("Checked: the user Bob Ray (bob) can get there.", "#notices")
+
+
 def test_share_with_the_folders_owner(club, browser, board):
     """What a folder's owner may not do with what others make in it is said, and mended by one click."""
     club.open(PATH, "access")
