@@ -30,8 +30,15 @@ export function standing(path = null) {
 
 export const leave = (address) => seen.set(address, scrollY);
 
+function showFocus({ currentTarget: it }) {
+  it.blur();
+  it.focus({ preventScroll: true, focusVisible: true });
+}
+
 export function arrive(address) {
   const first = part("main").querySelector(".first, h1 button") ?? part("main").querySelector("h1");
-  first?.focus({ preventScroll: true });
+  const isLoaded = seen.size === 0; // (then nobody has used the keys yet)
+  first?.focus({ preventScroll: true, focusVisible: isLoaded ? false : undefined });
+  if (isLoaded) first?.addEventListener("keydown", showFocus, { once: true });
   scrollTo({ top: seen.get(address) ?? 0, behavior: "instant" });
 }

@@ -174,6 +174,21 @@ def test_focus_is_not_behind_notices(club, browser, long):
     assert (hidden, browser.script(HAS_FOCUS)) == ([], "0.txt")
 
 
+def test_focus_of_a_load_is_shown_by_the_first_key(club, browser, long):
+    """The name has it from the start, for who reads by ear; nobody has used the keys yet."""
+    at_name = "return document.activeElement.matches(`h1 > button${arguments[0]}`)"
+    club.log_in("ann")
+    browser.until("the name has it", lambda: browser.script(at_name, ""))
+    assert not browser.script(at_name, ":focus-visible")
+    browser.keys("x")
+    assert browser.script(at_name, ":focus-visible")
+    browser.keys("tab")
+    assert browser.script(HAS_FOCUS) == "+ New"
+    browser.script("document.querySelector('.things a.name').focus()")
+    browser.keys("enter")
+    browser.until("the next name shows it", lambda: browser.script(at_name, ":focus-visible"))
+
+
 def test_focus_is_not_behind_names_of_the_matrix(club, browser, long):
     browser.size(320, 640)
     club.open(long, "who")
