@@ -47,3 +47,15 @@ def test_sizes_are_written_as_the_language_has_them(club, browser):
     browser.until("its size", lambda: "2,5 KiB" in row(browser, "notes.txt"))
     choose(browser, "Hochladen", club.on_disk("more.txt", b"x" * 1536))
     browser.until("its end", lambda: re.search(r"1,5 KiB in \d+,\d Sekunden", browser.text_of("#notices")))
+
+
+def test_words_of_the_legend_are_whole_on_a_phone(club, browser):
+    """Also the long ones of German."""
+    club.open()
+    of_user(browser, "Deutsch")
+    browser.sees("+ Neu", "main")
+    browser.size(390, 844)
+    club.open("", "who")
+    broken = browser.script("""return [...document.querySelectorAll('.legend dt')].filter((it) => {
+      it.style.overflowWrap = 'normal'; return it.scrollWidth > it.clientWidth; }).map((it) => it.textContent)""")
+    assert broken == []
