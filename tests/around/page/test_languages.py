@@ -59,3 +59,13 @@ def test_words_of_the_legend_are_whole_on_a_phone(club, browser):
     broken = browser.script("""return [...document.querySelectorAll('.legend dt')].filter((it) => {
       it.style.overflowWrap = 'normal'; return it.scrollWidth > it.clientWidth; }).map((it) => it.textContent)""")
     assert broken == []
+
+
+def test_german_says_from_where_access_is(club, browser):
+    club.lay("/plans/")
+    club.open()
+    of_user(browser, "Deutsch")
+    browser.sees("+ Neu", "main")
+    club.open("/plans", "access")
+    browser.sees("Ansehen geerbt von /", ".given")
+    browser.sees("ann ist Eigentümer dieses Ordners, kann aber noch nicht öffnen oder bearbeiten", ".share")
