@@ -4,13 +4,15 @@ some (front/fileroom.conf). They are told to whom the room, asked now, names the
 The log names paths, and what is at a path may be another thing by now. So a line counts as long as no other one put
 something to its path or took it away, or a folder above it; where two lines of two users may have come in either order,
 neither; and only those since the room was last served from another file (service/fileroom-began). The room is asked
-first: what had come to a path by then has its line in the log that is read after SETTLED.
+first: what had come to a path by then has its line in the log that is read after SETTLED; but that of a move whose
+answer the front holds back comes behind the answer, so while one is under way nothing is told.
 """
 import json
+import random
 import time
 from dataclasses import dataclass, field
 
-from room_client.manifest import NAME, is_hidden
+from room_client.manifest import FOLDER, NAME, is_hidden
 
 from .asked import Asked, Reply
 from .names import above, below, is_below, last
@@ -19,6 +21,7 @@ from .visit import Visit
 
 MOST = 1 << 20  # bytes of the log's end
 SETTLED = 0.3  # seconds until the line of what the room has answered is there
+MOVES = 409  # the front, while a move of the room is under way
 SEES = 0x1 | 0x80  # READ_DATA or LIST_DIRECTORY, and READ_ATTRIBUTES
 DONE_MOST = 24  # bytes of a reply: {"code":0,"size":65536} is the longest of what was done, and refusals are longer
 PUTS, TAKES = ("MKDIR", "CREATE", "RENAME"), ("REMOVE", "RENAME")
@@ -32,17 +35,32 @@ def get(gate, visit: Visit, asked: Asked) -> Reply:
     names = seen(visit, folder)
     with visit.pace.floor.away():
         time.sleep(SETTLED)
-    found = Latest(asked.room, folder).of(lines(gate, asked)).found
+    found = Latest(asked.room, folder).of(lines(gate, asked)).found if is_settled(gate, visit, asked) else {}
     told = json.dumps({name: [*found[name], kind] for name, kind in names.items() if name in found})
     return Reply(200, told.encode(), [("Content-Type", "application/json")])
 
 
 def seen(visit: Visit, folder: str) -> dict[str, str]:
-    """The names there, with the kinds, of what the caller may read. (Each is asked about, whether the log has it or
-    not.)"""
+    """The names there, with the kinds, of what the caller may read, of a large file also its manifest. (Each is asked
+    about, whether the log has it or not.)"""
     names = {it: kind for it, kind in visit.children(folder).items() if not is_hidden(it)}
-    replies = visit.ask_all({"cmd": "ACCESS", "keep": False, "mask": SEES, "path": below(folder, it)} for it in names)
-    return {it: names[it] for it, reply in zip(names, replies) if reply.get("allowed") == SEES}
+    manifests = [f"{it}/{NAME}" for it, kind in names.items() if kind == FOLDER]
+    replies = visit.ask_all({"cmd": "ACCESS", "keep": False, "mask": SEES, "path": below(folder, it)}
+                            for it in [*names, *manifests])
+    shut = {it.partition("/")[0] for it, reply in zip(manifests, replies[len(names):])
+            if reply.get("allowed") != SEES and reply.get("error") != "NOENT"}
+    return {it: names[it] for it, reply in zip(names, replies) if reply.get("allowed") == SEES and it not in shut}
+
+
+def is_settled(gate, visit: Visit, asked: Asked) -> bool:
+    """Whether no move is under way. (Two who ask at once take each other for one.)"""
+    for _ in range(3):
+        target = f"{LOGS[0]}?{asked.room}"
+        if gate.seats.file_of_front(asked.user, asked.password, target, range="bytes=0-0")[0] != MOVES:
+            return True
+        with visit.pace.floor.away():
+            time.sleep(random.uniform(0.02, 0.2))
+    return False
 
 
 def lines(gate, asked: Asked) -> list[bytes]:
@@ -72,9 +90,13 @@ class Line:
 
     @property
     def changed(self) -> str:
-        """What there is now, or is another by now: of a large file its folder."""
-        path = self.paths[-1]
-        return above(path) if last(path) == NAME else path
+        """What there is now, or is another by now."""
+        return whole(self.paths[-1])
+
+
+def whole(path: str) -> str:
+    """Of a large file its folder."""
+    return above(path) if last(path) == NAME else path
 
 
 @dataclass
@@ -85,12 +107,13 @@ class Latest:
     ends: dict[str, tuple[str, float]] = field(default_factory=dict)  # by name, or "" for all: whose line, until when
     slots: dict[str, tuple] = field(default_factory=dict)  # the last request of each, and when it was first sent
     file: str = ""
+    has_skipped: bool = False
 
     def of(self, all_lines: list[bytes]) -> "Latest":
         sign = f'"slot":"{self.room}/'.encode()
         for it in all_lines:
             if not (it.startswith(b"{") and it.endswith(b"}")):
-                self.found.clear()  # (it may have been of this room)
+                self.skip()  # (it may have been of this room)
             elif sign in it:
                 self.take(it)
         return self
@@ -105,20 +128,28 @@ class Latest:
                 return
             line = self.line(its)
         except (ValueError, KeyError, TypeError, AttributeError, RecursionError):
-            self.found.clear()  # (what cannot be read may have put anything anywhere)
+            self.skip()  # (a command that was cut, or is none)
             return
         if line and line.cmd in (*CHANGES, *TAKES):
             self.act(line)
+
+    def skip(self) -> None:
+        """What cannot be read may have put anything anywhere, until the next line came."""
+        self.found.clear()
+        self.has_skipped = True
 
     def begins(self, file: str) -> None:
         """The room is served from this file."""
         if file != self.file:
             self.found.clear()
+            self.slots.clear()  # (the room may know less of them by now)
         self.file = file
 
     def line(self, its: dict) -> Line | None:
         """None of what changed nothing: it was refused, or is sent again after it was done."""
         end = float(its["end"])
+        if self.has_skipped:
+            self.ends[""], self.has_skipped = ("", end), False
         slot, _, number = its["slot"].rpartition("/")
         this, since = (its["user"], number, its["asked"]), end - float(its["took"]) - ROUNDED
         before, first, was_done = self.slots.get(slot, (None, since, False))
@@ -141,9 +172,9 @@ class Latest:
                 if path == self.folder or is_below(self.folder, path):
                     self.found.clear()
                     self.is_clear("", line)
-                elif above(path) == self.folder:
-                    self.found.pop(last(path), None)
-                    self.is_clear(last(path), line)
+                elif above(whole(path)) == self.folder:
+                    self.found.pop(last(whole(path)), None)
+                    self.is_clear(last(whole(path)), line)
         name = last(line.changed)
         if above(line.changed) == self.folder and line.cmd in CHANGES and not is_hidden(name):
             is_clear = self.is_clear(name, line)

@@ -1,9 +1,12 @@
 """Who changed what in a folder, and when, is told to whom the room shows it, and to nobody else: bob and cat look for
 what ann does where they may not."""
+import itertools
 import json
 import os
+import signal
 import subprocess
 import time
+from concurrent.futures import ThreadPoolExecutor
 from urllib.parse import quote
 
 import pytest
@@ -121,6 +124,63 @@ def test_a_name_that_is_made_anew_tells_nothing_of_the_thing_before(place):
     assert who(place, "cat", "/open/sub2") == {}
 
 
+def client_of(desk, user, number):
+    """One that writes its commands in its own way: in a session of its own, by one slot after another."""
+    where, slots = f"/rooms/plans/v1/sessions/{number:032x}", itertools.count()
+
+    def does(command):
+        got = desk.ask(user, "POST", f"{where}/slots/{next(slots)}/1", command.encode(), raw=True)
+        assert got.status == 200 and json.loads(got.body)["code"] == 0, got.body
+    assert desk.ask(user, "POST", where, b'{"slots":2}', raw=True).status == 200
+    return does
+
+
+def test_a_command_in_an_odd_form_has_its_line(place):
+    """One that begins as if it set a list takes away what is there."""
+    place.does("ann", "PUT", "/open/a", 201, BYTES)
+    odd = '{"cmd":"SETLIST","cmd":"%s","path":"/open/a","keep":[[1]],"keep":true%s}'
+    does = client_of(place, "bob", 1)
+    does(odd % ("REMOVE", ""))
+    does(odd % ("CREATE", ',"data":""'))
+    assert who(place, "cat") == {"a": "bob"}
+
+
+def test_a_move_whose_line_is_held_back(place):
+    """The answer to a move that took long comes late, and so does its line: till then nothing is told."""
+    place.does("bob", "PUT", "/open/plan", 201, BYTES)
+    place.wire("bob", "SETLIST", "/open/plan", aclflag=0, entries=[ANNS | {"flag": 0}])
+    place.wire("ann", "CREATE", "/shut/new", data="")
+    place.wire("ann", "SETLIST", "/shut/new", aclflag=0, entries=[ANNS | {"flag": 0}, CATS | {"flag": 0}])
+    assert who(place, "cat") == {}
+    does, room = client_of(place, "ann", 2), place.served.server.pid
+    with ThreadPoolExecutor(2) as crew:
+        os.kill(room, signal.SIGSTOP)
+        first = crew.submit(does, '{"cmd":"RENAME","path":"/open/plan","to":"/shut/before"}')
+        time.sleep(0.2)  # (the room has its request first)
+        second = crew.submit(does, '{"cmd":"RENAME","path":"/shut/new","to":"/open/plan"}')
+        time.sleep(0.2)
+        os.kill(room, signal.SIGCONT)
+        assert until(lambda: place.asked("cat", "STAT", "/open/plan")["code"] == 0, 10)
+        found = who(place, "cat")
+        assert not first.done() and not second.done() and found == {}
+        first.result(), second.result()
+    place.does("ann", "PUT", "/open/after", 201, BYTES)
+    found = who(place, "cat")
+    assert found["after"] == "ann" and found.get("plan") in (None, "ann")
+
+
+def test_a_large_file_has_no_dates_without_its_manifest(place):
+    """To whom that is closed, and once it is gone."""
+    place.does("ann", "PUT", "/open/large", 201, bytes(200_000))
+    assert who(place, "cat") == {"large": "ann"}
+    manifest = "/open/large/.room-file"
+    place.wire("ann", "SETLIST", manifest, aclflag=0, entries=[ANNS | {"flag": 0}])
+    assert who(place, "cat") == {}
+    assert who(place, "ann") == {"large": "ann"}
+    client_of(place, "ann", 3)('{"cmd":"REMOVE","path":"%s"}' % manifest)
+    assert who(place, "ann") == {}
+
+
 def test_a_login_that_comes_back_sees_what_it_may_see_then(place):
     place.does("ann", "PUT", "/open/a", 201, BYTES)
     users = f"{place.front.folder}/users"
@@ -199,13 +259,23 @@ IS = {"a": ("ann", 1)}
     ([MADE, line(2, "bob", "CREATE", "/f/b").replace(b"/f/b", b"f/b")], {}),
     ([MADE, line(2, "bob", "CREATE", "/f/b").replace(b"path", b"part")], {}),
     ([MADE, line(2, "bob", "SETLIST", "/f/a")], IS),
+    # and what is behind such a line may have come before
+    ([b"{", line(9, "bob", "CREATE", "/f/a", took=2)], {}),
+    ([b"{", line(9, "bob", "CREATE", "/f/b", took=2), line(9.5, "bob", "CREATE", "/f/a", took=2, number=2)], {}),
+    ([b"{", line(9, "bob", "CREATE", "/f/b"), line(9.5, "bob", "CREATE", "/f/a", took=0.1, number=2)],
+     {"a": ("bob", 9)}),
     # a room that is served from another file by now, and one that is served again
     ([MADE, served("1 2")], {}),
     ([served("1 2"), MADE, served("1 2")], IS),
     ([served("1 2"), MADE, served("3 4")], {}),
     ([served("1 2"), MADE, served("3 4", room="office")], IS),
+    # (the room may know less of its slots by then)
+    ([served("1 2"), line(1, "ann", "REMOVE", "/f/a"), served("3 4"), line(2, "bob", "CREATE", "/f/a"),
+      line(3, "ann", "REMOVE", "/f/a")], {}),
     # a large file, and what it is made of
     ([line(1, "ann", "CREATE", "/f/a/.room-file")], IS),
+    ([line(1, "ann", "CREATE", "/f/a/.room-file"), line(2, "bob", "REMOVE", "/f/a/.room-file")], {}),
+    ([line(1, "ann", "CREATE", "/f/a/.room-file"), line(2, "bob", "RENAME", "/f/a/.room-file", "/g/b")], {}),
     ([line(1, "ann", "MKDIR", "/f/.room-new-0123456789abcdef")], {}),
 ])
 def test_a_line_counts_as_long_as_it_must_be_of_what_is_there(lines, want):
@@ -247,12 +317,13 @@ def test_a_room_says_from_which_file_it_is_served(tmp_path):
 
 def test_the_log_has_what_it_needs(place):
     """No list, no owner, no piece of a large file, and nothing of bytes."""
+    log = f"{place.front.folder}/work/latest.log"
+    before = len(text_of(log).splitlines())
     place.does("bob", "PUT", "/open/words.tmp", 201, BYTES)  # (which is given a list of its own)
     place.does("bob", "PUT", "/open/large", 201, bytes(200_000))
     place.does("bob", "PUT", "/open/small", 201, b"secret words")
-    log = f"{place.front.folder}/work/latest.log"
     assert until(lambda: '/open/small' in text_of(log), 10)
-    asked = [json.loads(json.loads(it)["asked"]) for it in text_of(log).splitlines()]
+    asked = [json.loads(json.loads(it)["asked"]) for it in text_of(log).splitlines()[before:]]
     mine = [it for it in asked if it["path"].startswith("/open")]
     assert {it["cmd"] for it in asked} <= {"MKDIR", "CREATE", "WRITE", "APPEND", "RENAME", "REMOVE"}
     assert not [it for it in mine if "/.room-writing-" in it["path"] and it["cmd"] == "CREATE"]
