@@ -17,7 +17,7 @@ function askWords(whose) {
 }
 
 function lackedRight({ bit, path }, command, whose) {
-  const kind = OF_DOCUMENTS.has(command.cmd) && path === command.path ? FILE : FOLDER;
+  const kind = OF_DOCUMENTS.has(command.cmd) ? FILE : FOLDER; // (above, only passing can lack)
   const words = [READ, PASS_THROUGH].includes(bit) ? t.noAccess(shown(command.path ?? path)) :
     t.lacksRight(shown(path), rightsIn(bit, kind));
   return `${words} ${askWords(whose)}`;
