@@ -265,7 +265,8 @@ class People:
         if is_dry or not step.is_any():
             self.say("nothing was changed (--dry-run)" if is_dry else f"{room}: all is as the table has it")
             return
-        change = self.change_rosters({room: step.changed()})
+        changed = step.changed()
+        change = self.change_rosters({room: changed}) if changed else Change(self.places)
         self.leave_bounds(change, {room: step.gone})
         away = dict.fromkeys(it for it in step.gone if self.rooms_of(it) == [room])
         drawn = self.drawn_for(step.new)
@@ -273,7 +274,8 @@ class People:
         change.drawn = [*drawn]
         self.put_names(change, {**step.shown, **away})
         change.happen(lambda: self.tell_passwords(drawn, f"{room}: {len(rows)} users, as the table has it"))
-        self.until_answers(room)
+        if changed:
+            self.until_answers(room)
         for it in step.gone:
             held.let_go(self.places, room, it)
         self.trash_for(room, *step.new)
