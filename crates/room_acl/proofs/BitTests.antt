@@ -1,14 +1,12 @@
 -- Facts on bits that several proofs use.
-use Rattle.std.proofs.Common.{◌≡◌, ℕ, ◌*◌, ◌^◌, ◌<◌, ◌≤◌, refl, ap, sym, ◌∙◌, arith, ◌⊎◌, ◌≢◌, inl, inr}
-use Rattle.std.proofs.Common.{lit<, Bool, true, false, List, [], ◌∷◌}
-use Rattle.std.specs.Prelude.{bit_and, bit_or, bit_xor, not, ◌&&◌, ◌||◌, ◌==◌, cond, nat_lt}
-use Rattle.std.specs.List.{list_any, list_all}
+use Rattle.room_acl.proofs.Common.{◌≡◌, ℕ, ◌*◌, ◌^◌, ◌<◌, ◌≤◌, refl, ap, sym, ◌∙◌, arith, ◌⊎◌, ◌≢◌, inl, inr, lit<}
+use Rattle.room_acl.proofs.Common.{Bool, true, false, List, [], ◌∷◌, bit_and, bit_or, bit_xor, not, ◌&&◌, ◌||◌, ◌==◌}
+use Rattle.room_acl.proofs.Common.{cond, nat_lt, list_any, list_all, common_steps, cases_eq, cases_lt, eq-eqb, eqb-true}
+use Rattle.room_acl.proofs.Common.{ne_eqb, agree_below_at, and_parts, ltb-true, all_rights, has_bit, identifier_group}
+use Rattle.room_acl.proofs.Common.{IsMask, named_bits, mask_of, mask_of_places}
 use Rattle.std.specs.Int.{bit_at}
 use Rattle.std.proofs.lemmas.Nat.Bits.{and_pow, bit_at-lt, bit_at_and, bit_at_or, bit_at_xor, bit_at-zero}
 use Rattle.std.proofs.lemmas.Nat.Bits.{bit_at-pow_same, bit_at-pow_other, bit_at_above, same_from_bits}
-use Rattle.std.proofs.lemmas.Grind.{common_steps}
-use Rattle.std.proofs.lemmas.Bool.{cases_eq, cases_lt, eq-eqb, eqb-true, ne_eqb, agree_below_at, and_parts, ltb-true}
-use Rattle.room_acl.specs.Bits.{all_rights, has_bit, identifier_group, IsMask, named_bits, mask_of, mask_of_places}
 
 -- a bit is 0 or 1
 pub bit_cases : (n k : ℕ) → (bit_at n k ≡ 0) ⊎ (bit_at n k ≡ 1)

@@ -1,17 +1,10 @@
 -- The decision of a list, and its mask of allowed rights, in the standard's words.
-use Rattle.std.proofs.Common.{◌≡◌, ℕ, ◌^◌, ◌<◌, refl, ap, sym, ◌∙◌, arith, Bool, true, false, List}
-use Rattle.std.proofs.Common.{Option, Some, None, inl, inr}
-use Rattle.std.specs.Prelude.{◌&&◌, ◌↔◌, not, IsTrue}
-use Rattle.std.proofs.lemmas.Grind.{common_steps}
-use Rattle.std.proofs.lemmas.Bool.{and_parts, cases_lt, or_cases, or_left, or_right}
-use Rattle.room_acl.specs.declared.subject.Standing.{Standing}
+use Rattle.room_acl.proofs.Common.{◌≡◌, ℕ, ◌^◌, ◌<◌, refl, ap, sym, ◌∙◌, arith, Bool, true, false, List, Option, Some}
+use Rattle.room_acl.proofs.Common.{None, inl, inr, ◌&&◌, ◌↔◌, not, IsTrue, common_steps, and_parts, cases_lt, or_cases}
+use Rattle.room_acl.proofs.Common.{or_left, or_right, Standing, Allowed, Denied, all_rights, has_bit, named_bits}
+use Rattle.room_acl.proofs.Common.{IsMask, SubjectModel, EntryModel, allows_bit, entries_allow, owner_may, allowed_mask}
+use Rattle.room_acl.proofs.Common.{refused_bit, decision, decision_by, AllowsBit, AllowsMask, IsLowestRefused}
 use Rattle.room_acl.specs.declared.access.Decision.{Decision}
-use Rattle.room_acl.specs.declared.access.Decision.TheVariants.{Allowed, Denied}
-use Rattle.room_acl.specs.Bits.{all_rights, has_bit, named_bits, IsMask}
-use Rattle.room_acl.specs.SubjectModel.{SubjectModel}
-use Rattle.room_acl.specs.Entries.{EntryModel}
-use Rattle.room_acl.specs.Access.{allows_bit, entries_allow, owner_may, allowed_mask, refused_bit}
-use Rattle.room_acl.specs.Access.{decision, decision_by, AllowsBit, AllowsMask, IsLowestRefused}
 use Rattle.room_acl.proofs.BitTests.{has_bit-mask_of, wanted_is_named}
 use Rattle.room_acl.proofs.FirstEntry.{EntriesAllow-from_test, test-from_EntriesAllow}
 use Rattle.room_acl.proofs.Lowest.{found_passes, none_passes, lower_fails}

@@ -1,15 +1,8 @@
 -- Worked examples, computed by the definitions.
-use Rattle.std.proofs.Common.{◌≡◌, ℕ, refl, true, false, List, [], ◌∷◌, Some}
-use Rattle.std.specs.Prelude.{codes, replicate}
-use Rattle.room_acl.specs.declared.who.Who.{Who}
-use Rattle.room_acl.specs.declared.who.Who.TheVariants.{Owner, Everyone, User, Members}
-use Rattle.room_acl.specs.declared.subject.Standing.{Standing}
+use Rattle.room_acl.proofs.Common.{◌≡◌, ℕ, refl, true, false, List, [], ◌∷◌, Some, codes, replicate, Who, Owner}
+use Rattle.room_acl.proofs.Common.{Everyone, User, Members, Standing, Allowed, Denied, SubjectModel, EntryModel}
+use Rattle.room_acl.proofs.Common.{decision, allowed_mask, handed_down, own_entries_fault}
 use Rattle.room_acl.specs.declared.subject.Kind.TheVariants.{File, Folder}
-use Rattle.room_acl.specs.declared.access.Decision.TheVariants.{Allowed, Denied}
-use Rattle.room_acl.specs.SubjectModel.{SubjectModel}
-use Rattle.room_acl.specs.Entries.{EntryModel}
-use Rattle.room_acl.specs.Access.{decision, allowed_mask}
-use Rattle.room_acl.specs.Inheritance.{handed_down, own_entries_fault}
 use Rattle.room_acl.specs.declared.inheritance.ListFault.TheVariants.{Inval, AttrNotSupp}
 
 abbrev ann : List ℕ

@@ -1,12 +1,7 @@
 -- The test of a bit says what the words say.
-use Rattle.std.proofs.Common.{◌≡◌, ℕ, refl, ap, true, false, inl, inr, List, [], ◌∷◌, ◌++◌}
-use Rattle.std.specs.Prelude.{not, IsTrue}
-use Rattle.std.specs.List.{AllByRecursion}
-use Rattle.std.proofs.lemmas.Bool.{cases_Bool, not-true}
-use Rattle.room_acl.specs.declared.subject.Standing.{Standing}
-use Rattle.room_acl.specs.SubjectModel.{SubjectModel}
-use Rattle.room_acl.specs.Entries.{EntryModel}
-use Rattle.room_acl.specs.Access.{entries_allow, decides, EntriesAllow}
+use Rattle.room_acl.proofs.Common.{◌≡◌, ℕ, refl, ap, true, false, inl, inr, List, [], ◌∷◌, ◌++◌, not, IsTrue}
+use Rattle.room_acl.proofs.Common.{AllByRecursion, cases_Bool, not-true, Standing, SubjectModel, EntryModel}
+use Rattle.room_acl.proofs.Common.{entries_allow, decides, EntriesAllow}
 
 module _ (caller : SubjectModel) (standing : Standing) (bit : ℕ) where
   pub EntriesAllow-from_test : (entries : List EntryModel)

@@ -1,3 +1,4 @@
+mod Common
 pub mod BitTests
 pub mod Steps
 pub mod FirstEntry

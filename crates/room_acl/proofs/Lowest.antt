@@ -1,9 +1,7 @@
 -- The first of rising numbers that passes a test is the lowest that does.
-use Rattle.std.proofs.Common.{◌≡◌, ℕ, ◌+◌, ◌<◌, ◌≤◌, ap, sym, ◌∙◌, arith, Bool, true, false, List, []}
-use Rattle.std.proofs.Common.{◌∷◌, Some, None, inl, inr, ◌⊎◌}
-use Rattle.std.specs.Prelude.{◌&&◌, ◌||◌, ◌==◌, nat_le}
-use Rattle.std.specs.List.{find, list_any}
-use Rattle.std.proofs.lemmas.Bool.{and_parts, leb-true, cases_Bool, cases_eq, ne_eqb}
+use Rattle.room_acl.proofs.Common.{◌≡◌, ℕ, ◌+◌, ◌<◌, ◌≤◌, ap, sym, ◌∙◌, arith, Bool, true, false, List, [], ◌∷◌, Some}
+use Rattle.room_acl.proofs.Common.{None, inl, inr, ◌⊎◌, ◌&&◌, ◌||◌, ◌==◌, nat_le, find, list_any, and_parts, leb-true}
+use Rattle.room_acl.proofs.Common.{cases_Bool, cases_eq, ne_eqb}
 
 -- the numbers rise, from low on
 abbrev pub is_rising : ℕ → List ℕ → Bool

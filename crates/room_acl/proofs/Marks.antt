@@ -1,9 +1,6 @@
 -- Flags with the mark cleared.
-use Rattle.std.proofs.Common.{◌≡◌, ℕ, ◌<◌, ap, sym, ◌∙◌, arith, bit_and, ◌==◌}
-use Rattle.std.proofs.lemmas.Grind.{common_steps}
-use Rattle.std.proofs.lemmas.Bool.{eq-eqb, eqb-true}
-use Rattle.std.proofs.lemmas.Nat.{and_assoc}
-use Rattle.room_acl.specs.Bits.{IsFlags, identifier_group, without_inherited}
+use Rattle.room_acl.proofs.Common.{◌≡◌, ℕ, ◌<◌, ap, sym, ◌∙◌, arith, bit_and, ◌==◌, common_steps, eq-eqb, eqb-true}
+use Rattle.room_acl.proofs.Common.{and_assoc, IsFlags, identifier_group, without_inherited}
 
 -- the flags without the mark
 pub cleared_flags : (f : ℕ) → f < 256 → without_inherited f ≡ bit_and f 0x7F

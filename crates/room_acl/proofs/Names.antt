@@ -1,14 +1,13 @@
 -- The names of rights and flags agree with their numbers and their places.
-use Rattle.std.proofs.Common.{◌≡◌, ◌-◌, ◌^◌, ℕ, refl, true, false, List, [], ◌∷◌, map}
-use Rattle.room_acl.specs.Bits.{read_data, list_directory, write_data, add_file, append_data, add_subdirectory}
-use Rattle.room_acl.specs.Bits.{read_named_attrs, write_named_attrs, execute, delete_child, read_attributes}
-use Rattle.room_acl.specs.Bits.{write_attributes, write_retention, write_retention_hold, delete_object, read_acl}
-use Rattle.room_acl.specs.Bits.{write_acl, write_owner, synchronize, all_rights, named_bits, file_inherit_flag}
-use Rattle.room_acl.specs.Bits.{directory_inherit_flag, no_propagate_flag, inherit_only_flag, identifier_group_flag}
-use Rattle.room_acl.specs.Bits.{inherited_flag, inheritance_flags, all_flags, all_list_flags}
-use Rattle.room_acl.specs.Bits.{file_inherit, directory_inherit, no_propagate}
-use Rattle.room_acl.specs.Bits.{inherit_only, identifier_group, is_inherited}
-use Rattle.room_acl.specs.Inheritance.{mark_alone, mark_for_folders, mark_for_files, mark_for_both}
+use Rattle.room_acl.proofs.Common.{◌≡◌, ◌-◌, ◌^◌, ℕ, refl, true, false, List, [], ◌∷◌, map, read_data, list_directory}
+use Rattle.room_acl.proofs.Common.{write_data, add_file, append_data, add_subdirectory, read_named_attrs}
+use Rattle.room_acl.proofs.Common.{write_named_attrs, execute, delete_child, read_attributes, write_attributes}
+use Rattle.room_acl.proofs.Common.{write_retention, write_retention_hold, delete_object, read_acl, write_acl}
+use Rattle.room_acl.proofs.Common.{write_owner, synchronize, all_rights, named_bits, file_inherit_flag}
+use Rattle.room_acl.proofs.Common.{directory_inherit_flag, no_propagate_flag, inherit_only_flag, identifier_group_flag}
+use Rattle.room_acl.proofs.Common.{inherited_flag, inheritance_flags, all_flags, all_list_flags, file_inherit}
+use Rattle.room_acl.proofs.Common.{directory_inherit, no_propagate, inherit_only, identifier_group, is_inherited}
+use Rattle.room_acl.proofs.Common.{mark_alone, mark_for_folders, mark_for_files, mark_for_both}
 
 rights : List ℕ
 rights =

@@ -1,13 +1,8 @@
 -- What the owner's rule gives, and what it does not.
-use Rattle.std.proofs.Common.{◌≡◌, ℕ, refl, ap, ◌∙◌, Bool, true, false, List}
-use Rattle.std.specs.Prelude.{not, ◌&&◌, ◌||◌}
-use Rattle.std.specs.List.{find}
-use Rattle.room_acl.specs.declared.subject.Standing.{Standing}
-use Rattle.room_acl.specs.declared.access.Decision.TheVariants.{Allowed}
-use Rattle.room_acl.specs.Bits.{has_bit, named_bits, mask_of, owner_rights, read_acl, write_acl}
-use Rattle.room_acl.specs.SubjectModel.{SubjectModel}
-use Rattle.room_acl.specs.Entries.{EntryModel}
-use Rattle.room_acl.specs.Access.{allows_bit, allowed_mask, decision, decision_by, entries_allow, is_owner}
+use Rattle.room_acl.proofs.Common.{◌≡◌, ℕ, refl, ap, ◌∙◌, Bool, true, false, List, not, ◌&&◌, ◌||◌, find, Standing}
+use Rattle.room_acl.proofs.Common.{Allowed, has_bit, named_bits, mask_of, owner_rights, read_acl, write_acl}
+use Rattle.room_acl.proofs.Common.{SubjectModel, EntryModel, allows_bit, allowed_mask, decision, decision_by}
+use Rattle.room_acl.proofs.Common.{entries_allow, is_owner}
 
 -- no bit at all: a bit that is not the owner's adds nothing
 not_owners : (o a : Bool) → ((o && false) || a) ≡ a

@@ -1,20 +1,13 @@
 -- One entry of a list, as a walk over the list takes it.
-use Rattle.std.proofs.Common.{◌≡◌, ℕ, ◌+◌, ◌*◌, ◌%◌, ◌^◌, ◌<◌, ◌≤◌, refl, ap, sym, ◌∙◌, Bool, true, false}
-use Rattle.std.proofs.Common.{arith, inl, inr, List, [], ◌∷◌, drop, length, get_or, Some}
-use Rattle.std.specs.Prelude.{not, ◌&&◌, ◌||◌, cond, bit_and, bit_or, bit_xor, nat_lt}
-use Rattle.std.specs.List.{find}
+use Rattle.room_acl.proofs.Common.{◌≡◌, ℕ, ◌+◌, ◌*◌, ◌%◌, ◌^◌, ◌<◌, ◌≤◌, refl, ap, sym, ◌∙◌, Bool, true, false, arith}
+use Rattle.room_acl.proofs.Common.{inl, inr, List, [], ◌∷◌, drop, length, get_or, Some, not, ◌&&◌, ◌||◌, cond, bit_and}
+use Rattle.room_acl.proofs.Common.{bit_or, bit_xor, nat_lt, find, eq-eqb, eqb-true, ltb-true, agree_below_at}
+use Rattle.room_acl.proofs.Common.{cases_Bool, common_steps, one_shl, Standing, all_rights, has_bit, named_bits, IsMask}
+use Rattle.room_acl.proofs.Common.{SubjectModel, EntryModel, entries_allow, allows_bit, owner_may, applies, decides}
+use Rattle.room_acl.proofs.Common.{decision_by, Denied}
 use Rattle.std.proofs.lemmas.List.{at_drop_more, drop_more, drop_all}
-use Rattle.std.proofs.lemmas.Bool.{eq-eqb, eqb-true, ltb-true, agree_below_at, cases_Bool}
 use Rattle.std.proofs.Math.Bool.{and-true}
-use Rattle.std.proofs.lemmas.Grind.{common_steps}
-use Rattle.std.proofs.lemmas.Nat.{one_shl}
-use Rattle.room_acl.specs.declared.subject.Standing.{Standing}
-use Rattle.room_acl.specs.Bits.{all_rights, has_bit, named_bits, IsMask}
-use Rattle.room_acl.specs.SubjectModel.{SubjectModel}
-use Rattle.room_acl.specs.Entries.{EntryModel}
-use Rattle.room_acl.specs.Access.{entries_allow, allows_bit, owner_may, applies, decides, decision_by}
 use Rattle.room_acl.specs.Pending.{PendingModel, refuses_with}
-use Rattle.room_acl.specs.declared.access.Decision.TheVariants.{Denied}
 use Rattle.room_acl.proofs.BitTests.{has_bit-none, has_bit-or, has_bit-and, has_bit-without, same_bits}
 
 -- an applying entry decides the bits that it names

@@ -1,10 +1,9 @@
 -- What equality of names, one after another, says of lists and of subjects.
-use Rattle.std.proofs.Common.{◌≡◌, ◌≢◌, List, true, false, ℕ, refl, ap₂}
+use Rattle.room_acl.proofs.Common.{◌≡◌, ◌≢◌, List, true, false, ℕ, refl, ap₂, SubjectModel}
 use Rattle.std.specs.Cmp.Lexicographic.{pointwise}
 use Rattle.std.specs.Str.{bytes_eq}
 use Rattle.std.proofs.lemmas.Bool.Decides.{not_from_Decides}
 use Rattle.std.proofs.lemmas.Slice.Eq.{slice_eq-Decides, bytes_eq-Decides}
-use Rattle.room_acl.specs.SubjectModel.{SubjectModel}
 
 abbrev pub subject_of : List ℕ → List (List ℕ) → SubjectModel
 subject_of name groups = record { name = name; groups = groups }

@@ -1,21 +1,15 @@
 -- What is handed down: by whom the flags are read, and what comes of handing down twice.
-use Rattle.std.proofs.Common.{◌≡◌, ℕ, refl, ap, sym, ◌∙◌, Bool, true, false, List, [], ◌∷◌}
-use Rattle.std.proofs.Common.{Option, Some, None, inl, inr, arith}
-use Rattle.std.specs.Prelude.{◌&&◌, ◌==◌, not, cond, bit_and, bit_or}
-use Rattle.std.specs.List.{list_all, AllByRecursion, cons_option}
+use Rattle.room_acl.proofs.Common.{◌≡◌, ℕ, refl, ap, sym, ◌∙◌, Bool, true, false, List, [], ◌∷◌, Option, Some, None}
+use Rattle.room_acl.proofs.Common.{inl, inr, arith, ◌&&◌, ◌==◌, not, cond, bit_and, bit_or, list_all, AllByRecursion}
+use Rattle.room_acl.proofs.Common.{cons_option, common_steps, and_parts, Who, Everyone, IsFlags, all_flags}
+use Rattle.room_acl.proofs.Common.{identifier_group_flag, file_inherit, directory_inherit, no_propagate}
+use Rattle.room_acl.proofs.Common.{identifier_group, is_inherited, EntryModel, IsEntry, names_its_kind, table_row}
+use Rattle.room_acl.proofs.Common.{in_column, flags_handed_down, flags_with_group, entry_handed_down, handed_down}
+use Rattle.room_acl.proofs.Common.{travelling, may_be_own, HandsDownTwice, HandsDownMarked, HandsDownEntries}
+use Rattle.room_acl.proofs.Common.{HandsDownToOwn}
 use Rattle.std.specs.Option.{option_map, option_map_or, option_and_then}
-use Rattle.std.proofs.lemmas.Grind.{common_steps}
-use Rattle.std.proofs.lemmas.Bool.{and_parts}
 use Rattle.room_acl.specs.declared.subject.Kind.{Kind}
 use Rattle.room_acl.specs.declared.subject.Kind.TheVariants.{File, Folder}
-use Rattle.room_acl.specs.declared.who.Who.{Who}
-use Rattle.room_acl.specs.declared.who.Who.TheVariants.{Everyone}
-use Rattle.room_acl.specs.Bits.{IsFlags, all_flags, identifier_group_flag, file_inherit, directory_inherit}
-use Rattle.room_acl.specs.Bits.{no_propagate, identifier_group, is_inherited}
-use Rattle.room_acl.specs.Entries.{EntryModel, IsEntry, names_its_kind}
-use Rattle.room_acl.specs.Inheritance.{table_row, in_column, flags_handed_down, flags_with_group, entry_handed_down}
-use Rattle.room_acl.specs.Inheritance.{handed_down, travelling, may_be_own, HandsDownTwice, HandsDownMarked}
-use Rattle.room_acl.specs.Inheritance.{HandsDownEntries, HandsDownToOwn}
 use Rattle.room_acl.proofs.BitTests.{group_alone}
 
 -- the flags given, where the source's IDENTIFIER_GROUP is g

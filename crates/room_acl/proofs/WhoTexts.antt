@@ -1,18 +1,15 @@
 -- The texts of whom entries name: their bytes, and whom they are read back as.
-use Rattle.std.proofs.Common.{◌≡◌, ◌<◌, ◌∙◌, ℕ, Bool, true, false, List, [], ◌∷◌, length, cond, refl, sym, ap, arith}
-use Rattle.std.specs.Prelude.{IsTrue, IsUtf8, not, nat_le, nat_lt, ◌&&◌}
-use Rattle.std.specs.List.{list_all}
+use Rattle.room_acl.proofs.Common.{◌≡◌, ◌<◌, ◌∙◌, ℕ, Bool, true, false, List, [], ◌∷◌, length, cond, refl, sym, ap}
+use Rattle.room_acl.proofs.Common.{arith, IsTrue, IsUtf8, not, nat_le, nat_lt, ◌&&◌, list_all, and_parts, ltb-true}
+use Rattle.room_acl.proofs.Common.{false_from_ne_true, true≢false, Who, Owner, Group, Everyone, User, Members}
+use Rattle.room_acl.proofs.Common.{identifier_group, IsWho, names_its_kind, who_of, who_text, owner_text, group_text}
+use Rattle.room_acl.proofs.Common.{everyone_text}
 use Rattle.std.specs.Str.{IsAscii, bytes_eq}
-use Rattle.std.proofs.lemmas.Bool.{and_parts, ltb-true, false_from_ne_true, true≢false}
 use Rattle.std.proofs.lemmas.Bool.Decides.{nat_tests}
 use Rattle.std.proofs.lemmas.Slice.Eq.{bytes_eq-Decides}
 use Rattle.std.proofs.lemmas.Str.{IsUtf8-from_ascii}
 use Rattle.std.proofs.lemmas.Str.Ascii.{IsAscii-nil, IsAscii-cons}
-use Rattle.room_acl.specs.declared.who.Who.{Who}
-use Rattle.room_acl.specs.declared.who.Who.TheVariants.{Owner, Group, Everyone, User, Members}
-use Rattle.room_acl.specs.Bits.{identifier_group}
 use Rattle.room_acl.specs.Principals.{IsPrincipal, is_principal_byte, max_principal_bytes}
-use Rattle.room_acl.specs.Entries.{IsWho, names_its_kind, who_of, who_text, owner_text, group_text, everyone_text}
 
 -- the bytes of a principal are its own
 principal_bytes : (text : List ℕ) → IsPrincipal text → list_all is_principal_byte text ≡ true

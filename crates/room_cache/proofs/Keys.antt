@@ -1,11 +1,9 @@
 -- Keys that a map tells apart.
-use Rattle.std.proofs.Common.{◌≡◌, ℕ, ap, sym, ◌∙◌, refl, true, false, List}
-use Rattle.std.specs.Ordering.{is_eq, eq_by_cmp}
+use Rattle.room_cache.proofs.Common.{◌≡◌, ℕ, ap, sym, ◌∙◌, refl, true, false, List, is_eq, eq_by_cmp, name_cmp}
 use Rattle.std.specs.declared.cmp.Ordering.{Ordering}
 use Rattle.std.specs.declared.cmp.Ordering.TheVariants.{Less, Equal, Greater}
 use Rattle.std.proofs.lemmas.Cmp.{tied_itself, nat_list_cmp_total}
 use Rattle.std.proofs.lemmas.Map.Lookups.{exact_bytes}
-use Rattle.room_records.specs.Names.{name_cmp}
 
 is_equal : (order : Ordering) → is_eq order ≡ true → order ≡ Equal
 is_equal Less is = absurd cc

@@ -1,18 +1,10 @@
 -- What changes leave is still true.
-use Rattle.std.proofs.Common.{◌≡◌, ℕ, refl, ap, ◌∙◌, sym, subst, List, [], ◌∷◌, Option, None, Some}
-use Rattle.std.proofs.Common.{IfSome, IsSome, true, false}
+use Rattle.room_cache.proofs.Common.{◌≡◌, ℕ, refl, ap, ◌∙◌, sym, subst, List, [], ◌∷◌, Option, None, Some, IfSome}
+use Rattle.room_cache.proofs.Common.{IsSome, true, false, Change, ObjectRecords, Records, Leave, Untouched}
+use Rattle.room_cache.proofs.Common.{apply_change, Known, IsTrueOf, IsDecidedBy, IsLeft, AreKept, IsKept, row_at}
+use Rattle.room_cache.proofs.Common.{nat_cmp, Name, name_cmp, slot_cmp}
 use Rattle.room_acl.specs.Entries.{EntryModel}
 use Rattle.room_slots.specs.KeptModel.{KeptModel}
-use Rattle.room_records.specs.declared.change.Change.{Change}
-use Rattle.room_records.specs.Records.{ObjectRecords, Records}
-use Rattle.room_records.specs.Changes.{Leave, Untouched, apply_change}
-use Rattle.room_cache.specs.declared.known.Known.{Known}
-use Rattle.room_cache.specs.Known.{IsTrueOf, IsDecidedBy, IsLeft}
-use Rattle.room_cache.specs.Slots.{AreKept, IsKept}
-use Rattle.room_cache.specs.Rows.{row_at}
-use Rattle.std.specs.Ordering.{nat_cmp}
-use Rattle.room_records.specs.Names.{Name, name_cmp}
-use Rattle.room_records.specs.Sessions.{slot_cmp}
 
 for_some : {X : Type 0} (P : X → Type 0) (o : Option X) → ((x : X) → o ≡ Some x → P x) → IfSome o P
 for_some P None each = tt

@@ -1,18 +1,13 @@
 -- Decisions that are remembered.
-use Rattle.std.proofs.Common.{◌≡◌, ℕ, refl, true, List, [], Option, None, Some}
-use Rattle.std.proofs.Common.{IfSome, unwrap_or, arith}
+use Rattle.room_cache.proofs.Common.{◌≡◌, ℕ, refl, true, List, [], Option, None, Some, IfSome, unwrap_or, arith}
+use Rattle.room_cache.proofs.Common.{eq_by_cmp, nat_cmp, Records, row_at, Known, IsTrueOf}
 use Rattle.std.specs.List.{Contains}
-use Rattle.std.specs.Ordering.{eq_by_cmp, nat_cmp}
 use Rattle.std.specs.Cmp.{unsigned_tied}
 use Rattle.room_acl.specs.declared.access.Decision.{Decision}
 use Rattle.room_acl.specs.declared.subject.Standing.{Standing}
 use Rattle.room_acl.specs.SubjectModel.{SubjectModel}
 use Rattle.room_acl.specs.Access.{decision}
-use Rattle.room_records.specs.Records.{Records}
-use Rattle.room_cache.specs.Rows.{row_at}
 use Rattle.room_cache.specs.declared.decisions.Decided.{Decided}
-use Rattle.room_cache.specs.declared.known.Known.{Known}
-use Rattle.room_cache.specs.Known.{IsTrueOf}
 
 -- what is found among an object's decisions is what its entries decide
 pub found_true : (r : Records) (known : Known) (id : ℕ) (made : List Decided) (subject : SubjectModel)

@@ -1,22 +1,14 @@
 -- What is remembered of slots, after calls.
-use Rattle.std.proofs.Common.{◌≡◌, ℕ, ◌<◌, refl, ap, sym, ◌∙◌, subst, true, false, Bool, cond, inl, inr, ◌⊎◌, ◌&&◌}
-use Rattle.std.proofs.Common.{◌==◌, List, Option, None, Some}
-use Rattle.std.specs.Ordering.{is_eq, eq_by_cmp}
+use Rattle.room_cache.proofs.Common.{◌≡◌, ℕ, ◌<◌, refl, ap, sym, ◌∙◌, subst, true, false, Bool, cond, inl, inr, ◌⊎◌}
+use Rattle.room_cache.proofs.Common.{◌&&◌, ◌==◌, List, Option, None, Some, is_eq, eq_by_cmp, PutSlot, apply_change}
+use Rattle.room_cache.proofs.Common.{Name, Records, slot_cmp, row_at, AreKept, IsKept, SlotFact}
 use Rattle.std.proofs.lemmas.Cmp.{tied_itself}
 use Rattle.std.proofs.lemmas.Map.Views.{tells_apart}
 use Rattle.room_slots.specs.KeptModel.{KeptModel}
-use Rattle.room_records.specs.declared.change.Change.TheVariants.{PutSlot}
 use Rattle.room_records.specs.declared.session.SlotRow.{SlotRow}
-use Rattle.room_records.specs.Changes.{apply_change}
 use Rattle.room_records.specs.Limits.{max_slots}
-use Rattle.room_records.specs.Names.{Name}
-use Rattle.room_records.specs.Records.{Records}
-use Rattle.room_records.specs.Sessions.{slot_cmp}
 use Rattle.room_records.proofs.SessionKeys.{exact_slots, name_test, number_test, slot_total}
 use Rattle.room_cache.proofs.Left.{none_some}
-use Rattle.room_cache.specs.Rows.{row_at}
-use Rattle.room_cache.specs.Slots.{AreKept, IsKept}
-use Rattle.room_cache.specs.declared.slots.SlotFact.{SlotFact}
 use Rattle.room_cache.specs.declared.slots.SlotFact.TheVariants.{Number, Whole}
 
 -- nothing is remembered

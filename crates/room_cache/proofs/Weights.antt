@@ -1,12 +1,10 @@
 -- What rows weigh, after calls.
-use Rattle.std.proofs.Common.{◌≡◌, ◌≤◌, ◌+◌, ℕ, Bool, true, false, cond, List, [], ◌∷◌, arith}
-use Rattle.std.proofs.Common.{Result, Ok, Err, OnOk, OnErr}
+use Rattle.room_cache.proofs.Common.{◌≡◌, ◌≤◌, ◌+◌, ℕ, Bool, true, false, cond, List, [], ◌∷◌, arith, Result, Ok, Err}
+use Rattle.room_cache.proofs.Common.{OnOk, OnErr, match_ordering, weight}
 use Rattle.std.specs.BTreeMap.{insert_entry}
 use Rattle.std.specs.Map.{remove_entry}
-use Rattle.std.specs.Ordering.{match_ordering}
 use Rattle.std.specs.declared.cmp.Ordering.{Ordering}
 use Rattle.std.specs.declared.cmp.Ordering.TheVariants.{Less, Equal, Greater}
-use Rattle.room_cache.specs.Rows.{weight}
 
 module _ {K V : Type 0} (w : V → ℕ) where
   pub removed : (test : K → Bool) (rows : List (K × V)) → weight w (remove_entry test rows) ≤ weight w rows

@@ -1,35 +1,22 @@
 -- A command that changes bytes alone leaves rooms that look alike so.
-use Rattle.std.proofs.Common.{◌≡◌, ℕ, ◌+◌, refl, ap, sym, ◌∙◌, Bool, true, false, not, ◌&&◌, ◌||◌, List}
-use Rattle.std.proofs.Common.{◌++◌, length, Option, None, Some, ◌==◌, cond, option_map, length-append}
-use Rattle.std.specs.Prelude.{is_none, Result}
-use Rattle.room_acl.specs.declared.subject.Kind.{Kind}
-use Rattle.room_acl.specs.declared.subject.Kind.TheVariants.{File, Folder}
-use Rattle.room_acl.specs.Bits.{read_data, list_directory, add_file, append_data, add_subdirectory, read_attributes}
-use Rattle.room_acl.specs.Bits.{read_acl, delete_object, delete_child}
-use Rattle.room_acl.specs.SubjectModel.{SubjectModel}
-use Rattle.room_acl.specs.Entries.{EntryModel}
-use Rattle.room_acl.specs.Access.{allowed_mask}
-use Rattle.room_records.specs.Names.{Name, Path, path_eq}
-use Rattle.room_records.specs.Room.{Object, Room, IsRoom, object_at, children, list_of, standing_of, parent_of}
-use Rattle.room_records.proofs.RoomsMap.{none_is_some, same_path}
-use Rattle.room_records.proofs.RoomsLists.{without_bytes, lists_without_bytes}
-use Rattle.room_commands.specs.CommandModel.{CommandModel}
+use Rattle.room_commands.proofs.Common.{◌≡◌, ℕ, ◌+◌, refl, ap, sym, ◌∙◌, Bool, true, false, not, ◌&&◌, ◌||◌, List, ◌++◌}
+use Rattle.room_commands.proofs.Common.{length, Option, None, Some, ◌==◌, cond, option_map, length-append, is_none}
+use Rattle.room_commands.proofs.Common.{Result, Kind, File, Folder, read_data, list_directory, add_file, append_data}
+use Rattle.room_commands.proofs.Common.{add_subdirectory, read_attributes, read_acl, delete_object, delete_child}
+use Rattle.room_commands.proofs.Common.{SubjectModel, EntryModel, allowed_mask, Name, Path, path_eq, Object, Room}
+use Rattle.room_commands.proofs.Common.{IsRoom, object_at, children, list_of, standing_of, parent_of, none_is_some}
+use Rattle.room_commands.proofs.Common.{same_path, without_bytes, lists_without_bytes, CommandModel, Refusal}
+use Rattle.room_commands.proofs.Common.{Attributes, IsLawful, first_refusal, checks, check_right, walk, is_file}
+use Rattle.room_commands.proofs.Common.{is_root, is_kind, check_exists, check_file, effect, effect_by, changed}
+use Rattle.room_commands.proofs.Common.{with_object, size_of, LooksAlike, Sight, may, may_remove, depth_in, sight_of}
+use Rattle.room_commands.proofs.Common.{view, changes_bytes_alone, handed_to, object_or_default, then_some}
 use Rattle.room_commands.specs.CommandModel as C
-use Rattle.room_commands.specs.ReplyModel.{Refusal, Attributes}
-use Rattle.room_commands.specs.Lawful.{IsLawful}
-use Rattle.room_commands.specs.Checks.{first_refusal, checks, check_right, walk, is_file}
-use Rattle.room_commands.specs.Checks.{is_root, is_kind, check_exists, check_file}
-use Rattle.room_commands.specs.Effect.{effect, effect_by, changed, with_object, size_of}
-use Rattle.room_commands.specs.Sight.{LooksAlike, Sight, may, may_remove, depth_in, sight_of}
-use Rattle.room_commands.specs.Sight.{view, changes_bytes_alone, handed_to}
 use Rattle.room_commands.proofs.Rights.{all_none}
 use Rattle.room_commands.proofs.ChecksTell.{exists_there, file_there}
 use Rattle.room_commands.proofs.RoomsObject.{after_change, children_stay, depth_stays}
 use Rattle.room_commands.proofs.RoomLaws.{right_alike, walk_alike, bytes_stay_out}
 use Rattle.room_commands.proofs.NothingShows.{refused_alike, in_turn}
-use Rattle.room_commands.specs.Checks.{object_or_default}
 use Rattle.room_commands.proofs.Shorthands.{bytes_of, handed_by, if_reached, seen_less, or_no_object}
-use Rattle.std.specs.Bool.{then_some}
 
 -- what a sight is made of, besides the object
 pub record Facts : Type 0 where

@@ -1,19 +1,12 @@
 -- What a check that passes tells of the room.
-use Rattle.std.proofs.Common.{◌≡◌, ℕ, ◌+◌, ◌-◌, ◌<◌, ◌≤◌, refl, ap, sym, ◌∙◌, arith, Bool, true, false}
-use Rattle.std.proofs.Common.{[], ◌∷◌, ◌++◌, length, Option, None, Some, is_some, nat_lt, nat_le}
-use Rattle.std.proofs.lemmas.Bool.{ltb-false, leb-false, not-false}
-use Rattle.room_acl.specs.declared.subject.Kind.{Kind}
-use Rattle.room_acl.specs.declared.subject.Kind.TheVariants.{File, Folder}
-use Rattle.room_acl.specs.SubjectModel.{SubjectModel}
-use Rattle.room_acl.specs.Bits.{execute}
-use Rattle.room_records.specs.Limits.{max_names, max_children, max_document}
-use Rattle.room_records.specs.Names.{Name, Path}
-use Rattle.room_records.specs.Room.{Object, Room, object_at, children}
-use Rattle.room_records.proofs.RoomsMap.{none_is_some, found_stands}
-use Rattle.room_commands.specs.declared.reply.RefusalCode.{RefusalCode}
-use Rattle.room_commands.specs.Checks.{refuse_if, is_kind, is_file, check_exists, check_absent, check_folder}
-use Rattle.room_commands.specs.Checks.{check_file, check_right, walk, prefix_refusal, check_size}
-use Rattle.room_commands.specs.Checks.{check_folder_full, check_depth, depth_in, is_at_or_below}
+use Rattle.room_commands.proofs.Common.{◌≡◌, ℕ, ◌+◌, ◌-◌, ◌<◌, ◌≤◌, refl, ap, sym, ◌∙◌, arith, Bool, true, false, []}
+use Rattle.room_commands.proofs.Common.{◌∷◌, ◌++◌, length, Option, None, Some, is_some, nat_lt, nat_le, ltb-false}
+use Rattle.room_commands.proofs.Common.{leb-false, not-false, Kind, File, Folder, SubjectModel, execute, max_names}
+use Rattle.room_commands.proofs.Common.{max_children, max_document, Name, Path, Object, Room, object_at, children}
+use Rattle.room_commands.proofs.Common.{none_is_some, found_stands, RefusalCode, refuse_if, is_kind, is_file}
+use Rattle.room_commands.proofs.Common.{check_exists, check_absent, check_folder, check_file, check_right, walk}
+use Rattle.room_commands.proofs.Common.{prefix_refusal, check_size, check_folder_full, check_depth, depth_in}
+use Rattle.room_commands.proofs.Common.{is_at_or_below}
 use Rattle.room_commands.proofs.Rights.{all_none, at_front, walk_passes}
 use Rattle.room_commands.proofs.DepthTells.{within_depth}
 

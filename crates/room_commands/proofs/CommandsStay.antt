@@ -1,33 +1,18 @@
 -- Rooms that look alike to a caller, and will after its commands, do so after each of them.
-use Rattle.std.proofs.Common.{◌≡◌, ℕ, ◌-◌, refl, ap, sym, ◌∙◌, arith, true, false, not, ◌&&◌, ◌||◌, cond}
-use Rattle.std.proofs.Common.{List, [], ◌∷◌, ◌++◌, length, Option, None, Some, option_map, append-nil, append_assoc}
-use Rattle.std.proofs.Common.{nat_lt, length-append, ◌⊎◌, inl, inr}
-use Rattle.std.specs.Prelude.{is_none}
-use Rattle.std.specs.List.{AllByRecursion}
-use Rattle.std.proofs.lemmas.Bool.{both_ways, or_parts, and_from, or_left, or_right}
-use Rattle.std.proofs.lemmas.Bool.{ltb-false}
-use Rattle.room_acl.specs.declared.subject.Kind.{Kind}
-use Rattle.room_acl.specs.declared.subject.Kind.TheVariants.{File, Folder}
-use Rattle.room_acl.specs.Bits.{write_acl, write_owner, delete_object, delete_child}
-use Rattle.room_acl.specs.SubjectModel.{SubjectModel}
-use Rattle.room_acl.specs.Inheritance.{handed_down}
-use Rattle.room_records.specs.Names.{Name, Path, path_eq}
-use Rattle.room_records.specs.Room.{Object, Room, IsRoom, object_at, children, list_of, parent_of, root_list}
-use Rattle.room_records.proofs.RoomsMap.{some_is, none_is_some, other_path, nothing_below, Ends, ends, parent_of_end}
-use Rattle.room_records.proofs.RoomsChildren.{nothing_in_empty}
-use Rattle.room_records.proofs.RoomsLists.{without_bytes, lists_without_bytes}
-use Rattle.room_commands.specs.CommandModel.{CommandModel}
+use Rattle.room_commands.proofs.Common.{◌≡◌, ℕ, ◌-◌, refl, ap, sym, ◌∙◌, arith, true, false, not, ◌&&◌, ◌||◌, cond}
+use Rattle.room_commands.proofs.Common.{List, [], ◌∷◌, ◌++◌, length, Option, None, Some, option_map, append-nil}
+use Rattle.room_commands.proofs.Common.{append_assoc, nat_lt, length-append, ◌⊎◌, inl, inr, is_none, AllByRecursion}
+use Rattle.room_commands.proofs.Common.{both_ways, or_parts, and_from, or_left, or_right, ltb-false, Kind, File, Folder}
+use Rattle.room_commands.proofs.Common.{write_acl, write_owner, delete_object, delete_child, SubjectModel, handed_down}
+use Rattle.room_commands.proofs.Common.{Name, Path, path_eq, Object, Room, IsRoom, object_at, children, list_of}
+use Rattle.room_commands.proofs.Common.{parent_of, root_list, some_is, none_is_some, other_path, nothing_below, Ends}
+use Rattle.room_commands.proofs.Common.{ends, parent_of_end, nothing_in_empty, without_bytes, lists_without_bytes}
+use Rattle.room_commands.proofs.Common.{CommandModel, Refusal, IsLawful, first_refusal, checks, check_right}
+use Rattle.room_commands.proofs.Common.{check_absent, walk, is_at_or_below, is_root, is_file, is_kind, right_to_add}
+use Rattle.room_commands.proofs.Common.{refuse_if, NotEmpty, own_entries_of_setlist, effect, effect_by, changed}
+use Rattle.room_commands.proofs.Common.{with_object, with_new, without, renamed, new_object, reply, LooksAlike}
+use Rattle.room_commands.proofs.Common.{StayAlike, SameBelow, may, may_remove, handed_to, object_or_default}
 use Rattle.room_commands.specs.CommandModel as C
-use Rattle.room_commands.specs.ReplyModel.{Refusal}
-use Rattle.room_commands.specs.Lawful.{IsLawful}
-use Rattle.room_commands.specs.Checks.{first_refusal, checks, check_right, check_absent, walk}
-use Rattle.room_commands.specs.Checks.{is_at_or_below, is_root, is_file, is_kind, right_to_add}
-use Rattle.room_commands.specs.Checks.{refuse_if}
-use Rattle.room_commands.specs.declared.reply.RefusalCode.TheVariants.{NotEmpty}
-use Rattle.room_commands.specs.SetList.{own_entries_of_setlist}
-use Rattle.room_commands.specs.Effect.{effect, effect_by, changed, with_object, with_new, without, renamed, new_object}
-use Rattle.room_commands.specs.Effect.{reply}
-use Rattle.room_commands.specs.Sight.{LooksAlike, StayAlike, SameBelow, may, may_remove, handed_to}
 use Rattle.room_commands.proofs.Shorthands.{replies}
 use Rattle.room_commands.proofs.Rights.{all_none, one_may}
 use Rattle.room_commands.proofs.ChecksTell.{absent_there, exists_there, not_refused}
@@ -41,7 +26,6 @@ use Rattle.room_commands.proofs.BytesAlone.{change_alike, group_kept, handed_kep
 use Rattle.room_commands.proofs.EffectIsRoom.{effect_is_room, not_root_ends}
 use Rattle.room_commands.proofs.NothingShows.{refused_alike, in_turn, reply_alike}
 use Rattle.room_commands.proofs.Staying.{Off, Numbers, stay, region_at, front_is_off, off_front, list_out}
-use Rattle.room_commands.specs.Checks.{object_or_default}
 use Rattle.room_commands.proofs.Shorthands.{handed_by, kind_of}
 
 -- where a folder stands at or below a path, there is one at the path

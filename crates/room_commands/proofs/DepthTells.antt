@@ -1,16 +1,11 @@
 -- How deep a subtree goes, and that this tells whether a folder is empty.
-use Rattle.std.proofs.Common.{◌≡◌, ℕ, ◌-◌, ◌<◌, ◌≤◌, refl, ap, sym, ◌∙◌, arith, true}
-use Rattle.std.proofs.Common.{inl, inr, List, [], ◌∷◌, ◌++◌, drop, length, Option, None, Some, nat_lt}
-use Rattle.std.proofs.Common.{append_assoc, cond, option_map, length-append}
-use Rattle.std.specs.Map.{lookup}
+use Rattle.room_commands.proofs.Common.{◌≡◌, ℕ, ◌-◌, ◌<◌, ◌≤◌, refl, ap, sym, ◌∙◌, arith, true, inl, inr, List, [], ◌∷◌}
+use Rattle.room_commands.proofs.Common.{◌++◌, drop, length, Option, None, Some, nat_lt, append_assoc, cond, option_map}
+use Rattle.room_commands.proofs.Common.{length-append, lookup, cases_Bool, cases_lt, lt-ltb, le-ltb, Kind, Name, Path}
+use Rattle.room_commands.proofs.Common.{name_eq, Object, Room, IsRoom, object_at, children, none_is_some, StandsIn}
+use Rattle.room_commands.proofs.Common.{found_stands, standing_found, nothing_below, nothing_in_empty, kind_of_child}
+use Rattle.room_commands.proofs.Common.{name_itself, is_at_or_below, depth_in}
 use Rattle.std.proofs.Math.Nat.{le-max_left, le-max_right, max-le}
-use Rattle.std.proofs.lemmas.Bool.{cases_Bool, cases_lt, lt-ltb, le-ltb}
-use Rattle.room_acl.specs.declared.subject.Kind.{Kind}
-use Rattle.room_records.specs.Names.{Name, Path, name_eq}
-use Rattle.room_records.specs.Room.{Object, Room, IsRoom, object_at, children}
-use Rattle.room_records.proofs.RoomsMap.{none_is_some, StandsIn, found_stands, standing_found, nothing_below}
-use Rattle.room_records.proofs.RoomsChildren.{nothing_in_empty, kind_of_child, name_itself}
-use Rattle.room_commands.specs.Checks.{is_at_or_below, depth_in}
 use Rattle.room_commands.proofs.Renaming.{at_behind}
 use Rattle.room_commands.proofs.RoomsRenamed.{rest_below}
 

@@ -1,25 +1,14 @@
 -- A command leaves a room.
-use Rattle.std.proofs.Common.{◌≡◌, ℕ, ◌+◌, ◌≤◌, refl, ap, ◌∙◌, arith, false}
-use Rattle.std.proofs.Common.{◌||◌, inl, inr, List, [], ◌∷◌, ◌++◌, length, Option, None, Some}
-use Rattle.std.proofs.lemmas.Bool.{both_ways, cases_lt, lt-ltb, ltb-false, or_parts}
-use Rattle.std.proofs.lemmas.List.{length-append}
-use Rattle.room_acl.specs.declared.subject.Kind.{Kind}
-use Rattle.room_acl.specs.declared.subject.Kind.TheVariants.{File, Folder}
-use Rattle.room_acl.specs.SubjectModel.{SubjectModel}
-use Rattle.room_acl.specs.Entries.{EntryModel}
-use Rattle.room_acl.specs.Inheritance.{own_entries_fault, max_own_entries}
-use Rattle.room_records.specs.Names.{Path, IsPath}
-use Rattle.room_records.specs.Room.{Object, Room, IsRoom, IsObject, object_at, children, parent_of}
-use Rattle.room_records.proofs.RoomsMap.{parent_of_end, Ends, ends, object_there_is_lawful, other_path}
-use Rattle.room_records.proofs.RoomsChildren.{nothing_in_empty}
-use Rattle.room_commands.specs.CommandModel.{CommandModel}
+use Rattle.room_commands.proofs.Common.{◌≡◌, ℕ, ◌+◌, ◌≤◌, refl, ap, ◌∙◌, arith, false, ◌||◌, inl, inr, List, [], ◌∷◌}
+use Rattle.room_commands.proofs.Common.{◌++◌, length, Option, None, Some, both_ways, cases_lt, lt-ltb, ltb-false}
+use Rattle.room_commands.proofs.Common.{or_parts, length-append, Kind, File, Folder, SubjectModel, EntryModel}
+use Rattle.room_commands.proofs.Common.{own_entries_fault, max_own_entries, Path, IsPath, Object, Room, IsRoom}
+use Rattle.room_commands.proofs.Common.{IsObject, object_at, children, parent_of, parent_of_end, Ends, ends}
+use Rattle.room_commands.proofs.Common.{object_there_is_lawful, other_path, nothing_in_empty, CommandModel, Refusal}
+use Rattle.room_commands.proofs.Common.{IsLawful, own_entries_of_setlist, first_refusal, checks, is_root}
+use Rattle.room_commands.proofs.Common.{is_at_or_below, bytes_at, check_absent, check_folder_full, check_lawful, walk}
+use Rattle.room_commands.proofs.Common.{changed, effect, effect_by, new_object, with_new, renamed}
 use Rattle.room_commands.specs.CommandModel as C
-use Rattle.room_commands.specs.ReplyModel.{Refusal}
-use Rattle.room_commands.specs.Lawful.{IsLawful}
-use Rattle.room_commands.specs.SetList.{own_entries_of_setlist}
-use Rattle.room_commands.specs.Checks.{first_refusal, checks, is_root, is_at_or_below, bytes_at, check_absent}
-use Rattle.room_commands.specs.Checks.{check_folder_full, check_lawful, walk}
-use Rattle.room_commands.specs.Effect.{changed, effect, effect_by, new_object, with_new, renamed}
 use Rattle.room_commands.proofs.Rights.{AllNone, all_none}
 use Rattle.room_commands.proofs.ChecksTell.{not_refused, exists_there, absent_there, file_there, file_is_no_folder}
 use Rattle.room_commands.proofs.ChecksTell.{small_enough, not_full_there, walk_ends_in_folder, depth_there}

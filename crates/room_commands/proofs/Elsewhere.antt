@@ -1,24 +1,13 @@
 -- What a command of anybody's changes for a caller at paths neither at nor below its own, or out of reach.
-use Rattle.std.proofs.Common.{◌≡◌, ◌⊎◌, ℕ, refl, ap, sym, ◌∙◌, Bool, true, false, ◌||◌, inl, inr, List, [], ◌∷◌}
-use Rattle.std.proofs.Common.{◌++◌, append-nil, append_assoc}
-use Rattle.std.specs.Prelude.{is_none, Err, Result}
-use Rattle.std.proofs.Common.{length, drop}
-use Rattle.std.proofs.Common.{Option, None, Some, ◌==◌, option_map}
-use Rattle.std.proofs.lemmas.Bool.{both_ways, or_parts, false_from_ne_true}
-use Rattle.room_acl.specs.declared.subject.Kind.{Kind}
-use Rattle.room_acl.specs.Bits.{read_attributes}
-use Rattle.room_acl.specs.SubjectModel.{SubjectModel}
-use Rattle.room_records.specs.Names.{Name, Path}
-use Rattle.room_records.specs.Room.{Object, Room, IsRoom, object_at, children}
-use Rattle.room_commands.specs.CommandModel.{CommandModel, paths_of}
+use Rattle.room_commands.proofs.Common.{◌≡◌, ◌⊎◌, ℕ, refl, ap, sym, ◌∙◌, Bool, true, false, ◌||◌, inl, inr, List, []}
+use Rattle.room_commands.proofs.Common.{◌∷◌, ◌++◌, append-nil, append_assoc, is_none, Err, Result, length, drop, Option}
+use Rattle.room_commands.proofs.Common.{None, Some, ◌==◌, option_map, both_ways, or_parts, false_from_ne_true, Kind}
+use Rattle.room_commands.proofs.Common.{read_attributes, SubjectModel, Name, Path, Object, Room, IsRoom, object_at}
+use Rattle.room_commands.proofs.Common.{children, CommandModel, paths_of, Refusal, Attributes, IsLawful, first_refusal}
+use Rattle.room_commands.proofs.Common.{checks, prefix_refusal, walk, is_root, is_at_or_below, effect, effect_by}
+use Rattle.room_commands.proofs.Common.{changed, Sight, view, depth_in, IsOff, HoldsNeither, IsAboveNeither, but_full}
+use Rattle.room_commands.proofs.Common.{but_depth, but_names, view_less, then_some}
 use Rattle.room_commands.specs.CommandModel as C
-use Rattle.room_commands.specs.ReplyModel.{Refusal, Attributes}
-use Rattle.room_commands.specs.Lawful.{IsLawful}
-use Rattle.room_commands.specs.Checks.{first_refusal, checks, prefix_refusal, walk, is_root, is_at_or_below}
-use Rattle.room_commands.specs.Effect.{effect, effect_by, changed}
-use Rattle.room_commands.specs.Sight.{Sight, view, depth_in}
-use Rattle.room_commands.specs.Elsewhere.{IsOff, HoldsNeither, IsAboveNeither, but_full, but_depth, but_names}
-use Rattle.room_commands.specs.Elsewhere.{view_less}
 use Rattle.room_commands.proofs.Shorthands.{if_reached, seen_less}
 use Rattle.room_commands.proofs.Rights.{all_none}
 use Rattle.room_commands.proofs.ChecksTell.{absent_there, exists_there, not_refused}
@@ -34,7 +23,6 @@ use Rattle.room_commands.proofs.BytesAlone.{Facts, facts_at, sight_with, size_wi
 use Rattle.room_commands.proofs.SameParts.{children_same, depth_same, walk_same}
 use Rattle.room_commands.proofs.Staying.{Off, Below_p, Below_t, Away, place, child_off, prefix_out, walk_out, facts_out}
 use Rattle.room_commands.proofs.CommandsStay.{apart_from, own_fronts, moved_fronts}
-use Rattle.std.specs.Bool.{then_some}
 
 -- what a command that passes leaves as it was: all but its paths and what is below them, and so what is above them
 pub record Leaves (room later : Room) (p t : Path) : Type 0 where

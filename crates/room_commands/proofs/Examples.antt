@@ -1,18 +1,10 @@
 -- Worked examples, computed by the definitions: one command from a room that is written out.
-use Rattle.std.proofs.Common.{◌≡◌, ℕ, refl, true, false, Bool, List, [], ◌∷◌, None, Some}
-use Rattle.std.specs.Prelude.{codes}
-use Rattle.room_acl.specs.declared.subject.Kind.{Kind}
-use Rattle.room_acl.specs.declared.subject.Kind.TheVariants.{File, Folder}
+use Rattle.room_commands.proofs.Common.{◌≡◌, ℕ, refl, true, false, Bool, List, [], ◌∷◌, None, Some, codes, Kind, File}
+use Rattle.room_commands.proofs.Common.{Folder, Owner, Group, Everyone, User, SubjectModel, EntryModel, Path, Access}
+use Rattle.room_commands.proofs.Common.{NotEmpty, Inval, Exist, Room, Object, fresh_room, list_of, Done, Names, Size}
+use Rattle.room_commands.proofs.Common.{Bytes, Entries, NotDone, effect}
 use Rattle.room_acl.specs.declared.who.Who.{Who}
-use Rattle.room_acl.specs.declared.who.Who.TheVariants.{Owner, Group, Everyone, User}
-use Rattle.room_acl.specs.SubjectModel.{SubjectModel}
-use Rattle.room_acl.specs.Entries.{EntryModel}
-use Rattle.room_records.specs.Names.{Path}
-use Rattle.room_commands.specs.declared.reply.RefusalCode.TheVariants.{Access, NotEmpty, Inval, Exist}
 use Rattle.room_commands.specs.CommandModel as C
-use Rattle.room_records.specs.Room.{Room, Object, fresh_room, list_of}
-use Rattle.room_commands.specs.ReplyModel.{Done, Names, Size, Bytes, Entries, NotDone}
-use Rattle.room_commands.specs.Effect.{effect}
 
 abbrev ann : SubjectModel
 ann = record { name = codes "ann"; groups = codes "eng" ∷ [] }

@@ -1,28 +1,18 @@
 -- How many numbers are left shows by ROOM_FULL alone.
-use Rattle.std.proofs.Common.{◌≡◌, ◌⊎◌, ℕ, ◌+◌, ◌-◌, refl, ap, sym, ◌∙◌, arith, false, List, [], ◌∷◌}
-use Rattle.std.proofs.Common.{◌++◌, length, Option, None, Some, inl, inr, ◌==◌, nat_lt}
-use Rattle.std.specs.Prelude.{is_none, ◌||◌, if◌then◌else◌}
-use Rattle.std.proofs.lemmas.Bool.{cases_Bool}
-use Rattle.room_acl.specs.declared.access.Decision.TheVariants.{Denied}
-use Rattle.room_acl.specs.Bits.{read_data, list_directory, write_data, add_file, append_data, add_subdirectory}
-use Rattle.room_acl.specs.Bits.{delete_child, read_attributes, delete_object, read_acl, write_acl, write_owner}
-use Rattle.room_acl.specs.SubjectModel.{SubjectModel}
-use Rattle.room_acl.specs.Access.{allowed_of}
-use Rattle.room_records.specs.Names.{Path, path_eq}
-use Rattle.room_records.specs.Room.{Room, list_of, standing_of, parent_of, children}
-use Rattle.room_records.proofs.RoomsMap.{some_is, none_is_some}
-use Rattle.room_records.proofs.RoomsLists.{lists_by_objects_above}
-use Rattle.room_commands.specs.CommandModel.{CommandModel}
+use Rattle.room_commands.proofs.Common.{◌≡◌, ◌⊎◌, ℕ, ◌+◌, ◌-◌, refl, ap, sym, ◌∙◌, arith, false, List, [], ◌∷◌, ◌++◌}
+use Rattle.room_commands.proofs.Common.{length, Option, None, Some, inl, inr, ◌==◌, nat_lt, is_none, ◌||◌}
+use Rattle.room_commands.proofs.Common.{if◌then◌else◌, cases_Bool, Denied, read_data, list_directory, write_data}
+use Rattle.room_commands.proofs.Common.{add_file, append_data, add_subdirectory, delete_child, read_attributes}
+use Rattle.room_commands.proofs.Common.{delete_object, read_acl, write_acl, write_owner, SubjectModel, allowed_of, Path}
+use Rattle.room_commands.proofs.Common.{path_eq, Room, list_of, standing_of, parent_of, children, some_is, none_is_some}
+use Rattle.room_commands.proofs.Common.{lists_by_objects_above, CommandModel, RoomFull, Inval, NotEmpty, Exist, Refusal}
+use Rattle.room_commands.proofs.Common.{NotDone, Entries, Allowed, own_entries_fault, own_entries_of_setlist}
+use Rattle.room_commands.proofs.Common.{first_refusal, checks, check_right, check_removal, denied_at, walk}
+use Rattle.room_commands.proofs.Common.{check_exists, check_absent, check_folder, check_file, check_size, check_depth}
+use Rattle.room_commands.proofs.Common.{check_folder_full, check_lawful, refuse_if, is_root, is_at_or_below, bytes_at}
+use Rattle.room_commands.proofs.Common.{check_room_full, refusal_without_place, object_or_default, right_to_add, effect}
+use Rattle.room_commands.proofs.Common.{effect_by, changed, reply}
 use Rattle.room_commands.specs.CommandModel as C
-use Rattle.room_commands.specs.declared.reply.RefusalCode.TheVariants.{RoomFull, Inval, NotEmpty, Exist}
-use Rattle.room_commands.specs.ReplyModel.{Refusal, NotDone, Entries, Allowed}
-use Rattle.room_acl.specs.Inheritance.{own_entries_fault}
-use Rattle.room_commands.specs.SetList.{own_entries_of_setlist}
-use Rattle.room_commands.specs.Checks.{first_refusal, checks, check_right, check_removal, denied_at, walk}
-use Rattle.room_commands.specs.Checks.{check_exists, check_absent, check_folder, check_file, check_size, check_depth}
-use Rattle.room_commands.specs.Checks.{check_folder_full, check_lawful, refuse_if, is_root, is_at_or_below, bytes_at}
-use Rattle.room_commands.specs.Checks.{check_room_full, refusal_without_place, object_or_default, right_to_add}
-use Rattle.room_commands.specs.Effect.{effect, effect_by, changed, reply}
 use Rattle.room_commands.specs.Made.{with_more, IsRoomFull}
 use Rattle.std.proofs.lemmas.Bool.Decides.{nat_tests}
 use Rattle.room_commands.proofs.Rights.{all_none}

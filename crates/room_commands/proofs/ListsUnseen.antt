@@ -1,29 +1,16 @@
 -- What a list hides: a list or an owner that changes out of a caller's sight.
-use Rattle.std.proofs.Common.{◌≡◌, ℕ, refl, ap, sym, ◌∙◌, Bool, true, false, not, ◌&&◌, ◌||◌, List, [], ◌∷◌, ◌++◌}
-use Rattle.std.proofs.Common.{length, Option, None, Some, is_some, option_map, cond, append-nil, append_assoc, ◌⊎◌, inl}
-use Rattle.std.proofs.Common.{inr}
-use Rattle.std.specs.Prelude.{is_none}
-use Rattle.std.proofs.lemmas.Bool.{both_ways}
-use Rattle.room_acl.specs.declared.subject.Kind.{Kind}
-use Rattle.room_acl.specs.declared.subject.Kind.TheVariants.{File, Folder}
-use Rattle.room_acl.specs.Bits.{execute, list_directory, add_file, add_subdirectory, append_data, read_attributes}
-use Rattle.room_acl.specs.Bits.{read_data}
-use Rattle.room_acl.specs.Bits.{delete_child, delete_object, read_acl}
-use Rattle.room_acl.specs.SubjectModel.{SubjectModel}
-use Rattle.room_acl.specs.Entries.{EntryModel}
-use Rattle.room_acl.specs.Access.{allowed_mask}
-use Rattle.room_records.specs.Names.{Name, Path, path_eq}
-use Rattle.room_records.specs.Room.{Object, Room, object_at, list_of, standing_of, parent_of}
-use Rattle.room_records.proofs.RoomsMap.{some_is, same_path, parent_of_end, ends}
+use Rattle.room_commands.proofs.Common.{◌≡◌, ℕ, refl, ap, sym, ◌∙◌, Bool, true, false, not, ◌&&◌, ◌||◌, List, [], ◌∷◌}
+use Rattle.room_commands.proofs.Common.{◌++◌, length, Option, None, Some, is_some, option_map, cond, append-nil}
+use Rattle.room_commands.proofs.Common.{append_assoc, ◌⊎◌, inl, inr, is_none, both_ways, Kind, File, Folder, execute}
+use Rattle.room_commands.proofs.Common.{list_directory, add_file, add_subdirectory, append_data, read_attributes}
+use Rattle.room_commands.proofs.Common.{read_data, delete_child, delete_object, read_acl, SubjectModel, EntryModel}
+use Rattle.room_commands.proofs.Common.{allowed_mask, Name, Path, path_eq, Object, Room, object_at, list_of}
+use Rattle.room_commands.proofs.Common.{standing_of, parent_of, some_is, same_path, parent_of_end, ends, Refusal}
+use Rattle.room_commands.proofs.Common.{Attributes, NoEnt, NotDir, own_entries_of_setlist, first_refusal, refuse_if}
+use Rattle.room_commands.proofs.Common.{refusal_without_place, denied_at, check_right, is_file, is_kind, is_at_or_below}
+use Rattle.room_commands.proofs.Common.{prefix_refusal, walk, effect_by, with_object, LooksAlike, view, may, may_remove}
+use Rattle.room_commands.proofs.Common.{rights_at, ListUnseen, then_some}
 use Rattle.room_commands.specs.CommandModel as C
-use Rattle.room_commands.specs.ReplyModel.{Refusal, Attributes}
-use Rattle.room_commands.specs.declared.reply.RefusalCode.TheVariants.{NoEnt, NotDir}
-use Rattle.room_commands.specs.SetList.{own_entries_of_setlist}
-use Rattle.room_commands.specs.Checks.{first_refusal, refuse_if, refusal_without_place, denied_at, check_right}
-use Rattle.room_commands.specs.Checks.{is_file, is_kind, is_at_or_below, prefix_refusal, walk}
-use Rattle.room_commands.specs.Effect.{effect_by, with_object}
-use Rattle.room_commands.specs.Sight.{LooksAlike, view, may, may_remove}
-use Rattle.room_commands.specs.Elsewhere.{rights_at, ListUnseen}
 use Rattle.room_commands.proofs.Renaming.{at_behind}
 use Rattle.room_commands.proofs.RoomsObject.{after_change, elsewhere_unchanged, kinds_stay, children_stay, depth_stays}
 use Rattle.room_commands.proofs.Looks.{then_alike, walk_end, walk_to_folder, decision_in, decided_by_rights}
@@ -31,7 +18,6 @@ use Rattle.room_commands.proofs.BytesAlone.{Facts, facts_at, sight_with, size_wi
 use Rattle.room_commands.proofs.Staying.{Off, Below_p, Below_t, Away, place, list_out}
 use Rattle.room_commands.proofs.Elsewhere.{nothing_seen}
 use Rattle.room_commands.proofs.Shorthands.{if_reached, right_on}
-use Rattle.std.specs.Bool.{then_some}
 
 -- what kinds and rights alone decide
 abbrev of_kind : Kind → Option Kind → Bool

@@ -1,37 +1,22 @@
 -- Two rooms that look alike to a caller: what each check and each reply of its commands asks is the same in both.
-use Rattle.std.proofs.Common.{◌≡◌, ℕ, refl, ap, sym, ◌∙◌, Bool, true, false, not, cond}
-use Rattle.std.proofs.Common.{◌&&◌, ◌||◌, List, [], ◌∷◌, ◌++◌, map, length, Option, None, Some, is_some}
-use Rattle.std.proofs.Common.{option_map, nat_le}
-use Rattle.std.specs.List.{find, list_all, AllByRecursion}
-use Rattle.std.proofs.lemmas.List.{map-append}
-use Rattle.std.proofs.lemmas.Bool.{and_parts, and_from}
-use Rattle.room_acl.specs.declared.subject.Kind.{Kind}
-use Rattle.room_acl.specs.declared.subject.Kind.TheVariants.{File, Folder}
+use Rattle.room_commands.proofs.Common.{◌≡◌, ℕ, refl, ap, sym, ◌∙◌, Bool, true, false, not, cond, ◌&&◌, ◌||◌, List, []}
+use Rattle.room_commands.proofs.Common.{◌∷◌, ◌++◌, map, length, Option, None, Some, is_some, option_map, nat_le, find}
+use Rattle.room_commands.proofs.Common.{list_all, AllByRecursion, map-append, and_parts, and_from, Kind, File, Folder}
+use Rattle.room_commands.proofs.Common.{Decision, has_bit, named_bits, all_rights, execute, add_file, add_subdirectory}
+use Rattle.room_commands.proofs.Common.{SubjectModel, EntryModel, allows_bit, allowed_mask, decision, decision_by}
+use Rattle.room_commands.proofs.Common.{max_children, Name, Path, Object, Room, object_at, children, list_of}
+use Rattle.room_commands.proofs.Common.{standing_of, some_is, none_is_some, children_rise, same_entries, kind_of_child}
+use Rattle.room_commands.proofs.Common.{Refusal, NoEnt, NotDir, IsDir, Exist, FolderFull, RoomFull, first_refusal}
+use Rattle.room_commands.proofs.Common.{refuse_if, refusal_without_place, denied_at, check_right, is_file, is_kind}
+use Rattle.room_commands.proofs.Common.{check_exists, check_absent, check_folder, check_file, proper_prefixes}
+use Rattle.room_commands.proofs.Common.{prefix_refusal, walk, check_folder_full, check_room_full, may, Sight, sight_of}
+use Rattle.room_commands.proofs.Common.{view, then_some}
 use Rattle.room_acl.specs.declared.subject.Standing.{Standing}
-use Rattle.room_acl.specs.declared.access.Decision.{Decision}
-use Rattle.room_acl.specs.Bits.{has_bit, named_bits, all_rights, execute, add_file, add_subdirectory}
-use Rattle.room_acl.specs.SubjectModel.{SubjectModel}
-use Rattle.room_acl.specs.Entries.{EntryModel}
-use Rattle.room_acl.specs.Access.{allows_bit, allowed_mask, decision, decision_by}
 use Rattle.room_acl.proofs.BitTests.{has_bit-mask_of}
-use Rattle.room_records.specs.Limits.{max_children}
-use Rattle.room_records.specs.Names.{Name, Path}
-use Rattle.room_records.specs.Room.{Object, Room, object_at, children, list_of, standing_of}
-use Rattle.room_records.proofs.RoomsMap.{some_is, none_is_some}
-use Rattle.room_records.proofs.RoomsChildren.{children_rise, same_entries, kind_of_child}
-use Rattle.room_commands.specs.ReplyModel.{Refusal}
-use Rattle.room_commands.specs.declared.reply.RefusalCode.TheVariants.{NoEnt, NotDir, IsDir, Exist, FolderFull}
-use Rattle.room_commands.specs.declared.reply.RefusalCode.TheVariants.{RoomFull}
-use Rattle.room_commands.specs.Checks.{first_refusal, refuse_if, refusal_without_place, denied_at}
-use Rattle.room_commands.specs.Checks.{check_right}
-use Rattle.room_commands.specs.Checks.{is_file, is_kind, check_exists, check_absent, check_folder, check_file}
-use Rattle.room_commands.specs.Checks.{proper_prefixes, prefix_refusal, walk, check_folder_full, check_room_full}
 use Rattle.room_commands.proofs.Rights.{all_none}
 use Rattle.room_commands.proofs.ChecksTell.{not_refused, exists_there}
-use Rattle.room_commands.specs.Sight.{may, Sight, sight_of, view}
 use Rattle.room_commands.proofs.Shorthands.{if_reached, there_seen, kind_of, right_on}
 use Rattle.std.specs.Result.{result_err}
-use Rattle.std.specs.Bool.{then_some}
 
 -- checks of two rooms are alike where the first two are, and the others are where the first two pass
 pub then_alike : (x y : Option Refusal) (xs ys : List (Option Refusal)) → x ≡ y

@@ -1,22 +1,12 @@
 -- What comes into folders, and goes from them, where a caller may not list them.
-use Rattle.std.proofs.Common.{◌≡◌, ◌⊎◌, refl, ap, sym, ◌∙◌, Bool, true, false, not, ◌&&◌, ◌||◌, inl, inr}
-use Rattle.std.proofs.Common.{List, [], ◌∷◌, ◌++◌, append_assoc, length, drop, Option, None, Some, ◌==◌}
-use Rattle.std.proofs.lemmas.Bool.{cases_Bool, and_right, or_parts}
-use Rattle.room_acl.specs.declared.subject.Kind.{Kind}
-use Rattle.room_acl.specs.declared.subject.Kind.TheVariants.{File, Folder}
-use Rattle.room_acl.specs.Bits.{list_directory, add_file, add_subdirectory, read_attributes}
-use Rattle.room_acl.specs.SubjectModel.{SubjectModel}
-use Rattle.room_records.specs.Names.{Name, Path}
-use Rattle.room_records.specs.Room.{Object, Room, IsRoom, object_at, children, parent_of}
-use Rattle.room_records.proofs.RoomsMap.{parent_of_end, ends}
-use Rattle.room_commands.specs.CommandModel.{CommandModel, paths_of}
-use Rattle.room_commands.specs.ReplyModel.{Refusal, Attributes}
-use Rattle.room_commands.specs.Lawful.{IsLawful}
-use Rattle.room_commands.specs.Checks.{walk, is_file, is_at_or_below, is_full, check_folder_full}
-use Rattle.room_commands.specs.Effect.{effect}
-use Rattle.room_commands.specs.Sight.{view, may_add, may_remove, may_set, depth_in}
-use Rattle.room_commands.specs.Elsewhere.{IsOff, IsUnlisted, AddsNowhere}
-use Rattle.room_commands.specs.Elsewhere.{but_depth, view_less}
+use Rattle.room_commands.proofs.Common.{◌≡◌, ◌⊎◌, refl, ap, sym, ◌∙◌, Bool, true, false, not, ◌&&◌, ◌||◌, inl, inr}
+use Rattle.room_commands.proofs.Common.{List, [], ◌∷◌, ◌++◌, append_assoc, length, drop, Option, None, Some, ◌==◌}
+use Rattle.room_commands.proofs.Common.{cases_Bool, and_right, or_parts, Kind, File, Folder, list_directory, add_file}
+use Rattle.room_commands.proofs.Common.{add_subdirectory, read_attributes, SubjectModel, Name, Path, Object, Room}
+use Rattle.room_commands.proofs.Common.{IsRoom, object_at, children, parent_of, parent_of_end, ends, CommandModel}
+use Rattle.room_commands.proofs.Common.{paths_of, Refusal, Attributes, IsLawful, walk, is_file, is_at_or_below, is_full}
+use Rattle.room_commands.proofs.Common.{check_folder_full, effect, view, may_add, may_remove, may_set, depth_in, IsOff}
+use Rattle.room_commands.proofs.Common.{IsUnlisted, AddsNowhere, but_depth, view_less, then_some}
 use Rattle.room_commands.proofs.RoomsRenamed.{rest_below}
 use Rattle.room_commands.proofs.Renaming.{at_behind}
 use Rattle.room_commands.proofs.EffectIsRoom.{effect_is_room}
@@ -26,7 +16,6 @@ use Rattle.room_commands.proofs.BytesAlone.{Facts, facts_at, sight_with, size_wi
 use Rattle.room_commands.proofs.Staying.{Off, in_folder}
 use Rattle.room_commands.proofs.Elsewhere.{Leaves, by_result, view_off, view_named, by_place, depth_out, depth_stays}
 use Rattle.room_commands.proofs.Shorthands.{if_reached, seen_less}
-use Rattle.std.specs.Bool.{then_some}
 
 -- a path of which the folder shows no names, and each folder above that the caller may remove goes as deep as before
 pub record NameUnseen (caller : SubjectModel) (room later : Room) (path : Path) : Type 0 where

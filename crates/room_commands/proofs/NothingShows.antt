@@ -1,36 +1,20 @@
 -- What a caller may not see does not show in the answer to its command.
-use Rattle.std.proofs.Common.{◌≡◌, ℕ, ◌+◌, refl, ap, sym, ◌∙◌, Bool, true, false, not, ◌&&◌, ◌||◌, List, [], ◌∷◌}
-use Rattle.std.proofs.Common.{◌++◌, length, Option, None, Some, nat_lt, cond}
-use Rattle.std.specs.Prelude.{is_none, bit_and}
-use Rattle.std.proofs.lemmas.Bool.{or_parts, and_from, or_left, or_right}
-use Rattle.room_acl.specs.declared.subject.Kind.{Kind}
-use Rattle.room_acl.specs.declared.subject.Kind.TheVariants.{File, Folder}
-use Rattle.room_acl.specs.Bits.{read_data, list_directory, write_data, add_file, append_data, add_subdirectory}
-use Rattle.room_acl.specs.Bits.{delete_child, read_attributes, delete_object, read_acl, write_acl, write_owner}
-use Rattle.room_acl.specs.SubjectModel.{SubjectModel}
-use Rattle.room_acl.specs.Access.{allowed_mask}
-use Rattle.room_acl.specs.Inheritance.{own_entries_fault}
-use Rattle.room_records.specs.Limits.{max_names}
-use Rattle.room_records.specs.Names.{Name, Path, path_eq}
-use Rattle.room_records.specs.Room.{Room, IsRoom, object_at, children, list_of, standing_of, parent_of}
-use Rattle.room_records.proofs.RoomsMap.{some_is, none_is_some, parent_of_end, Ends}
-use Rattle.room_commands.specs.CommandModel.{CommandModel, paths_of}
+use Rattle.room_commands.proofs.Common.{◌≡◌, ℕ, ◌+◌, refl, ap, sym, ◌∙◌, Bool, true, false, not, ◌&&◌, ◌||◌, List, []}
+use Rattle.room_commands.proofs.Common.{◌∷◌, ◌++◌, length, Option, None, Some, nat_lt, cond, is_none, bit_and, or_parts}
+use Rattle.room_commands.proofs.Common.{and_from, or_left, or_right, Kind, File, Folder, read_data, list_directory}
+use Rattle.room_commands.proofs.Common.{write_data, add_file, append_data, add_subdirectory, delete_child}
+use Rattle.room_commands.proofs.Common.{read_attributes, delete_object, read_acl, write_acl, write_owner, SubjectModel}
+use Rattle.room_commands.proofs.Common.{allowed_mask, own_entries_fault, max_names, Name, Path, path_eq, Room, IsRoom}
+use Rattle.room_commands.proofs.Common.{object_at, children, list_of, standing_of, parent_of, some_is, none_is_some}
+use Rattle.room_commands.proofs.Common.{parent_of_end, Ends, CommandModel, paths_of, Refusal, NotDone, About, Names}
+use Rattle.room_commands.proofs.Common.{Size, Bytes, Entries, Allowed, Done, RefusalCode, NotEmpty, TooDeep, Inval}
+use Rattle.room_commands.proofs.Common.{Exist, IsLawful, own_entries_of_setlist, first_refusal, checks, refuse_if}
+use Rattle.room_commands.proofs.Common.{check_right, check_removal, may_delete, walk, check_exists, check_absent}
+use Rattle.room_commands.proofs.Common.{check_folder, check_file, is_kind, is_file, is_root, right_to_add}
+use Rattle.room_commands.proofs.Common.{object_or_default, check_depth, check_folder_full, check_room_full, check_size}
+use Rattle.room_commands.proofs.Common.{check_lawful, bytes_at, is_at_or_below, effect, effect_by, reply, attributes_of}
+use Rattle.room_commands.proofs.Common.{LooksAlike, Sight, may, may_add, may_remove, depth_in, view}
 use Rattle.room_commands.specs.CommandModel as C
-use Rattle.room_commands.specs.ReplyModel.{Refusal, NotDone, About, Names, Size, Bytes, Entries}
-use Rattle.room_commands.specs.ReplyModel.{Allowed, Done}
-use Rattle.room_commands.specs.declared.reply.RefusalCode.{RefusalCode}
-use Rattle.room_commands.specs.declared.reply.RefusalCode.TheVariants.{NotEmpty, TooDeep, Inval, Exist}
-use Rattle.room_commands.specs.Lawful.{IsLawful}
-use Rattle.room_commands.specs.SetList.{own_entries_of_setlist}
-use Rattle.room_commands.specs.Checks.{first_refusal, checks, refuse_if, check_right, check_removal, may_delete}
-use Rattle.room_commands.specs.Checks.{walk}
-use Rattle.room_commands.specs.Checks.{check_exists, check_absent, check_folder, check_file, is_kind, is_file, is_root}
-use Rattle.room_commands.specs.Checks.{right_to_add, object_or_default}
-use Rattle.room_commands.specs.Checks.{check_depth, check_folder_full, check_room_full, check_size, check_lawful}
-use Rattle.room_commands.specs.Checks.{bytes_at}
-use Rattle.room_commands.specs.Checks.{is_at_or_below}
-use Rattle.room_commands.specs.Effect.{effect, effect_by, reply, attributes_of}
-use Rattle.room_commands.specs.Sight.{LooksAlike, Sight, may, may_add, may_remove, depth_in, view}
 use Rattle.room_commands.proofs.Rights.{one_may}
 use Rattle.room_commands.proofs.ChecksTell.{not_refused}
 use Rattle.room_commands.proofs.EffectIsRoom.{not_root_ends}

@@ -1,39 +1,25 @@
 -- No check and no change looks at the bytes of a file.
-use Rattle.std.proofs.Common.{◌≡◌, ℕ, ◌+◌, ◌-◌, refl, ap, sym, ◌∙◌, arith, Bool, true, false, not, ◌||◌, cond}
-use Rattle.std.proofs.Common.{List, [], ◌∷◌, ◌++◌, map, length, Option, None, Some, nat_lt, nat_le, option_map}
-use Rattle.std.specs.Prelude.{bit_and, is_none, max}
-use Rattle.std.specs.Map.{lookup}
-use Rattle.std.specs.List.{filter, filter_map}
-use Rattle.std.proofs.lemmas.List.{map-append, length-map}
-use Rattle.room_acl.specs.declared.subject.Kind.{Kind}
-use Rattle.room_acl.specs.declared.subject.Kind.TheVariants.{File, Folder}
-use Rattle.room_acl.specs.Bits.{read_data, list_directory, write_data, add_file, append_data, add_subdirectory}
-use Rattle.room_acl.specs.Bits.{delete_child, read_attributes, delete_object, read_acl, write_acl, write_owner}
-use Rattle.room_acl.specs.SubjectModel.{SubjectModel}
-use Rattle.room_acl.specs.Access.{allowed_mask}
-use Rattle.room_acl.specs.Inheritance.{own_entries_fault}
-use Rattle.room_records.specs.Limits.{max_names, max_children}
-use Rattle.room_records.specs.Names.{Name, Path, path_eq}
-use Rattle.room_records.specs.Room.{Object, Room, object_at, children, child_in, by_name, list_of, standing_of}
-use Rattle.room_records.specs.Room.{parent_of}
-use Rattle.room_records.proofs.RoomsLists.{without_bytes, lists_without_bytes}
-use Rattle.room_commands.specs.CommandModel.{CommandModel}
+use Rattle.room_commands.proofs.Common.{◌≡◌, ℕ, ◌+◌, ◌-◌, refl, ap, sym, ◌∙◌, arith, Bool, true, false, not, ◌||◌, cond}
+use Rattle.room_commands.proofs.Common.{List, [], ◌∷◌, ◌++◌, map, length, Option, None, Some, nat_lt, nat_le}
+use Rattle.room_commands.proofs.Common.{option_map, bit_and, is_none, max, lookup, filter_map, map-append, length-map}
+use Rattle.room_commands.proofs.Common.{Kind, File, Folder, read_data, list_directory, write_data, add_file}
+use Rattle.room_commands.proofs.Common.{append_data, add_subdirectory, delete_child, read_attributes, delete_object}
+use Rattle.room_commands.proofs.Common.{read_acl, write_acl, write_owner, SubjectModel, allowed_mask, own_entries_fault}
+use Rattle.room_commands.proofs.Common.{max_names, max_children, Name, Path, path_eq, Object, Room, object_at, children}
+use Rattle.room_commands.proofs.Common.{child_in, by_name, list_of, standing_of, parent_of, without_bytes}
+use Rattle.room_commands.proofs.Common.{lists_without_bytes, CommandModel, Refusal, About, Names, Size, Bytes, Entries}
+use Rattle.room_commands.proofs.Common.{Allowed, NotEmpty, Exist, Inval, TooDeep, FolderFull, own_entries_of_setlist}
+use Rattle.room_commands.proofs.Common.{first_refusal, checks, refuse_if, check_right, check_size, walk, check_exists}
+use Rattle.room_commands.proofs.Common.{check_absent, check_file, check_removal, check_depth, check_folder_full}
+use Rattle.room_commands.proofs.Common.{check_room_full, check_lawful, right_to_add, bytes_at, is_root, is_at_or_below}
+use Rattle.room_commands.proofs.Common.{depth_in, effect, effect_by, changed, reply, attributes_of, size_of, with_new}
+use Rattle.room_commands.proofs.Common.{moved, new_object, may, object_or_default}
+use Rattle.std.specs.List.{filter}
 use Rattle.room_commands.specs.CommandModel as C
-use Rattle.room_commands.specs.ReplyModel.{Refusal, About, Names, Size, Bytes, Entries, Allowed}
-use Rattle.room_commands.specs.declared.reply.RefusalCode.TheVariants.{NotEmpty, Exist, Inval, TooDeep, FolderFull}
-use Rattle.room_commands.specs.SetList.{own_entries_of_setlist}
-use Rattle.room_commands.specs.Checks.{first_refusal, checks, refuse_if, check_right, check_size, walk}
-use Rattle.room_commands.specs.Checks.{check_exists, check_absent, check_file, check_removal, check_depth}
-use Rattle.room_commands.specs.Checks.{check_folder_full, check_room_full, check_lawful, right_to_add}
-use Rattle.room_commands.specs.Checks.{bytes_at, is_root, is_at_or_below, depth_in}
-use Rattle.room_commands.specs.Effect.{effect, effect_by, changed, reply, attributes_of, size_of}
-use Rattle.room_commands.specs.Effect.{with_new, moved, new_object}
 use Rattle.room_commands.specs.OtherBytes.{room_with, command_with, reply_with}
-use Rattle.room_commands.specs.Sight.{may}
 use Rattle.room_commands.proofs.Rights.{all_none}
 use Rattle.room_commands.proofs.RoomLaws.{some_alike, exists_alike, folder_alike, file_alike, right_alike}
 use Rattle.room_commands.proofs.RoomLaws.{walk_alike}
-use Rattle.room_commands.specs.Checks.{object_or_default}
 use Rattle.room_commands.proofs.Shorthands.{bytes_of, kind_of, object_with, or_no_object, removal_refusal}
 
 module _ (new : ℕ → ℕ) where

@@ -1,22 +1,15 @@
 -- What others do, where it does not show to a caller.
-use Rattle.std.proofs.Common.{◌≡◌, ℕ, refl, ap, sym, ◌∙◌, Bool, true, false, ◌&&◌, ◌||◌, List, [], ◌∷◌, ◌++◌}
-use Rattle.std.proofs.Common.{Option, None, Some, option_map, length, ◌+◌, length-append}
-use Rattle.std.proofs.lemmas.Bool.{and_right}
-use Rattle.std.specs.Prelude.{is_none}
-use Rattle.room_acl.specs.declared.subject.Kind.{Kind}
-use Rattle.room_acl.specs.declared.subject.Kind.TheVariants.{File, Folder}
-use Rattle.room_acl.specs.Bits.{write_acl, write_owner, delete_object, delete_child, read_data, append_data}
-use Rattle.room_acl.specs.Bits.{read_attributes}
-use Rattle.room_acl.specs.SubjectModel.{SubjectModel}
-use Rattle.room_records.specs.Names.{Path, path_eq}
-use Rattle.room_records.specs.Room.{Object, Room, IsRoom, object_at, parent_of}
-use Rattle.room_records.proofs.RoomsMap.{same_path, parent_of_end, ends}
+use Rattle.room_commands.proofs.Common.{◌≡◌, ℕ, refl, ap, sym, ◌∙◌, Bool, true, false, ◌&&◌, ◌||◌, List, [], ◌∷◌, ◌++◌}
+use Rattle.room_commands.proofs.Common.{Option, None, Some, option_map, length, ◌+◌, length-append, and_right, is_none}
+use Rattle.room_commands.proofs.Common.{Kind, File, Folder, write_acl, write_owner, delete_object, delete_child}
+use Rattle.room_commands.proofs.Common.{read_data, append_data, read_attributes, SubjectModel, Path, path_eq, Object}
+use Rattle.room_commands.proofs.Common.{Room, IsRoom, object_at, parent_of, same_path, parent_of_end, ends, Refusal}
+use Rattle.room_commands.proofs.Common.{Attributes, effect, effect_by, with_object, check_right, walk, first_refusal}
+use Rattle.room_commands.proofs.Common.{checks, is_file, LooksAlike, StayAlike, may, may_remove, view, Turn, Own, Other}
+use Rattle.room_commands.proofs.Common.{own_turns, replies_among, OthersUnseen, BytesUnseen, without_bytes}
+use Rattle.room_commands.proofs.Common.{lists_without_bytes, handed_down, HasNoPower, SameBelow, or_left, or_right, inl}
+use Rattle.room_commands.proofs.Common.{inr, then_some, right_to_add}
 use Rattle.room_commands.specs.CommandModel as C
-use Rattle.room_commands.specs.ReplyModel.{Refusal, Attributes}
-use Rattle.room_commands.specs.Effect.{effect, effect_by, with_object}
-use Rattle.room_commands.specs.Checks.{check_right, walk, first_refusal, checks, is_file}
-use Rattle.room_commands.specs.Sight.{LooksAlike, StayAlike, may, may_remove, view}
-use Rattle.room_commands.specs.Sight.{Turn, Own, Other, own_turns, replies_among, OthersUnseen, BytesUnseen}
 use Rattle.room_commands.proofs.Rights.{all_none}
 use Rattle.room_commands.proofs.ChecksTell.{exists_there, file_there}
 use Rattle.room_commands.proofs.EffectIsRoom.{effect_is_room}
@@ -29,15 +22,8 @@ use Rattle.room_commands.proofs.CommandsStay.{command_stays}
 use Rattle.room_commands.proofs.RoomLaws.{bytes_stay_out}
 use Rattle.room_commands.proofs.RoomsNew.{same_or_other_path}
 use Rattle.room_commands.proofs.RoomsObject.{elsewhere_unchanged}
-use Rattle.room_records.proofs.RoomsLists.{without_bytes, lists_without_bytes}
-use Rattle.room_acl.specs.Inheritance.{handed_down}
-use Rattle.room_commands.specs.Sight.{HasNoPower, SameBelow}
-use Rattle.std.proofs.lemmas.Bool.{or_left, or_right}
-use Rattle.std.proofs.Common.{inl, inr}
 use Rattle.room_commands.proofs.Looks.{way_alike, right_alike, kind_alike, in_folder_alike, walk_to_folder}
 use Rattle.room_commands.proofs.Shorthands.{if_reached}
-use Rattle.std.specs.Bool.{then_some}
-use Rattle.room_commands.specs.Checks.{right_to_add}
 
 module _ (a b : Room) (caller : SubjectModel) (alike : LooksAlike caller a b) where
   pub may_alike : (path : Path) → walk a caller path ≡ None → (wanted : ℕ)

@@ -1,21 +1,12 @@
 -- The owner of an object can always read its list and set it.
-use Rattle.std.proofs.Common.{◌≡◌, ℕ, refl, ap, ◌∙◌, true, List, ◌∷◌, Option, None, Some}
-use Rattle.std.specs.Prelude.{is_some, not}
-use Rattle.room_acl.specs.SubjectModel.{SubjectModel}
-use Rattle.room_acl.specs.Entries.{EntryModel}
-use Rattle.room_acl.specs.Bits.{read_acl, write_acl}
-use Rattle.room_acl.specs.Access.{decision, is_owner}
-use Rattle.room_acl.specs.Inheritance.{own_entries_fault}
+use Rattle.room_commands.proofs.Common.{◌≡◌, ℕ, refl, ap, ◌∙◌, true, List, ◌∷◌, Option, None, Some, is_some, not}
+use Rattle.room_commands.proofs.Common.{SubjectModel, EntryModel, read_acl, write_acl, decision, is_owner}
+use Rattle.room_commands.proofs.Common.{own_entries_fault, Path, Object, Room, object_at, list_of, standing_of, NoEnt}
+use Rattle.room_commands.proofs.Common.{Refusal, Entries, Done, own_entries_of_setlist, first_refusal, check_right}
+use Rattle.room_commands.proofs.Common.{denied_at, walk, refuse_if, check_lawful, effect, effect_by}
 use Rattle.room_acl.specs.declared.access.Decision.TheVariants.{Allowed}
 use Rattle.room_acl.proofs.OwnerRights.{owner_reads, owner_writes}
-use Rattle.room_records.specs.Names.{Path}
-use Rattle.room_records.specs.Room.{Object, Room, object_at, list_of, standing_of}
 use Rattle.room_commands.specs.CommandModel as C
-use Rattle.room_commands.specs.declared.reply.RefusalCode.TheVariants.{NoEnt}
-use Rattle.room_commands.specs.ReplyModel.{Refusal, Entries, Done}
-use Rattle.room_commands.specs.SetList.{own_entries_of_setlist}
-use Rattle.room_commands.specs.Checks.{first_refusal, check_right, denied_at, walk, refuse_if, check_lawful}
-use Rattle.room_commands.specs.Effect.{effect, effect_by}
 use Rattle.room_commands.proofs.Shorthands.{kind_of, or_no_object, right_on}
 
 -- a check that passes leaves it to those behind it

@@ -1,24 +1,11 @@
 -- A list with the flag PROTECTED.
-use Rattle.std.proofs.Common.{◌≡◌, ℕ, refl, ap, sym, ◌∙◌, Bool, true, false, not, cond, [], ◌∷◌, ◌++◌, Some}
-use Rattle.std.proofs.Common.{append-nil}
-use Rattle.std.specs.Prelude.{is_none}
-use Rattle.std.proofs.lemmas.Bool.{and_right}
-use Rattle.room_acl.specs.declared.access.Decision.{Decision}
-use Rattle.room_acl.specs.declared.access.Decision.TheVariants.{Allowed, Denied}
-use Rattle.room_acl.specs.Bits.{has_flag, auto_inherit_flag, protected_flag, follows}
-use Rattle.room_acl.specs.SubjectModel.{SubjectModel}
-use Rattle.room_acl.specs.Access.{decision}
-use Rattle.room_acl.specs.Inheritance.{handed_down}
-use Rattle.room_records.specs.Names.{Path}
-use Rattle.room_records.specs.Room.{Object, Room, IsRoom, object_at, list_of, standing_of}
-use Rattle.room_records.proofs.RoomsMap.{ends}
-use Rattle.room_records.proofs.RoomsLists.{list_of_root, list_of_child}
-use Rattle.room_commands.specs.CommandModel.{Rename}
-use Rattle.room_commands.specs.ReplyModel.{IsNotDone}
-use Rattle.room_commands.specs.Checks.{denied_at}
+use Rattle.room_commands.proofs.Common.{◌≡◌, ℕ, refl, ap, sym, ◌∙◌, Bool, true, false, not, cond, [], ◌∷◌, ◌++◌, Some}
+use Rattle.room_commands.proofs.Common.{append-nil, is_none, and_right, Decision, Denied, has_flag, auto_inherit_flag}
+use Rattle.room_commands.proofs.Common.{protected_flag, follows, SubjectModel, decision, handed_down, Path, Object}
+use Rattle.room_commands.proofs.Common.{Room, IsRoom, object_at, list_of, standing_of, ends, list_of_root}
+use Rattle.room_commands.proofs.Common.{list_of_child, Rename, IsNotDone, denied_at, effect, may}
+use Rattle.room_acl.specs.declared.access.Decision.TheVariants.{Allowed}
 use Rattle.room_commands.proofs.Shorthands.{right_on}
-use Rattle.room_commands.specs.Effect.{effect}
-use Rattle.room_commands.specs.Sight.{may}
 use Rattle.room_commands.proofs.RoomLaws.{rename_moves}
 
 follows_never : (aclflag : ℕ) → has_flag aclflag protected_flag ≡ true → follows aclflag ≡ false

@@ -1,21 +1,14 @@
 -- A room with a subtree moved is a room.
-use Rattle.std.proofs.Common.{◌≡◌, ℕ, zero, suc, ◌+◌, ◌-◌, ◌<◌, ◌≤◌, refl, ap, sym, ◌∙◌, arith, true}
-use Rattle.std.proofs.Common.{false, ◌⊎◌, inl, inr, List, [], ◌∷◌, ◌++◌, map, drop, length, append-nil}
-use Rattle.std.proofs.Common.{append_assoc, None, Some, IsSome, is_some}
-use Rattle.std.specs.Map.{lookup}
-use Rattle.std.specs.List.{AllByRecursion}
-use Rattle.std.proofs.lemmas.Bool.{cases_Bool, false_from_ne_true}
-use Rattle.std.proofs.lemmas.List.{length-append, length-drop, length_push, same_from_push}
-use Rattle.room_acl.specs.declared.subject.Kind.TheVariants.{Folder}
-use Rattle.room_records.specs.Limits.{max_names, max_children}
-use Rattle.room_records.specs.Names.{Name, Path, IsPath, IsFileName, path_eq}
-use Rattle.room_records.specs.Room.{Object, Room, IsRoom, AreObjects, object_at, children, parent_of}
+use Rattle.room_commands.proofs.Common.{◌≡◌, ℕ, zero, suc, ◌+◌, ◌-◌, ◌<◌, ◌≤◌, refl, ap, sym, ◌∙◌, arith, true, false}
+use Rattle.room_commands.proofs.Common.{◌⊎◌, inl, inr, List, [], ◌∷◌, ◌++◌, map, drop, length, append-nil, append_assoc}
+use Rattle.room_commands.proofs.Common.{None, Some, IsSome, is_some, lookup, AllByRecursion, cases_Bool}
+use Rattle.room_commands.proofs.Common.{false_from_ne_true, length-append, length-drop, length_push, same_from_push}
+use Rattle.room_commands.proofs.Common.{Folder, max_names, max_children, Name, Path, IsPath, IsFileName, path_eq}
+use Rattle.room_commands.proofs.Common.{Object, Room, IsRoom, AreObjects, object_at, children, parent_of, parent_of_end}
+use Rattle.room_commands.proofs.Common.{ends, StandsIn, standing_found, no_more_children, one_more_child}
+use Rattle.room_commands.proofs.Common.{one_exchanged_child, is_at_or_below, moved, renamed}
 use Rattle.room_records.proofs.Lists.{all_append}
-use Rattle.room_records.proofs.RoomsMap.{parent_of_end, ends, StandsIn, standing_found}
-use Rattle.room_records.proofs.RoomsChildren.{no_more_children, one_more_child, one_exchanged_child}
 use Rattle.room_records.proofs.PathParts.{path_parts, path_of_names}
-use Rattle.room_commands.specs.Checks.{is_at_or_below}
-use Rattle.room_commands.specs.Effect.{moved, renamed}
 use Rattle.room_commands.proofs.ChecksTell.{some_there}
 use Rattle.room_commands.proofs.Renaming.{NoneBelow, at_behind, lookup_moved}
 use Rattle.room_commands.proofs.RoomsNew.{same_or_other_path}

@@ -1,14 +1,7 @@
 -- What stands where after a subtree was moved.
-use Rattle.std.proofs.Common.{◌≡◌, refl, ap, sym, ◌∙◌, true, false, List, [], ◌∷◌, ◌++◌, map, drop, length, Some}
-use Rattle.std.proofs.Common.{inl, inr}
-use Rattle.std.specs.Prelude.{cond}
-use Rattle.std.specs.Map.{lookup}
-use Rattle.std.proofs.lemmas.Bool.{and_parts, and_cases, and_right, cases_Bool}
-use Rattle.room_records.specs.Names.{Path, path_eq, name_eq}
-use Rattle.room_records.specs.Room.{Object}
-use Rattle.room_records.proofs.RoomsChildren.{name_itself}
-use Rattle.room_commands.specs.Checks.{is_at_or_below}
-use Rattle.room_commands.specs.Effect.{moved}
+use Rattle.room_commands.proofs.Common.{◌≡◌, refl, ap, sym, ◌∙◌, true, false, List, [], ◌∷◌, ◌++◌, map, drop, length}
+use Rattle.room_commands.proofs.Common.{Some, inl, inr, cond, lookup, and_parts, and_cases, and_right, cases_Bool, Path}
+use Rattle.room_commands.proofs.Common.{path_eq, name_eq, Object, name_itself, is_at_or_below, moved}
 
 -- no object stands at or below a path
 abbrev pub NoneBelow : Path → List (Path × Object) → Type 0

@@ -1,24 +1,16 @@
 -- Where no check fails, the lists allow all that the command needs.
-use Rattle.std.proofs.Common.{◌≡◌, ℕ, refl, ap, subst, ◌∙◌, Bool, true, false, List, [], ◌∷◌, ◌++◌, map, Option}
-use Rattle.std.proofs.Common.{None, Some, inl, inr}
-use Rattle.std.specs.Prelude.{is_none, if◌then◌else◌}
-use Rattle.std.specs.List.{AllByRecursion}
-use Rattle.std.proofs.lemmas.Bool.{or_cases}
-use Rattle.room_acl.specs.SubjectModel.{SubjectModel}
-use Rattle.room_acl.specs.declared.access.Decision.{Decision}
-use Rattle.room_acl.specs.declared.access.Decision.TheVariants.{Allowed, Denied}
-use Rattle.room_acl.specs.Bits.{read_data, list_directory, write_data, add_file, append_data, add_subdirectory, execute}
-use Rattle.room_acl.specs.Bits.{delete_child, read_attributes, delete_object, read_acl, write_acl, write_owner, IsMask}
+use Rattle.room_commands.proofs.Common.{◌≡◌, ℕ, refl, ap, subst, ◌∙◌, Bool, true, false, List, [], ◌∷◌, ◌++◌, map}
+use Rattle.room_commands.proofs.Common.{Option, None, Some, inl, inr, is_none, if◌then◌else◌, AllByRecursion, or_cases}
+use Rattle.room_commands.proofs.Common.{SubjectModel, Decision, Denied, read_data, list_directory, write_data, add_file}
+use Rattle.room_commands.proofs.Common.{append_data, add_subdirectory, execute, delete_child, read_attributes}
+use Rattle.room_commands.proofs.Common.{delete_object, read_acl, write_acl, write_owner, IsMask, Name, Path, Object}
+use Rattle.room_commands.proofs.Common.{Room, object_at, list_of, standing_of, parent_of, CommandModel, paths_of}
+use Rattle.room_commands.proofs.Common.{Refusal, first_refusal, checks, check_right, check_removal, denied_at, walk}
+use Rattle.room_commands.proofs.Common.{prefix_refusal, proper_prefixes, check_exists, check_folder, right_to_add}
+use Rattle.room_commands.proofs.Common.{object_or_default, HasRight, HasRemoval, HasWay, NeedsAllowed}
+use Rattle.room_acl.specs.declared.access.Decision.TheVariants.{Allowed}
 use Rattle.room_acl.proofs.Decisions.{decision-allowed}
-use Rattle.room_records.specs.Names.{Name, Path}
-use Rattle.room_records.specs.Room.{Object, Room, object_at, list_of, standing_of, parent_of}
-use Rattle.room_commands.specs.CommandModel.{CommandModel, paths_of}
 use Rattle.room_commands.specs.CommandModel as C
-use Rattle.room_commands.specs.ReplyModel.{Refusal}
-use Rattle.room_commands.specs.Checks.{first_refusal, checks, check_right, check_removal, denied_at, walk}
-use Rattle.room_commands.specs.Checks.{prefix_refusal, proper_prefixes, check_exists, check_folder, right_to_add}
-use Rattle.room_commands.specs.Checks.{object_or_default}
-use Rattle.room_commands.specs.Needs.{HasRight, HasRemoval, HasWay, NeedsAllowed}
 use Rattle.room_commands.proofs.Shorthands.{right_on, or_no_object}
 
 -- each check passes

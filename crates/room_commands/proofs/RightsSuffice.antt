@@ -1,30 +1,20 @@
 -- Where the lists allow all that a command needs, no check refuses it for a right.
-use Rattle.std.proofs.Common.{◌≡◌, ℕ, refl, ap, sym, subst, ◌∙◌, Bool, true, false, List, [], ◌∷◌, ◌++◌, map, Option}
-use Rattle.std.proofs.Common.{None, Some, inl, inr}
-use Rattle.std.specs.Prelude.{is_none, ◌||◌, ◌⊎◌, if◌then◌else◌}
-use Rattle.std.specs.List.{AllByRecursion}
-use Rattle.room_acl.specs.SubjectModel.{SubjectModel}
-use Rattle.room_acl.specs.declared.subject.Kind.{Kind}
-use Rattle.room_acl.specs.declared.subject.Kind.TheVariants.{File, Folder}
+use Rattle.room_commands.proofs.Common.{◌≡◌, ℕ, refl, ap, sym, subst, ◌∙◌, Bool, true, false, List, [], ◌∷◌, ◌++◌, map}
+use Rattle.room_commands.proofs.Common.{Option, None, Some, inl, inr, is_none, ◌||◌, ◌⊎◌, if◌then◌else◌, AllByRecursion}
+use Rattle.room_commands.proofs.Common.{SubjectModel, Kind, File, Folder, Denied, read_data, list_directory, write_data}
+use Rattle.room_commands.proofs.Common.{add_file, append_data, add_subdirectory, execute, delete_child, read_attributes}
+use Rattle.room_commands.proofs.Common.{delete_object, read_acl, write_acl, write_owner, IsMask, Name, Path, path_eq}
+use Rattle.room_commands.proofs.Common.{Object, Room, object_at, list_of, standing_of, parent_of, RefusalCode, Access}
+use Rattle.room_commands.proofs.Common.{NoEnt, Inval, CommandModel, ReplyModel, Refusal, NotDone, IsNotDone}
+use Rattle.room_commands.proofs.Common.{first_refusal, checks, check_right, check_removal, denied_at, walk, refuse_if}
+use Rattle.room_commands.proofs.Common.{prefix_refusal, proper_prefixes, check_exists, check_folder, right_to_add, may}
+use Rattle.room_commands.proofs.Common.{object_or_default, check_lawful, check_folder_full, check_absent, check_depth}
+use Rattle.room_commands.proofs.Common.{is_root, is_at_or_below, effect, effect_by, HasRight, HasRemoval, HasWay}
+use Rattle.room_commands.proofs.Common.{NeedsAllowed, IsDenial}
 use Rattle.room_acl.specs.declared.inheritance.ListFault.{ListFault}
 use Rattle.room_acl.specs.declared.inheritance.ListFault.TheVariants as L
-use Rattle.room_acl.specs.declared.access.Decision.TheVariants.{Denied}
-use Rattle.room_acl.specs.Bits.{read_data, list_directory, write_data, add_file, append_data, add_subdirectory, execute}
-use Rattle.room_acl.specs.Bits.{delete_child, read_attributes, delete_object, read_acl, write_acl, write_owner, IsMask}
 use Rattle.room_acl.proofs.Decisions.{decision-allowed}
-use Rattle.room_records.specs.Names.{Name, Path, path_eq}
-use Rattle.room_records.specs.Room.{Object, Room, object_at, list_of, standing_of, parent_of}
-use Rattle.room_commands.specs.declared.reply.RefusalCode.{RefusalCode}
-use Rattle.room_commands.specs.declared.reply.RefusalCode.TheVariants.{Access, NoEnt, Inval}
-use Rattle.room_commands.specs.CommandModel.{CommandModel}
 use Rattle.room_commands.specs.CommandModel as C
-use Rattle.room_commands.specs.ReplyModel.{ReplyModel, Refusal, NotDone, IsNotDone}
-use Rattle.room_commands.specs.Checks.{first_refusal, checks, check_right, check_removal, denied_at, walk, refuse_if}
-use Rattle.room_commands.specs.Checks.{prefix_refusal, proper_prefixes, check_exists, check_folder, right_to_add, may}
-use Rattle.room_commands.specs.Checks.{object_or_default, check_lawful, check_folder_full, check_absent, check_depth}
-use Rattle.room_commands.specs.Checks.{is_root, is_at_or_below}
-use Rattle.room_commands.specs.Effect.{effect, effect_by}
-use Rattle.room_commands.specs.Needs.{HasRight, HasRemoval, HasWay, NeedsAllowed, IsDenial}
 use Rattle.room_commands.proofs.ChecksTell.{exists_there}
 use Rattle.room_commands.proofs.RoomLaws.{reply_is_no_refusal}
 use Rattle.room_commands.proofs.Shorthands.{right_on, or_no_object}

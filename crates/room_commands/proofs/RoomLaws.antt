@@ -1,26 +1,15 @@
 -- What the definitions of rooms and commands mean: refusals, successes, a READ after a WRITE, a RENAME.
-use Rattle.std.proofs.Common.{◌≡◌, ℕ, refl, ap, sym, ◌∙◌, Bool, true, false, not, cond, ◌||◌, List, [], ◌∷◌, ◌++◌, map}
-use Rattle.std.proofs.Common.{Option, None, Some, is_some, option_map, arith}
-use Rattle.std.proofs.lemmas.Bool.{or_parts}
+use Rattle.room_commands.proofs.Common.{◌≡◌, ℕ, refl, ap, sym, ◌∙◌, Bool, true, false, not, cond, ◌||◌, List, [], ◌∷◌}
+use Rattle.room_commands.proofs.Common.{◌++◌, map, Option, None, Some, is_some, option_map, arith, or_parts, Kind, File}
+use Rattle.room_commands.proofs.Common.{Folder, SubjectModel, EntryModel, decision, read_data, execute, Path, path_eq}
+use Rattle.room_commands.proofs.Common.{Object, Room, IsRoom, object_at, list_of, standing_of, without_bytes}
+use Rattle.room_commands.proofs.Common.{lists_without_bytes, CommandModel, Bytes, Refusal, IsNotDone, first_refusal}
+use Rattle.room_commands.proofs.Common.{checks, is_kind, check_exists, check_file, check_folder, check_right, denied_at}
+use Rattle.room_commands.proofs.Common.{refuse_if, prefix_refusal, proper_prefixes, walk, bytes_at, is_root}
+use Rattle.room_commands.proofs.Common.{is_at_or_below, NoEnt, NotDir, IsDir, effect, effect_by, changed, reply}
+use Rattle.room_commands.proofs.Common.{with_object, renamed, NeedsAllowed}
 use Rattle.std.proofs.lemmas.Grind.{common_steps}
-use Rattle.room_acl.specs.declared.subject.Kind.{Kind}
-use Rattle.room_acl.specs.declared.subject.Kind.TheVariants.{File, Folder}
-use Rattle.room_acl.specs.SubjectModel.{SubjectModel}
-use Rattle.room_acl.specs.Entries.{EntryModel}
-use Rattle.room_acl.specs.Access.{decision}
-use Rattle.room_acl.specs.Bits.{read_data, execute}
-use Rattle.room_records.specs.Names.{Path, path_eq}
-use Rattle.room_records.specs.Room.{Object, Room, IsRoom, object_at, list_of, standing_of}
-use Rattle.room_records.proofs.RoomsLists.{without_bytes, lists_without_bytes}
-use Rattle.room_commands.specs.CommandModel.{CommandModel}
 use Rattle.room_commands.specs.CommandModel as C
-use Rattle.room_commands.specs.ReplyModel.{Bytes, Refusal, IsNotDone}
-use Rattle.room_commands.specs.Checks.{first_refusal, checks, is_kind, check_exists, check_file, check_folder}
-use Rattle.room_commands.specs.Checks.{check_right, denied_at, refuse_if, prefix_refusal, proper_prefixes}
-use Rattle.room_commands.specs.Checks.{walk, bytes_at, is_root, is_at_or_below}
-use Rattle.room_commands.specs.declared.reply.RefusalCode.TheVariants.{NoEnt, NotDir, IsDir}
-use Rattle.room_commands.specs.Effect.{effect, effect_by, changed, reply, with_object, renamed}
-use Rattle.room_commands.specs.Needs.{NeedsAllowed}
 use Rattle.room_commands.proofs.Rights.{AllNone, all_none, rights_of_success}
 use Rattle.room_commands.proofs.ChecksTell.{not_refused, exists_there, absent_there}
 use Rattle.room_commands.proofs.RoomsObject.{at_changed, after_change}

@@ -1,15 +1,9 @@
 -- A room with one object more.
-use Rattle.std.proofs.Common.{◌≡◌, ◌<◌, ◌≤◌, refl, ap, sym, ◌∙◌, arith, cond, ◌⊎◌, inl, inr}
-use Rattle.std.proofs.Common.{[], ◌∷◌, ◌++◌, length, None, Some, IsSome}
-use Rattle.std.proofs.lemmas.Bool.{both_ways, cases_Bool}
-use Rattle.std.proofs.lemmas.List.{same_from_push}
-use Rattle.room_acl.specs.declared.subject.Kind.TheVariants.{Folder}
-use Rattle.room_records.specs.Limits.{max_children}
-use Rattle.room_records.specs.Names.{Name, Path, IsPath, path_eq}
-use Rattle.room_records.specs.Room.{Object, Room, IsRoom, IsObject, object_at, children}
-use Rattle.room_records.proofs.RoomsMap.{some_is, none_is_some, same_path, path_itself, other_path}
-use Rattle.room_records.proofs.RoomsChildren.{no_more_children, one_more_child}
-use Rattle.room_commands.specs.Effect.{with_new}
+use Rattle.room_commands.proofs.Common.{◌≡◌, ◌<◌, ◌≤◌, refl, ap, sym, ◌∙◌, arith, cond, ◌⊎◌, inl, inr, [], ◌∷◌, ◌++◌}
+use Rattle.room_commands.proofs.Common.{length, None, Some, IsSome, both_ways, cases_Bool, same_from_push, Folder}
+use Rattle.room_commands.proofs.Common.{max_children, Name, Path, IsPath, path_eq, Object, Room, IsRoom, IsObject}
+use Rattle.room_commands.proofs.Common.{object_at, children, some_is, none_is_some, same_path, path_itself, other_path}
+use Rattle.room_commands.proofs.Common.{no_more_children, one_more_child, with_new}
 
 -- two paths are one or not
 pub same_or_other_path : (a b : Path) → (a ≡ b) ⊎ (a ≡ b → ⊥)

@@ -1,17 +1,11 @@
 -- A room with the object at one path changed.
-use Rattle.std.proofs.Common.{◌≡◌, refl, ap, sym, ◌∙◌, Bool, true, false, cond, List, [], ◌∷◌, ◌++◌, map}
-use Rattle.std.proofs.Common.{Option, None, Some, option_map, arith, inl, inr, length, ◌-◌}
-use Rattle.std.specs.Prelude.{max}
-use Rattle.std.specs.Map.{lookup}
-use Rattle.std.proofs.lemmas.Bool.{cases_Bool}
+use Rattle.room_commands.proofs.Common.{◌≡◌, refl, ap, sym, ◌∙◌, Bool, true, false, cond, List, [], ◌∷◌, ◌++◌, map}
+use Rattle.room_commands.proofs.Common.{Option, None, Some, option_map, arith, inl, inr, length, ◌-◌, max, lookup}
+use Rattle.room_commands.proofs.Common.{cases_Bool, Kind, Path, path_eq, Object, Room, IsRoom, IsObject, AreObjects}
+use Rattle.room_commands.proofs.Common.{object_at, children, some_is, none_is_some, same_path, path_itself, other_path}
+use Rattle.room_commands.proofs.Common.{kind_of_child, children_rise, same_entries, depth_in, is_at_or_below}
+use Rattle.room_commands.proofs.Common.{with_object}
 use Rattle.std.proofs.lemmas.Grind.{common_steps}
-use Rattle.room_acl.specs.declared.subject.Kind.{Kind}
-use Rattle.room_records.specs.Names.{Path, path_eq}
-use Rattle.room_records.specs.Room.{Object, Room, IsRoom, IsObject, AreObjects, object_at, children}
-use Rattle.room_records.proofs.RoomsMap.{some_is, none_is_some, same_path, path_itself, other_path}
-use Rattle.room_records.proofs.RoomsChildren.{kind_of_child, children_rise, same_entries}
-use Rattle.room_commands.specs.Checks.{depth_in, is_at_or_below}
-use Rattle.room_commands.specs.Effect.{with_object}
 use Rattle.room_commands.proofs.RoomsNew.{same_or_other_path}
 
 module _ (path : Path) (change : Object → Object) where

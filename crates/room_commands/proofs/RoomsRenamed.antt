@@ -1,14 +1,9 @@
 -- A room with a subtree moved.
-use Rattle.std.proofs.Common.{◌≡◌, refl, ap, sym, ◌∙◌, Bool, true, false, cond, ◌⊎◌, inl, inr, List, [], ◌∷◌}
-use Rattle.std.proofs.Common.{◌++◌, map, drop, length, append_assoc, None, Some}
-use Rattle.std.specs.Map.{lookup}
-use Rattle.std.proofs.lemmas.Bool.{and_parts, both_ways, cases_Bool, false_from_ne_true}
-use Rattle.room_records.specs.Names.{Path, path_eq, name_eq}
-use Rattle.room_records.specs.Room.{Object, Room, IsRoom, object_at}
-use Rattle.room_records.proofs.RoomsMap.{none_is_some, other_path, StandsIn, standing_found, nothing_below}
-use Rattle.room_records.proofs.RoomsChildren.{name_itself, same_name}
-use Rattle.room_commands.specs.Checks.{is_at_or_below}
-use Rattle.room_commands.specs.Effect.{moved, renamed}
+use Rattle.room_commands.proofs.Common.{◌≡◌, refl, ap, sym, ◌∙◌, Bool, true, false, cond, ◌⊎◌, inl, inr, List, [], ◌∷◌}
+use Rattle.room_commands.proofs.Common.{◌++◌, map, drop, length, append_assoc, None, Some, lookup, and_parts, both_ways}
+use Rattle.room_commands.proofs.Common.{cases_Bool, false_from_ne_true, Path, path_eq, name_eq, Object, Room, IsRoom}
+use Rattle.room_commands.proofs.Common.{object_at, none_is_some, other_path, StandsIn, standing_found, nothing_below}
+use Rattle.room_commands.proofs.Common.{name_itself, same_name, is_at_or_below, moved, renamed}
 use Rattle.room_commands.proofs.Renaming.{NoneBelow, at_behind, lookup_moved}
 
 -- a path at or below another is that one and a rest

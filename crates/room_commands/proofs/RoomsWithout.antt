@@ -1,15 +1,10 @@
 -- A room without the object at one path.
-use Rattle.std.proofs.Common.{◌≡◌, refl, ap, sym, ◌∙◌, arith, Bool, true, false, not, inl, inr, List, [], ◌∷◌, ◌++◌}
-use Rattle.std.proofs.Common.{filter, None, Some, IsSome, is_some}
-use Rattle.std.specs.Map.{lookup}
-use Rattle.std.proofs.lemmas.Bool.{cases_Bool}
+use Rattle.room_commands.proofs.Common.{◌≡◌, refl, ap, sym, ◌∙◌, arith, Bool, true, false, not, inl, inr, List, [], ◌∷◌}
+use Rattle.room_commands.proofs.Common.{◌++◌, filter, None, Some, IsSome, is_some, lookup, cases_Bool, Name, Path}
+use Rattle.room_commands.proofs.Common.{path_eq, Object, Room, IsRoom, AreObjects, object_at, none_is_some, same_path}
+use Rattle.room_commands.proofs.Common.{other_path, no_more_children, without}
 use Rattle.std.proofs.lemmas.Map.Entries.{lookup-filter-keys}
-use Rattle.room_records.specs.Names.{Name, Path, path_eq}
-use Rattle.room_records.specs.Room.{Object, Room, IsRoom, AreObjects, object_at}
 use Rattle.room_records.proofs.Options.{none_is_not_some}
-use Rattle.room_records.proofs.RoomsMap.{none_is_some, same_path, other_path}
-use Rattle.room_records.proofs.RoomsChildren.{no_more_children}
-use Rattle.room_commands.specs.Effect.{without}
 use Rattle.room_commands.proofs.RoomsNew.{same_or_other_path}
 
 module _ (room : Room) (path : Path) where

@@ -1,32 +1,20 @@
 -- Two rooms that have the same below a path: what a caller sees there is the same.
-use Rattle.std.proofs.Common.{◌≡◌, ℕ, ◌≤◌, refl, ap, sym, ◌∙◌, arith, Bool, not, ◌&&◌, ◌||◌, List, []}
-use Rattle.std.proofs.Common.{◌∷◌, ◌++◌, map, length, drop, Option, None, Some, is_some, ◌==◌, option_map}
-use Rattle.std.proofs.Common.{append-nil, append_assoc}
-use Rattle.std.specs.Prelude.{is_none, if◌then◌else◌}
-use Rattle.std.specs.List.{AllByRecursion}
-use Rattle.room_acl.specs.declared.subject.Kind.{Kind}
-use Rattle.room_acl.specs.declared.subject.Kind.TheVariants.{File, Folder}
-use Rattle.room_acl.specs.Bits.{execute, delete_object, delete_child, add_file, add_subdirectory}
-use Rattle.room_acl.specs.SubjectModel.{SubjectModel}
-use Rattle.room_acl.specs.Entries.{EntryModel}
-use Rattle.room_acl.specs.Access.{decision}
-use Rattle.room_records.specs.Names.{Name, Path}
-use Rattle.room_records.specs.Room.{Object, Room, IsRoom, object_at, children, list_of, standing_of, parent_of}
-use Rattle.room_records.specs.Room.{list_under, root_list, follows}
-use Rattle.room_records.proofs.RoomsMap.{found_stands, standing_found, ends, Ends, parent_of_end}
-use Rattle.room_records.proofs.RoomsLists.{lists_below, list_in_folder}
-use Rattle.room_records.proofs.RoomsChildren.{children_rise, same_entries, kind_of_child}
-use Rattle.room_commands.specs.declared.reply.RefusalCode.TheVariants.{NoEnt, NotDir}
-use Rattle.room_commands.specs.ReplyModel.{Refusal}
-use Rattle.room_commands.specs.Checks.{first_refusal, refuse_if, denied_at, check_right, is_file, is_kind}
-use Rattle.room_commands.specs.Checks.{is_root, proper_prefixes, prefix_refusal, walk}
-use Rattle.room_commands.specs.Sight.{depth_in, view, may, SameBelow, handed_to}
+use Rattle.room_commands.proofs.Common.{◌≡◌, ℕ, ◌≤◌, refl, ap, sym, ◌∙◌, arith, Bool, not, ◌&&◌, ◌||◌, List, [], ◌∷◌}
+use Rattle.room_commands.proofs.Common.{◌++◌, map, length, drop, Option, None, Some, is_some, ◌==◌, option_map}
+use Rattle.room_commands.proofs.Common.{append-nil, append_assoc, is_none, if◌then◌else◌, AllByRecursion, Kind, File}
+use Rattle.room_commands.proofs.Common.{Folder, execute, delete_object, delete_child, add_file, add_subdirectory}
+use Rattle.room_commands.proofs.Common.{SubjectModel, EntryModel, decision, Name, Path, Object, Room, IsRoom, object_at}
+use Rattle.room_commands.proofs.Common.{children, list_of, standing_of, parent_of, list_under, root_list, follows}
+use Rattle.room_commands.proofs.Common.{found_stands, standing_found, ends, Ends, parent_of_end, lists_below}
+use Rattle.room_commands.proofs.Common.{list_in_folder, children_rise, same_entries, kind_of_child, NoEnt, NotDir}
+use Rattle.room_commands.proofs.Common.{Refusal, first_refusal, refuse_if, denied_at, check_right, is_file, is_kind}
+use Rattle.room_commands.proofs.Common.{is_root, proper_prefixes, prefix_refusal, walk, depth_in, view, may, SameBelow}
+use Rattle.room_commands.proofs.Common.{handed_to, then_some}
 use Rattle.room_commands.proofs.RoomsRenamed.{rest_below}
 use Rattle.room_commands.proofs.DepthTells.{within_depth, no_deeper}
 use Rattle.room_commands.proofs.Looks.{walk_end}
 use Rattle.room_commands.proofs.BytesAlone.{facts_at, sight_with, view_with, view_by_facts}
 use Rattle.room_commands.proofs.Shorthands.{handed_by, if_reached, right_on}
-use Rattle.std.specs.Bool.{then_some}
 
 all_mapped : {X Y : Type 0} (P : Y → Type 0) (g : X → Y) (xs : List X)
     → AllByRecursion (λ x. P (g x)) xs → AllByRecursion P (map g xs)

@@ -1,29 +1,16 @@
 -- What a caller sees a command of its own tells.
-use Rattle.std.proofs.Common.{◌≡◌, ℕ, ◌+◌, ◌≤◌, refl, ap, ◌∙◌, arith, Bool, true, false, List, [], ◌∷◌}
-use Rattle.std.proofs.Common.{length}
-use Rattle.std.proofs.Common.{Option, None, Some, Ok, Err, option_map, is_some, not, ◌&&◌, bit_and}
-use Rattle.std.proofs.Common.{nat_lt, if◌then◌else◌}
-use Rattle.std.specs.Bool.{then_some}
-use Rattle.std.proofs.lemmas.Bool.{and_parts, not-true, le-ltb}
-use Rattle.room_acl.specs.SubjectModel.{SubjectModel}
-use Rattle.room_acl.specs.Entries.{EntryModel}
-use Rattle.room_acl.specs.Access.{allowed_of}
-use Rattle.room_acl.specs.declared.subject.Kind.{Kind}
-use Rattle.room_acl.specs.declared.subject.Kind.TheVariants.{File, Folder}
-use Rattle.room_acl.specs.Bits.{read_data, list_directory, append_data, read_attributes, read_acl}
-use Rattle.room_records.specs.Limits.{max_document}
-use Rattle.room_records.specs.Names.{Name, Path}
-use Rattle.room_records.specs.Room.{Object, Room, IsRoom, object_at, list_of, standing_of, children}
-use Rattle.room_records.proofs.RoomsMap.{object_there_is_lawful}
+use Rattle.room_commands.proofs.Common.{◌≡◌, ℕ, ◌+◌, ◌≤◌, refl, ap, ◌∙◌, arith, Bool, true, false, List, [], ◌∷◌}
+use Rattle.room_commands.proofs.Common.{length, Option, None, Some, Ok, Err, option_map, is_some, not, ◌&&◌, bit_and}
+use Rattle.room_commands.proofs.Common.{nat_lt, if◌then◌else◌, then_some, and_parts, not-true, le-ltb, SubjectModel}
+use Rattle.room_commands.proofs.Common.{EntryModel, allowed_of, Kind, File, Folder, read_data, list_directory}
+use Rattle.room_commands.proofs.Common.{append_data, read_attributes, read_acl, max_document, Name, Path, Object, Room}
+use Rattle.room_commands.proofs.Common.{IsRoom, object_at, list_of, standing_of, children, object_there_is_lawful}
+use Rattle.room_commands.proofs.Common.{NoEnt, NotDir, IsDir, NotEmpty, Inval, FBig, Refusal, Attributes, Done, About}
+use Rattle.room_commands.proofs.Common.{Names, Size, Bytes, Entries, Allowed, NotDone, first_refusal, check_right}
+use Rattle.room_commands.proofs.Common.{check_folder, check_file, check_size, walk, refuse_if, refusal_without_place}
+use Rattle.room_commands.proofs.Common.{is_file, is_root, may_delete, depth_in, is_kind, effect, effect_by}
+use Rattle.room_commands.proofs.Common.{attributes_of, Sight, sight_of, view, may, may_remove, IsSightTold}
 use Rattle.room_commands.specs.CommandModel as C
-use Rattle.room_commands.specs.declared.reply.RefusalCode.TheVariants.{NoEnt, NotDir, IsDir, NotEmpty, Inval, FBig}
-use Rattle.room_commands.specs.ReplyModel.{Refusal, Attributes}
-use Rattle.room_commands.specs.ReplyModel.{Done, About, Names, Size, Bytes, Entries, Allowed, NotDone}
-use Rattle.room_commands.specs.Checks.{first_refusal, check_right, check_folder, check_file, check_size}
-use Rattle.room_commands.specs.Checks.{walk, refuse_if, refusal_without_place, is_file, is_root, may_delete, depth_in}
-use Rattle.room_commands.specs.Checks.{is_kind}
-use Rattle.room_commands.specs.Effect.{effect, effect_by, attributes_of}
-use Rattle.room_commands.specs.Sight.{Sight, sight_of, view, may, may_remove, IsSightTold}
 use Rattle.room_commands.proofs.DepthTells.{depth_tells_empty}
 use Rattle.room_commands.proofs.OwnersLists.{pass}
 use Rattle.room_commands.proofs.Rights.{none_of}

@@ -1,15 +1,10 @@
 -- Own entries that SETLIST leaves have no mark.
-use Rattle.std.proofs.Common.{◌≡◌, ℕ, ◌-◌, ◌*◌, ◌/◌, ◌%◌, refl, ap, ◌∙◌, arith, Bool, true, false, not, inl}
-use Rattle.std.proofs.Common.{inr, List, [], ◌∷◌, bit_and, ◌==◌}
-use Rattle.std.specs.Prelude.{◌&&◌}
-use Rattle.std.specs.List.{filter_map, list_all}
-use Rattle.std.proofs.lemmas.Bool.{cases_Bool}
+use Rattle.room_commands.proofs.Common.{◌≡◌, ℕ, ◌-◌, ◌*◌, ◌/◌, ◌%◌, refl, ap, ◌∙◌, arith, Bool, true, false, not, inl}
+use Rattle.room_commands.proofs.Common.{inr, List, [], ◌∷◌, bit_and, ◌==◌, ◌&&◌, filter_map, list_all, cases_Bool}
+use Rattle.room_commands.proofs.Common.{inherited_flag, is_inherited, without_inherited, EntryModel, Path, follows_at}
+use Rattle.room_commands.proofs.Common.{kept_entry, own_entries_of_setlist}
 use Rattle.std.proofs.lemmas.Nat.Bits.{and_pow}
-use Rattle.room_acl.specs.Bits.{inherited_flag, is_inherited, without_inherited}
-use Rattle.room_acl.specs.Entries.{EntryModel}
 use Rattle.room_acl.proofs.BitTests.{bit_cases}
-use Rattle.room_records.specs.Names.{Path}
-use Rattle.room_commands.specs.SetList.{follows_at, kept_entry, own_entries_of_setlist}
 
 abbrev no_mark : EntryModel → Bool
 no_mark entry = not (is_inherited entry.flags)

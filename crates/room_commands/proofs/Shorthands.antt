@@ -1,23 +1,12 @@
 -- Names, for proofs alone, of parts of definitions: most are what a definition of `specs/` says of an object that is
 -- found, or not, or of whether a right is refused.
-use Rattle.std.specs.Prelude.{ℕ, ◌||◌, List, [], map, Option, None, Some, is_none, Result, Ok, Err}
-use Rattle.std.specs.Prelude.{if◌then◌else◌}
+use Rattle.room_commands.proofs.Common.{ℕ, ◌||◌, List, [], map, Option, None, Some, is_none, Result, Ok, Err}
+use Rattle.room_commands.proofs.Common.{if◌then◌else◌, Kind, Denied, delete_object, SubjectModel, EntryModel, decision}
+use Rattle.room_commands.proofs.Common.{handed_down, Path, Object, Room, list_of, standing_of, Refusal, ReplyModel}
+use Rattle.room_commands.proofs.Common.{NoEnt, no_object, denied_at, refusal_without_place, CommandModel, Sight, Own}
+use Rattle.room_commands.proofs.Common.{replies_among}
 use Rattle.std.specs.Option.{option_map, option_map_or, unwrap_or}
 use Rattle.std.specs.Result.{result_unwrap_or, result_map_both}
-use Rattle.room_acl.specs.declared.subject.Kind.{Kind}
-use Rattle.room_acl.specs.declared.access.Decision.TheVariants.{Denied}
-use Rattle.room_acl.specs.Bits.{delete_object}
-use Rattle.room_acl.specs.SubjectModel.{SubjectModel}
-use Rattle.room_acl.specs.Entries.{EntryModel}
-use Rattle.room_acl.specs.Access.{decision}
-use Rattle.room_acl.specs.Inheritance.{handed_down}
-use Rattle.room_records.specs.Names.{Path}
-use Rattle.room_records.specs.Room.{Object, Room, list_of, standing_of}
-use Rattle.room_commands.specs.ReplyModel.{Refusal, ReplyModel}
-use Rattle.room_commands.specs.declared.reply.RefusalCode.TheVariants.{NoEnt}
-use Rattle.room_commands.specs.Checks.{no_object, denied_at, refusal_without_place}
-use Rattle.room_commands.specs.CommandModel.{CommandModel}
-use Rattle.room_commands.specs.Sight.{Sight, Own, replies_among}
 
 abbrev pub or_no_object : Option Object → Object
 or_no_object o = unwrap_or o no_object

@@ -1,22 +1,11 @@
 -- What shows, most of it beyond the plain reading of the rights: two rooms whose sights differ in one field alone, and
 -- a command of bob's that is answered differently in each. So no field can be left out of what a caller sees.
-use Rattle.std.proofs.Common.{◌≡◌, ◌+◌, ℕ, zero, suc, refl, true, List, [], ◌∷◌, ◌++◌, None, Some}
-use Rattle.std.specs.Prelude.{codes, Option, Result, Ok}
-use Rattle.room_acl.specs.declared.subject.Kind.{Kind}
-use Rattle.room_acl.specs.declared.subject.Kind.TheVariants.{File, Folder}
-use Rattle.room_acl.specs.declared.who.Who.TheVariants.{Everyone}
-use Rattle.room_acl.specs.SubjectModel.{SubjectModel}
-use Rattle.room_acl.specs.Entries.{EntryModel}
-use Rattle.room_records.specs.Names.{Path}
-use Rattle.room_records.specs.Room.{Room, Object}
-use Rattle.room_commands.specs.declared.reply.RefusalCode.TheVariants.{NoEnt, Access, NotEmpty, IsDir, TooDeep}
-use Rattle.room_commands.specs.declared.reply.RefusalCode.TheVariants.{RoomFull}
+use Rattle.room_commands.proofs.Common.{◌≡◌, ◌+◌, ℕ, zero, suc, refl, true, List, [], ◌∷◌, ◌++◌, None, Some, codes}
+use Rattle.room_commands.proofs.Common.{Option, Result, Ok, Kind, File, Folder, Everyone, SubjectModel, EntryModel}
+use Rattle.room_commands.proofs.Common.{Path, Room, Object, NoEnt, Access, NotEmpty, IsDir, TooDeep, RoomFull}
+use Rattle.room_commands.proofs.Common.{ReplyModel, Refusal, Attributes, Done, Size, Allowed, NotDone, About, Names}
+use Rattle.room_commands.proofs.Common.{Bytes, Entries, effect, Sight, view, but_full, view_less}
 use Rattle.room_commands.specs.CommandModel as C
-use Rattle.room_commands.specs.ReplyModel.{ReplyModel, Refusal, Attributes}
-use Rattle.room_commands.specs.ReplyModel.{Done, Size, Allowed, NotDone, About, Names, Bytes, Entries}
-use Rattle.room_commands.specs.Effect.{effect}
-use Rattle.room_commands.specs.Sight.{Sight, view}
-use Rattle.room_commands.specs.Elsewhere.{but_full, view_less}
 use Rattle.room_commands.proofs.Shorthands.{replies}
 
 abbrev bob : SubjectModel

@@ -1,26 +1,16 @@
 -- Two rooms that look alike to a caller, each changed below the same two paths: they stay alike.
-use Rattle.std.proofs.Common.{◌≡◌, ℕ, refl, ap, sym, ◌∙◌, Bool, true, false, not, ◌&&◌, ◌||◌}
-use Rattle.std.proofs.Common.{List, [], ◌∷◌, ◌++◌, length, drop, Option, None, Some, is_some, ◌==◌, option_map}
-use Rattle.std.proofs.Common.{append-nil, inl, inr, ◌⊎◌}
-use Rattle.std.specs.Prelude.{is_none}
-use Rattle.std.proofs.lemmas.Bool.{cases_Bool, and_parts, and_right, both_ways, false_from_ne_true, not-true}
-use Rattle.std.proofs.lemmas.List.{same_from_push}
-use Rattle.room_acl.specs.declared.subject.Kind.{Kind}
-use Rattle.room_acl.specs.declared.subject.Kind.TheVariants.{File, Folder}
-use Rattle.room_acl.specs.Bits.{list_directory, add_file, add_subdirectory, read_attributes}
-use Rattle.room_acl.specs.Bits.{write_acl, write_owner, delete_object, delete_child}
-use Rattle.room_acl.specs.SubjectModel.{SubjectModel}
-use Rattle.room_acl.specs.Inheritance.{handed_down}
-use Rattle.room_records.specs.Names.{Name, Path, name_eq}
-use Rattle.room_records.specs.Room.{Object, Room, IsRoom, object_at, children, list_of, parent_of}
-use Rattle.room_records.proofs.RoomsMap.{some_is, none_is_some, parent_of_end, ends}
-use Rattle.room_records.proofs.RoomsLists.{lists_by_objects_above}
-use Rattle.room_records.proofs.RoomsChildren.{same_name}
-use Rattle.room_commands.specs.ReplyModel.{Refusal, Attributes}
-use Rattle.room_commands.specs.Checks.{first_refusal, check_right, is_file, is_kind, is_root, prefix_refusal, walk}
-use Rattle.room_commands.specs.Checks.{is_at_or_below}
-use Rattle.room_commands.specs.Sight.{LooksAlike, StayAlike, SameBelow, Sight, may, may_remove, depth_in}
-use Rattle.room_commands.specs.Sight.{view, handed_to}
+use Rattle.room_commands.proofs.Common.{◌≡◌, ℕ, refl, ap, sym, ◌∙◌, Bool, true, false, not, ◌&&◌, ◌||◌, List, [], ◌∷◌}
+use Rattle.room_commands.proofs.Common.{◌++◌, length, drop, Option, None, Some, is_some, ◌==◌, option_map, append-nil}
+use Rattle.room_commands.proofs.Common.{inl, inr, ◌⊎◌, is_none, cases_Bool, and_parts, and_right, both_ways}
+use Rattle.room_commands.proofs.Common.{false_from_ne_true, not-true, same_from_push, Kind, File, Folder}
+use Rattle.room_commands.proofs.Common.{list_directory, add_file, add_subdirectory, read_attributes, write_acl}
+use Rattle.room_commands.proofs.Common.{write_owner, delete_object, delete_child, SubjectModel, handed_down, Name, Path}
+use Rattle.room_commands.proofs.Common.{name_eq, Object, Room, IsRoom, object_at, children, list_of, parent_of, some_is}
+use Rattle.room_commands.proofs.Common.{none_is_some, parent_of_end, ends, lists_by_objects_above, same_name, Refusal}
+use Rattle.room_commands.proofs.Common.{Attributes, first_refusal, check_right, is_file, is_kind, is_root}
+use Rattle.room_commands.proofs.Common.{prefix_refusal, walk, is_at_or_below, LooksAlike, StayAlike, SameBelow, Sight}
+use Rattle.room_commands.proofs.Common.{may, may_remove, depth_in, view, handed_to, object_or_default, then_some}
+use Rattle.room_commands.proofs.Common.{right_to_add}
 use Rattle.room_commands.proofs.RoomsRenamed.{rest_below, below_more}
 use Rattle.room_commands.proofs.RoomsNew.{same_or_other_path}
 use Rattle.room_commands.proofs.ChecksTell.{folder_of_kind, walk_ends_in_folder}
@@ -28,10 +18,7 @@ use Rattle.room_commands.proofs.Looks.{walk_end, walk_to_folder, way_alike, kind
 use Rattle.room_commands.proofs.BytesAlone.{Facts, facts_at, sight_with, size_with, view_with, view_by_facts}
 use Rattle.room_commands.proofs.SameParts.{right_same, prefix_same, walk_same, children_same, depth_same, Region}
 use Rattle.room_commands.proofs.SameParts.{list_in, same_in, view_in, handed_in, list_by_handed}
-use Rattle.room_commands.specs.Checks.{object_or_default}
 use Rattle.room_commands.proofs.Shorthands.{handed_by, if_reached, there_seen, or_no_object}
-use Rattle.std.specs.Bool.{then_some}
-use Rattle.room_commands.specs.Checks.{right_to_add}
 
 -- neither at or below the one path nor the other
 abbrev pub Off : Path → Path → Path → Type 0

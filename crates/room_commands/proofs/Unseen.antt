@@ -1,22 +1,10 @@
 -- What others do out of a caller's sight.
-use Rattle.std.proofs.Common.{◌≡◌, ◌⊎◌, ap, sym, ◌∙◌, Bool, true, false, ◌||◌, inl, inr}
-use Rattle.std.proofs.Common.{◌++◌, length, drop, None, Some, ◌==◌}
-use Rattle.std.specs.Prelude.{is_none}
-use Rattle.std.proofs.lemmas.Bool.{both_ways, or_left, or_right, false_from_ne_true}
-use Rattle.room_acl.specs.declared.subject.Kind.{Kind}
-use Rattle.room_acl.specs.declared.subject.Kind.TheVariants.{File, Folder}
-use Rattle.room_acl.specs.Bits.{add_file, add_subdirectory, write_acl, write_owner}
-use Rattle.room_acl.specs.SubjectModel.{SubjectModel}
-use Rattle.room_acl.specs.Inheritance.{handed_down}
-use Rattle.room_records.specs.Names.{Path}
-use Rattle.room_records.specs.Room.{Object, Room, IsRoom, object_at}
-use Rattle.room_records.proofs.RoomsMap.{none_is_some}
-use Rattle.room_commands.specs.CommandModel.{CommandModel, paths_of}
-use Rattle.room_commands.specs.Lawful.{IsLawful}
-use Rattle.room_commands.specs.Checks.{walk, is_at_or_below}
-use Rattle.room_commands.specs.Effect.{effect}
-use Rattle.room_commands.specs.Sight.{StayAlike, SameBelow, may, may_remove}
-use Rattle.room_commands.specs.Elsewhere.{IsOutOfSight, AddsNowhere}
+use Rattle.room_commands.proofs.Common.{◌≡◌, ◌⊎◌, ap, sym, ◌∙◌, Bool, true, false, ◌||◌, inl, inr, ◌++◌, length, drop}
+use Rattle.room_commands.proofs.Common.{None, Some, ◌==◌, is_none, both_ways, or_left, or_right, false_from_ne_true}
+use Rattle.room_commands.proofs.Common.{Kind, File, Folder, add_file, add_subdirectory, write_acl, write_owner}
+use Rattle.room_commands.proofs.Common.{SubjectModel, handed_down, Path, Object, Room, IsRoom, object_at, none_is_some}
+use Rattle.room_commands.proofs.Common.{CommandModel, paths_of, IsLawful, walk, is_at_or_below, effect, StayAlike}
+use Rattle.room_commands.proofs.Common.{SameBelow, may, may_remove, IsOutOfSight, AddsNowhere, right_to_add}
 use Rattle.room_commands.proofs.ChecksTell.{walk_ends_in_folder}
 use Rattle.room_commands.proofs.RoomsRenamed.{rest_below, one_continues}
 use Rattle.room_commands.proofs.Looks.{walk_to_folder}
@@ -26,7 +14,6 @@ use Rattle.room_commands.proofs.Others.{stay_itself}
 use Rattle.room_commands.proofs.Elsewhere.{Leaves, by_result, blocked, fault_on}
 use Rattle.room_commands.proofs.NamesUnseen.{NameUnseen, FullUnseen, seen_unnamed}
 use Rattle.room_commands.proofs.Shorthands.{or_no_object}
-use Rattle.room_commands.specs.Checks.{right_to_add}
 
 module _ (room later : Room) (caller : SubjectModel) (p t : Path) (is_room : IsRoom room) (s : Leaves room later p t)
     (unseen_p : IsOutOfSight caller room p) (unseen_t : IsOutOfSight caller room t)

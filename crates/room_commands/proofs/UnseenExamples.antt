@@ -1,35 +1,24 @@
 -- Examples that compute: a folder that ann makes where bob may not look does not show to bob, though it takes one of
 -- the numbers that are left; and what shows of it where he may look.
-use Rattle.std.proofs.Common.{◌≡◌, ◌<◌, ℕ, refl, sym, arith, inl, inr, [], ◌∷◌, ◌++◌, true, false, None}
-use Rattle.std.specs.Prelude.{codes, Some}
+use Rattle.room_commands.proofs.Common.{◌≡◌, ◌<◌, ℕ, refl, sym, arith, inl, inr, [], ◌∷◌, ◌++◌, true, false, None}
+use Rattle.room_commands.proofs.Common.{codes, Some, and_from, both_ways, Folder, SubjectModel, Path, is_file_name}
+use Rattle.room_commands.proofs.Common.{IsFileName, IsPath, Room, IsRoom, fresh_room, fresh_object, none_is_some}
+use Rattle.room_commands.proofs.Common.{found_stands, Done, About, NotDone, Attributes, NoEnt, Access, NotEmpty}
+use Rattle.room_commands.proofs.Common.{Everyone, effect, LooksAlike, StayAlike, HasNoPower, Own, Other, replies_among}
+use Rattle.room_commands.proofs.Common.{may, may_remove, view, IsOutOfSight, AddsNowhere, rights_at, ListUnseen, walk}
+use Rattle.room_commands.proofs.Common.{is_at_or_below, read_acl, length, drop}
 use Rattle.std.specs.Str.{IsUtf8}
-use Rattle.std.proofs.lemmas.Bool.{and_from, both_ways}
 use Rattle.std.proofs.lemmas.Str.{IsUtf8-from_ascii, is_utf8-from_IsUtf8}
 use Rattle.std.proofs.lemmas.Str.Ascii.{IsAscii-nil, IsAscii-cons}
-use Rattle.room_acl.specs.declared.subject.Kind.TheVariants.{Folder}
-use Rattle.room_acl.specs.SubjectModel.{SubjectModel}
-use Rattle.room_records.specs.Names.{Path, is_file_name, IsFileName, IsPath}
-use Rattle.room_records.specs.Room.{Room, IsRoom, fresh_room, fresh_object}
 use Rattle.room_records.proofs.PathParts.{path_of_names}
 use Rattle.room_records.proofs.FreshRoom.{fresh_is_room}
-use Rattle.room_records.proofs.RoomsMap.{none_is_some, found_stands}
 use Rattle.room_commands.specs.CommandModel as C
-use Rattle.room_commands.specs.ReplyModel.{Done, About, NotDone, Attributes}
-use Rattle.room_commands.specs.declared.reply.RefusalCode.TheVariants.{NoEnt, Access, NotEmpty}
-use Rattle.room_acl.specs.declared.who.Who.TheVariants.{Everyone}
-use Rattle.room_commands.specs.Effect.{effect}
-use Rattle.room_commands.specs.Sight.{LooksAlike, StayAlike, HasNoPower, Own, Other, replies_among, may, may_remove}
-use Rattle.room_commands.specs.Sight.{view}
 use Rattle.room_commands.proofs.Shorthands.{replies}
-use Rattle.room_commands.specs.Elsewhere.{IsOutOfSight, AddsNowhere, rights_at, ListUnseen}
-use Rattle.room_commands.specs.Checks.{walk, is_at_or_below}
-use Rattle.room_acl.specs.Bits.{read_acl}
 use Rattle.room_commands.proofs.ListsUnseen.{unseen_setlist}
 use Rattle.room_commands.proofs.EffectIsRoom.{effect_is_room}
 use Rattle.room_commands.proofs.Unseen.{done_unseen}
 use Rattle.room_commands.proofs.NamesUnseen.{NameUnseen, shown_unnamed}
 use Rattle.room_commands.proofs.RoomsRenamed.{rest_below}
-use Rattle.std.proofs.Common.{length, drop}
 
 abbrev ann : SubjectModel
 ann = record { name = codes "ann"; groups = [] }

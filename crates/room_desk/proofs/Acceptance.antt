@@ -1,21 +1,9 @@
 -- An accepted request: the rows that its changes and its slot row leave stand for the longer history.
-use Rattle.std.proofs.Common.{◌≡◌, ℕ, ◌∙◌, arith, true, List, ◌∷◌, Option, None, option_map}
-use Rattle.std.specs.Prelude.{◌&&◌, length}
-use Rattle.std.proofs.lemmas.Bool.{and_parts, cond_both}
-use Rattle.std.proofs.lemmas.Bool.Decides.{nat_tests}
-use Rattle.std.proofs.lemmas.Grind.{common_steps}
-use Rattle.std.specs.Cmp.Lexicographic.{bytes_decides}
-use Rattle.room_records.specs.Records.{Records}
-use Rattle.room_records.specs.declared.change.Change.TheVariants.{PutSlot}
-use Rattle.room_records.specs.Changes.{apply_change}
-use Rattle.room_records.specs.Room.{Room}
-use Rattle.room_wire.specs.Asks.EventModel.{Request, Slot}
-use Rattle.room_commands.specs.Lawful.{IsLawful}
-use Rattle.room_desk.specs.AnswerModel.{AnswerModel}
-use Rattle.room_desk.specs.History.{History, Session, session_of, is_accepted, state_after}
-use Rattle.room_desk.specs.History.{accepted, accepts, is_for}
-use Rattle.room_desk.specs.RowAnswers.{Ran, ran_row}
-use Rattle.room_desk.specs.Representation.{RepresentsHistory, session_row_of, slot_row_of}
+use Rattle.room_desk.proofs.Common.{◌≡◌, ℕ, ◌∙◌, arith, true, List, ◌∷◌, Option, None, option_map, ◌&&◌, length}
+use Rattle.room_desk.proofs.Common.{and_parts, cond_both, nat_tests, common_steps, bytes_decides, Records, PutSlot}
+use Rattle.room_desk.proofs.Common.{apply_change, Room, Request, Slot, IsLawful, AnswerModel, History, Session}
+use Rattle.room_desk.proofs.Common.{session_of, is_accepted, state_after, accepted, accepts, is_for, Ran, ran_row}
+use Rattle.room_desk.proofs.Common.{RepresentsHistory, session_row_of, slot_row_of}
 use Rattle.room_desk.proofs.Shorthands.{HaveLawfulCommands, with_event}
 
 -- a request ends no session

@@ -1,14 +1,9 @@
 -- Histories that are alike, as one with an event that changes nothing and one without: the same rows stand for both,
 -- and for both with any further event.
-use Rattle.std.proofs.Common.{◌≡◌, ℕ, ap, sym, ◌∙◌, arith, false, List, ◌∷◌, length, option_map}
-use Rattle.std.specs.Cmp.Lexicographic.{bytes_decides}
-use Rattle.std.proofs.lemmas.Bool.Decides.{nat_tests}
-use Rattle.std.proofs.lemmas.Grind.{common_steps}
-use Rattle.room_records.specs.Records.{Records}
-use Rattle.room_records.specs.Room.{Room}
-use Rattle.room_wire.specs.Asks.EventModel.{EventModel}
-use Rattle.room_desk.specs.History.{History, session_of, accepted, state_after, changes_rows}
-use Rattle.room_desk.specs.Representation.{RepresentsHistory, session_row_of, slot_row_of, kept_after}
+use Rattle.room_desk.proofs.Common.{◌≡◌, ℕ, ap, sym, ◌∙◌, arith, false, List, ◌∷◌, length, option_map, bytes_decides}
+use Rattle.room_desk.proofs.Common.{nat_tests, common_steps, Records, Room, EventModel, History, session_of, accepted}
+use Rattle.room_desk.proofs.Common.{state_after, changes_rows, RepresentsHistory, session_row_of, slot_row_of}
+use Rattle.room_desk.proofs.Common.{kept_after}
 use Rattle.room_desk.proofs.Idle.{state_after_idle, rows_after_idle, accepted_after_idle}
 use Rattle.room_desk.proofs.Shorthands.{commands_of}
 

@@ -1,14 +1,8 @@
 -- Worked examples of pasts that a caller cannot tell apart: an event of another more, and other bytes that it wrote.
-use Rattle.std.proofs.Common.{ℕ, refl, inl, Bool, true, List, [], ◌∷◌}
-use Rattle.std.specs.Prelude.{codes}
-use Rattle.std.specs.Str.{bytes_eq}
-use Rattle.room_acl.specs.SubjectModel.{SubjectModel}
-use Rattle.room_records.specs.Room.{Room, fresh_room}
+use Rattle.room_desk.proofs.Common.{ℕ, refl, inl, Bool, true, List, [], ◌∷◌, codes, bytes_eq, SubjectModel, Room}
+use Rattle.room_desk.proofs.Common.{fresh_room, Request, Open, Slot, History, AlikePasts, Begin, Both, First}
 use Rattle.room_commands.specs.CommandModel as C
 use Rattle.room_commands.proofs.Others.{stay_itself}
-use Rattle.room_wire.specs.Asks.EventModel.{Request, Open, Slot}
-use Rattle.room_desk.specs.History.{History}
-use Rattle.room_desk.specs.AlikePasts.{AlikePasts, Begin, Both, First}
 use Rattle.room_desk.specs.OtherBytes.{DifferInBytes, NoEvents, Same, Written}
 
 abbrev ann : SubjectModel

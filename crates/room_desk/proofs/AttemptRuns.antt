@@ -1,17 +1,8 @@
 -- A run, and a run with an event in doubt, are attempts in turn.
-use Rattle.std.proofs.Common.{◌≡◌, suc, zero, refl, ap, sym, subst, ◌∙◌, arith, inl, inr, ◌⊎◌, Ok}
-use Rattle.std.proofs.Common.{true, List, [], ◌∷◌, Some, None}
-use Rattle.std.specs.Prelude.{◌++◌}
-use Rattle.std.specs.List.{Contains}
-use Rattle.std.proofs.lemmas.Bool.{cases_Bool, both_ways}
-use Rattle.room_records.specs.Room.{Room}
-use Rattle.room_wire.specs.Asks.AskOf.{Event}
-use Rattle.room_wire.specs.Asks.EventModel.{EventModel}
-use Rattle.room_desk.specs.AnswerModel.{AnswerModel}
-use Rattle.room_desk.specs.History.{History}
-use Rattle.room_desk.specs.Serving.{Run, Step}
-use Rattle.room_desk.specs.Stops.{is_delay, in_doubt, doubt_after}
-use Rattle.room_desk.specs.Client.{Attempt, is_lost, Meets, Taken, HearsLess, attempts_of}
+use Rattle.room_desk.proofs.Common.{◌≡◌, suc, zero, refl, ap, sym, subst, ◌∙◌, arith, inl, inr, ◌⊎◌, Ok, true, List, []}
+use Rattle.room_desk.proofs.Common.{◌∷◌, Some, None, ◌++◌, Contains, cases_Bool, both_ways, Room, Event, EventModel}
+use Rattle.room_desk.proofs.Common.{AnswerModel, History, Run, Step, is_delay, in_doubt, doubt_after, Attempt, is_lost}
+use Rattle.room_desk.proofs.Common.{Meets, Taken, HearsLess, attempts_of}
 use Rattle.room_desk.proofs.Stops.{never_delay}
 
 -- an element of a list is the first or one of the others

@@ -1,24 +1,13 @@
 -- A client's attempts: the events that joined the history ask for its commands, each once.
-use Rattle.std.proofs.Common.{◌≡◌, ◌≢◌, ℕ, suc, ◌+◌, ◌^◌, ◌<◌, ◌≤◌, refl, ap, sym, ◌∙◌, arith, inl, inr, ◌⊎◌}
-use Rattle.std.proofs.Common.{subst, zero, Bool, true, false, List, [], ◌∷◌, length, Option, Some}
-use Rattle.std.specs.Prelude.{◌++◌, if◌then◌else◌}
-use Rattle.std.specs.List.{Contains, AllByRecursion}
-use Rattle.std.specs.Str.{bytes_eq}
-use Rattle.std.specs.Cmp.Lexicographic.{bytes_decides}
-use Rattle.std.proofs.lemmas.Bool.{cases_Bool, both_ways}
-use Rattle.std.proofs.lemmas.Grind.{common_steps}
-use Rattle.room_records.specs.Room.{Room}
-use Rattle.room_commands.specs.CommandModel.{CommandModel}
-use Rattle.room_commands.specs.Lawful.{IsLawful}
-use Rattle.room_wire.specs.Asks.EventModel.{EventModel, Slot}
-use Rattle.room_wire.specs.Forms.Texts.{command_text}
+use Rattle.room_desk.proofs.Common.{◌≡◌, ◌≢◌, ℕ, suc, ◌+◌, ◌^◌, ◌<◌, ◌≤◌, refl, ap, sym, ◌∙◌, arith, inl, inr, ◌⊎◌}
+use Rattle.room_desk.proofs.Common.{subst, zero, Bool, true, false, List, [], ◌∷◌, length, Option, Some, ◌++◌}
+use Rattle.room_desk.proofs.Common.{if◌then◌else◌, Contains, AllByRecursion, bytes_eq, bytes_decides, cases_Bool}
+use Rattle.room_desk.proofs.Common.{both_ways, common_steps, Room, CommandModel, IsLawful, EventModel, Slot}
+use Rattle.room_desk.proofs.Common.{command_text, RetryUncached, SeqFalseRetry, AnswerModel, Reply, Refused, History}
+use Rattle.room_desk.proofs.Common.{Accepted, accepted, original_reply, answer_to, Lane, HoldsSlot, ran, is_others}
+use Rattle.room_desk.proofs.Common.{HasNumber, IsAsk, IsUsed, Asks, Attempt, tells_done, Client, idle, AsksOn}
+use Rattle.room_desk.proofs.Common.{KeepsRule, is_lost, Meets, Taken, answer_again, IsTold, HasDone}
 use Rattle.room_wire.proofs.Lemmas.Forms.CommandBack.{one_command}
-use Rattle.room_wire.specs.declared.answers.code.Code.TheVariants.{RetryUncached, SeqFalseRetry}
-use Rattle.room_desk.specs.AnswerModel.{AnswerModel, Reply, Refused}
-use Rattle.room_desk.specs.History.{History, Accepted, accepted, original_reply, answer_to}
-use Rattle.room_desk.specs.Client.{Lane, HoldsSlot, ran, is_others, HasNumber, IsAsk, IsUsed, Asks, Attempt, tells_done}
-use Rattle.room_desk.specs.Client.{Client, idle, AsksOn, KeepsRule, is_lost, Meets, Taken, answer_again}
-use Rattle.room_desk.specs.Client.{IsTold, HasDone}
 use Rattle.room_desk.proofs.Clients.{stands_after, number_of, first_answer, again_answer, other_answer}
 
 -- a client after it asked for a command

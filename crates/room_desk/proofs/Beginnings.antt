@@ -1,18 +1,9 @@
 -- Histories from their beginning: rows with no session, and that a history leaves a room.
-use Rattle.std.proofs.Common.{◌≡◌, ℕ, arith, true, List, [], ◌∷◌, None, inl, inr}
-use Rattle.std.specs.Prelude.{◌&&◌, length}
-use Rattle.std.proofs.lemmas.Bool.{cases_Bool, cond_both}
-use Rattle.std.proofs.lemmas.Bool.Decides.{nat_tests}
-use Rattle.std.proofs.lemmas.Grind.{common_steps}
-use Rattle.std.specs.Cmp.Lexicographic.{bytes_decides}
-use Rattle.room_records.specs.Records.{Records}
-use Rattle.room_records.specs.Room.{Room, IsRoom}
-use Rattle.room_records.specs.Representation.{RepresentsRoom}
+use Rattle.room_desk.proofs.Common.{◌≡◌, ℕ, arith, true, List, [], ◌∷◌, None, inl, inr, ◌&&◌, length, cases_Bool}
+use Rattle.room_desk.proofs.Common.{cond_both, nat_tests, common_steps, bytes_decides, Records, Room, IsRoom}
+use Rattle.room_desk.proofs.Common.{RepresentsRoom, IsLawful, Request, Open, Close, Slot, History, accepts, accepted}
+use Rattle.room_desk.proofs.Common.{is_for, is_accepted, state_after, AcceptsLawful, RepresentsHistory}
 use Rattle.room_commands.proofs.EffectIsRoom.{effect_is_room}
-use Rattle.room_commands.specs.Lawful.{IsLawful}
-use Rattle.room_wire.specs.Asks.EventModel.{Request, Open, Close, Slot}
-use Rattle.room_desk.specs.History.{History, accepts, accepted, is_for, is_accepted, state_after, AcceptsLawful}
-use Rattle.room_desk.specs.Representation.{RepresentsHistory}
 
 -- rows of a room with no session and no slot stand for the history without events
 pub stand_at_first : (start : Room) (r : Records) → RepresentsRoom r.objects start

@@ -1,23 +1,13 @@
 -- Requests that are sent again with the text that their slot keeps: it is the text of a lawful command.
-use Rattle.std.proofs.Common.{◌≡◌, ◌∙◌, ap, sym, ℕ, List, [], ◌∷◌, Option, Some, arith, subst, true, false, refl}
-use Rattle.std.proofs.lemmas.Grind.{common_steps}
-use Rattle.std.proofs.lemmas.Option.{same_Some}
-use Rattle.room_slots.specs.KeptModel.{KeptModel}
-use Rattle.room_records.specs.Records.{Records}
-use Rattle.room_records.specs.Room.{Room}
-use Rattle.room_commands.specs.CommandModel.{CommandModel}
-use Rattle.room_commands.specs.Lawful.{IsLawful}
+use Rattle.room_desk.proofs.Common.{◌≡◌, ◌∙◌, ap, sym, ℕ, List, [], ◌∷◌, Option, Some, arith, subst, true, false, refl}
+use Rattle.room_desk.proofs.Common.{common_steps, same_Some, KeptModel, Records, Room, CommandModel, IsLawful}
+use Rattle.room_desk.proofs.Common.{sent_event, EventModel, Request, Slot, command_text, AnswerModel, History, Accepted}
+use Rattle.room_desk.proofs.Common.{accepted, answer_to, changes_rows, RepresentsHistory, kept_after, slot_row_of}
+use Rattle.room_desk.proofs.Common.{answer_kept, found_by}
 use Rattle.room_wire.specs.declared.asks.routed.SentRequest.{SentRequest}
-use Rattle.room_wire.specs.Asks.AskOf.{sent_event}
-use Rattle.room_wire.specs.Asks.EventModel.{EventModel, Request, Slot}
 use Rattle.room_wire.specs.Forms.Commands.{command_of_body}
-use Rattle.room_wire.specs.Forms.Texts.{command_text}
 use Rattle.room_wire.proofs.Lemmas.Forms.CommandBack.{text_back}
 use Rattle.room_desk.specs.declared.requests.Found.TheVariants as F
-use Rattle.room_desk.specs.AnswerModel.{AnswerModel}
-use Rattle.room_desk.specs.History.{History, Accepted, accepted, answer_to, changes_rows}
-use Rattle.room_desk.specs.Representation.{RepresentsHistory, kept_after, slot_row_of}
-use Rattle.room_desk.specs.RowAnswers.{answer_kept, found_by}
 use Rattle.room_desk.proofs.Found.{Says, said}
 use Rattle.room_desk.proofs.Shorthands.{HaveLawfulCommands}
 

@@ -1,19 +1,10 @@
 -- Worked examples of a client: what keeps its rule, and what does not.
-use Rattle.std.proofs.Common.{◌≡◌, ℕ, suc, refl, ap, arith, inl, inr, true, false, List, [], ◌∷◌, length, Option}
-use Rattle.std.proofs.Common.{None, Some}
-use Rattle.std.specs.Prelude.{codes}
-use Rattle.std.proofs.lemmas.Bool.{both_ways}
+use Rattle.room_desk.proofs.Common.{◌≡◌, ℕ, suc, refl, ap, arith, inl, inr, true, false, List, [], ◌∷◌, length, Option}
+use Rattle.room_desk.proofs.Common.{None, Some, codes, both_ways, SubjectModel, Room, CommandModel, IsLawful, Delay}
+use Rattle.room_desk.proofs.Common.{SeqFalseRetry, EventModel, Open, Close, Slot, AnswerModel, Reply, Refused, History}
+use Rattle.room_desk.proofs.Common.{answer_to, Lane, HoldsSlot, Asks, Attempt, Client, idle, AsksOn, KeepsRule, IsTold}
 use Rattle.room_records.proofs.PathParts.{root_is_path}
-use Rattle.room_acl.specs.SubjectModel.{SubjectModel}
-use Rattle.room_records.specs.Room.{Room}
 use Rattle.room_commands.specs.CommandModel as C
-use Rattle.room_commands.specs.CommandModel.{CommandModel}
-use Rattle.room_commands.specs.Lawful.{IsLawful}
-use Rattle.room_wire.specs.declared.answers.code.Code.TheVariants.{Delay, SeqFalseRetry}
-use Rattle.room_wire.specs.Asks.EventModel.{EventModel, Open, Close, Slot}
-use Rattle.room_desk.specs.AnswerModel.{AnswerModel, Reply, Refused}
-use Rattle.room_desk.specs.History.{History, answer_to}
-use Rattle.room_desk.specs.Client.{Lane, HoldsSlot, Asks, Attempt, Client, idle, AsksOn, KeepsRule, IsTold}
 
 abbrev ann : SubjectModel
 ann = record { name = codes "ann"; groups = codes "eng" ∷ [] }

@@ -1,22 +1,10 @@
 -- Messages that are answered in turn are attempts in turn, and a stop after them leaves rows to which they lead.
-use Rattle.std.proofs.Common.{◌≡◌, refl, subst, ap, inl, inr, ◌⊎◌, List, [], ◌∷◌, Some, true, Result, Ok, Err}
-use Rattle.std.specs.List.{Contains}
-use Rattle.std.proofs.lemmas.Bool.{cases_Bool}
-use Rattle.room_acl.specs.SubjectModel.{SubjectModel}
-use Rattle.room_records.specs.Records.{Records}
-use Rattle.room_records.specs.Room.{Room}
-use Rattle.room_records.specs.Shelf.{View, LeavesNew}
-use Rattle.room_wire.specs.declared.fault.WireFault.{WireFault}
-use Rattle.room_wire.specs.Asks.AskOf.{AskModel, Check, Event, ask_of}
-use Rattle.room_wire.specs.Asks.EventModel.{EventModel}
-use Rattle.room_wire.specs.Messages.MessageModel.{MessageModel}
-use Rattle.room_wire.specs.Serving.Outputs.{InTurn}
-use Rattle.room_desk.specs.AnswerModel.{AnswerModel}
-use Rattle.room_desk.specs.History.{History}
-use Rattle.room_desk.specs.Representation.{StandsFor}
-use Rattle.room_desk.specs.Serving.{MayAnswer, AnswersOrDelays, AnswersMessage, by_event}
-use Rattle.room_desk.specs.Stops.{is_delay, doubt_after, StandsInDoubt, Doubt, no_doubt, AnswersInDoubt}
-use Rattle.room_desk.specs.Client.{Attempt, is_lost, Taken}
+use Rattle.room_desk.proofs.Common.{◌≡◌, refl, subst, ap, inl, inr, ◌⊎◌, List, [], ◌∷◌, Some, true, Result, Ok, Err}
+use Rattle.room_desk.proofs.Common.{Contains, cases_Bool, SubjectModel, Records, Room, View, LeavesNew, WireFault}
+use Rattle.room_desk.proofs.Common.{AskModel, Check, Event, ask_of, EventModel, MessageModel, InTurn, AnswerModel}
+use Rattle.room_desk.proofs.Common.{History, StandsFor, MayAnswer, AnswersOrDelays, AnswersMessage, by_event, is_delay}
+use Rattle.room_desk.proofs.Common.{doubt_after, StandsInDoubt, Doubt, no_doubt, AnswersInDoubt, Attempt, is_lost}
+use Rattle.room_desk.proofs.Common.{Taken}
 use Rattle.room_desk.specs.ClientRuns.{attempts_in, Leads}
 use Rattle.room_desk.proofs.Stops.{at_rest}
 use Rattle.room_desk.proofs.StreamStops.{after_ask}

@@ -1,24 +1,13 @@
 -- A client that asks until it is answered: each of its commands is accepted once, in its order.
-use Rattle.std.proofs.Common.{◌≡◌, ◌≢◌, ℕ, suc, ◌+◌, ◌^◌, ◌%◌, ◌<◌, ◌≤◌, refl, ap, sym, ◌∙◌, arith, inl, inr}
-use Rattle.std.proofs.Common.{true, List, [], ◌∷◌, map, length, nat_eq, nat_lt, Some, eq-eqb}
-use Rattle.std.specs.Prelude.{◌++◌}
-use Rattle.std.specs.Cmp.Lexicographic.{bytes_decides}
-use Rattle.std.proofs.lemmas.List.{length-append, length-map}
-use Rattle.std.proofs.lemmas.Bool.{and_parts, cases_Bool}
-use Rattle.std.proofs.lemmas.Bool.Decides.{nat_tests}
-use Rattle.std.proofs.lemmas.Grind.{common_steps}
-use Rattle.room_slots.specs.Slots.{next_number}
-use Rattle.room_commands.specs.CommandModel.{CommandModel}
-use Rattle.room_wire.specs.Asks.EventModel.{EventModel, Request, Slot}
-use Rattle.room_desk.specs.History.{History, Session, session_of, Accepted, accepted, accepts}
-use Rattle.room_desk.specs.History.{is_open_for, slots_of, answer_to, original_reply}
-use Rattle.room_desk.specs.AnswerModel.{Reply, Refused}
-use Rattle.room_desk.specs.Client.{Lane, HoldsSlot, is_of, is_others, HasNumber, IsAsk, IsUsed, Asks, ran, answer_again}
+use Rattle.room_desk.proofs.Common.{◌≡◌, ◌≢◌, ℕ, suc, ◌+◌, ◌^◌, ◌%◌, ◌<◌, ◌≤◌, refl, ap, sym, ◌∙◌, arith, inl, inr}
+use Rattle.room_desk.proofs.Common.{true, List, [], ◌∷◌, map, length, nat_eq, nat_lt, Some, eq-eqb, ◌++◌, bytes_decides}
+use Rattle.room_desk.proofs.Common.{length-append, length-map, and_parts, cases_Bool, nat_tests, common_steps}
+use Rattle.room_desk.proofs.Common.{next_number, CommandModel, EventModel, Request, Slot, History, Session, session_of}
+use Rattle.room_desk.proofs.Common.{Accepted, accepted, accepts, is_open_for, slots_of, answer_to, original_reply}
+use Rattle.room_desk.proofs.Common.{Reply, Refused, Lane, HoldsSlot, is_of, is_others, HasNumber, IsAsk, IsUsed, Asks}
+use Rattle.room_desk.proofs.Common.{ran, answer_again, Room, command_text, SeqMisordered, SeqFalseRetry}
 use Rattle.room_desk.proofs.Numbers.{accepted_are_numbered}
 use Rattle.room_desk.proofs.Retries.{repeat_answer, uncached_answer, false_retry_answer, misordered_answer}
-use Rattle.room_records.specs.Room.{Room}
-use Rattle.room_wire.specs.Forms.Texts.{command_text}
-use Rattle.room_wire.specs.declared.answers.code.Code.TheVariants.{SeqMisordered, SeqFalseRetry}
 
 abbrev pub commands_of : List Accepted → List CommandModel
 commands_of requests = map (λ (a : Accepted). a.request.command) requests

@@ -1,20 +1,9 @@
 -- A CLOSE by the owner: what was committed stands for the longer history.
-use Rattle.std.proofs.Common.{◌≡◌, ap, sym, arith, option_map, ◌∙◌, List, ℕ, ◌∷◌, Some, true}
-use Rattle.std.specs.Str.{bytes_eq}
-use Rattle.std.specs.Cmp.Lexicographic.{bytes_decides}
-use Rattle.std.proofs.lemmas.Grind.{common_steps}
-use Rattle.std.proofs.lemmas.Option.{same_Some}
-use Rattle.room_acl.specs.SubjectModel.{SubjectModel}
-use Rattle.room_records.specs.Records.{Records}
-use Rattle.room_records.specs.Rules.{RulesHold}
-use Rattle.room_records.specs.Changes.{apply_change, apply_to_sessions}
-use Rattle.room_records.specs.declared.change.Change.TheVariants.{PutSession, DropSlots}
-use Rattle.room_records.specs.declared.session.SessionRow.{SessionRow}
-use Rattle.room_records.specs.Room.{Room}
-use Rattle.room_wire.specs.Asks.EventModel.{Close}
-use Rattle.room_desk.specs.History.{History, session_of, changes_rows}
-use Rattle.room_desk.specs.Representation.{RepresentsHistory, session_row_of, slot_row_of}
-use Rattle.room_desk.specs.SessionRows.{closed_row, with_session_ended}
+use Rattle.room_desk.proofs.Common.{◌≡◌, ap, sym, arith, option_map, ◌∙◌, List, ℕ, ◌∷◌, Some, true, bytes_eq}
+use Rattle.room_desk.proofs.Common.{bytes_decides, common_steps, same_Some, SubjectModel, Records, RulesHold}
+use Rattle.room_desk.proofs.Common.{apply_change, apply_to_sessions, PutSession, DropSlots, SessionRow, Room, Close}
+use Rattle.room_desk.proofs.Common.{History, session_of, changes_rows, RepresentsHistory, session_row_of, slot_row_of}
+use Rattle.room_desk.proofs.Common.{closed_row, with_session_ended}
 use Rattle.room_desk.proofs.Answers.{usable}
 use Rattle.room_desk.proofs.Idle.{itself}
 use Rattle.room_desk.proofs.SlotRows.{slot_rules}

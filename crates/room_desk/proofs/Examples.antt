@@ -1,17 +1,11 @@
 -- Worked examples, computed by the definitions: sessions, repeats and numbers.
-use Rattle.std.proofs.Common.{◌≡◌, ℕ, refl, Bool, true, false, List, [], ◌∷◌, length}
-use Rattle.std.specs.Prelude.{codes}
+use Rattle.room_desk.proofs.Common.{◌≡◌, ℕ, refl, Bool, true, false, List, [], ◌∷◌, length, codes, SubjectModel}
+use Rattle.room_desk.proofs.Common.{CommandModel, Room, fresh_room, BadSession, BadSlot, SeqMisordered, SeqFalseRetry}
+use Rattle.room_desk.proofs.Common.{SessionTaken, RetryUncached, EventModel, Open, Close, Slot, Reply, Refused, History}
+use Rattle.room_desk.proofs.Common.{answer_to, accepted}
 use Rattle.serde_json.proofs.OnLiterals.{serde_json_on_literals}
 use Rattle.std.specs.Fmt.{digits}
-use Rattle.room_acl.specs.SubjectModel.{SubjectModel}
 use Rattle.room_commands.specs.CommandModel as C
-use Rattle.room_commands.specs.CommandModel.{CommandModel}
-use Rattle.room_records.specs.Room.{Room, fresh_room}
-use Rattle.room_wire.specs.declared.answers.code.Code.TheVariants.{BadSession, BadSlot, SeqMisordered, SeqFalseRetry}
-use Rattle.room_wire.specs.declared.answers.code.Code.TheVariants.{SessionTaken, RetryUncached}
-use Rattle.room_wire.specs.Asks.EventModel.{EventModel, Open, Close, Slot}
-use Rattle.room_desk.specs.AnswerModel.{Reply, Refused}
-use Rattle.room_desk.specs.History.{History, answer_to, accepted}
 
 abbrev ann : SubjectModel
 ann = record { name = codes "ann"; groups = codes "eng" ∷ [] }

@@ -1,9 +1,6 @@
 -- Faults of the shelf that a call passes on.
-use Rattle.std.proofs.Common.{◌≡◌, None, Some, Result, Ok, Err, IsErr, IsErrAnd}
-use Rattle.room_records.specs.declared.shelf.ShelfFault.{ShelfFault}
-use Rattle.room_records.specs.declared.shelf.ShelfFault.TheVariants.{Memory, Store}
-use Rattle.room_records.specs.Shelf.{View, ShelfCall, ShelfRead, fault_in}
-use Rattle.room_records.proofs.Shelves.{call_then, none_not_store}
+use Rattle.room_desk.proofs.Common.{◌≡◌, None, Some, Result, Ok, Err, IsErr, IsErrAnd, ShelfFault, Memory, Store, View}
+use Rattle.room_desk.proofs.Common.{ShelfCall, ShelfRead, fault_in, call_then, none_not_store}
 
 -- the fault of a call after a read
 pub passed_on : {T : Type 0} (a b c : View) (fault : ShelfFault) (r : Result T ShelfFault)

@@ -1,20 +1,11 @@
 -- What the rows say of a request is what the history says.
-use Rattle.std.proofs.Common.{◌≡◌, ◌∙◌, refl, true, false, Option, None, Some, inl, inr}
-use Rattle.std.specs.Prelude.{nat_lt, if◌then◌else◌}
-use Rattle.std.proofs.lemmas.Bool.{cases_Bool, ltb-true}
-use Rattle.room_slots.specs.Slots.{is_next, kept_seq}
-use Rattle.room_records.specs.declared.session.SessionRow.{SessionRow}
-use Rattle.room_records.specs.Records.{Records}
-use Rattle.room_records.specs.Room.{Room}
-use Rattle.room_commands.specs.Effect.{effect}
-use Rattle.room_wire.specs.Asks.EventModel.{Request, Slot}
-use Rattle.room_wire.specs.Forms.Texts.{command_text, reply_text}
+use Rattle.room_desk.proofs.Common.{◌≡◌, ◌∙◌, refl, true, false, Option, None, Some, inl, inr, nat_lt, if◌then◌else◌}
+use Rattle.room_desk.proofs.Common.{cases_Bool, ltb-true, is_next, kept_seq, SessionRow, Records, Room, effect, Request}
+use Rattle.room_desk.proofs.Common.{Slot, command_text, reply_text, Reply, Refused, History, session_of, is_open_for}
+use Rattle.room_desk.proofs.Common.{is_accepted, answer_to, state_after, RepresentsHistory, HasSlot, is_usable}
+use Rattle.room_desk.proofs.Common.{answer_kept, found_in, found_for}
 use Rattle.room_desk.specs.declared.requests.Found.{Found}
 use Rattle.room_desk.specs.declared.requests.Found.TheVariants as F
-use Rattle.room_desk.specs.AnswerModel.{Reply, Refused}
-use Rattle.room_desk.specs.History.{History, session_of, is_open_for, is_accepted, answer_to, state_after}
-use Rattle.room_desk.specs.Representation.{RepresentsHistory}
-use Rattle.room_desk.specs.RowAnswers.{HasSlot, is_usable, answer_kept, found_in, found_for}
 use Rattle.room_desk.proofs.Answers.{no_session, usable, as_many}
 use Rattle.room_desk.proofs.SlotTests.{accepted_by_number, new_answer, old_answer}
 

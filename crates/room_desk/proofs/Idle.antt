@@ -1,15 +1,8 @@
 -- An event that changes nothing: each session and slot stays as it was.
-use Rattle.std.proofs.Common.{◌≡◌, ℕ, refl, arith, inl, inr, true, false, List, ◌∷◌, option_map}
-use Rattle.std.specs.Str.{bytes_eq}
-use Rattle.std.proofs.lemmas.Bool.{and_parts, cases_Bool}
-use Rattle.std.proofs.lemmas.Bool.Decides.{nat_tests}
-use Rattle.std.proofs.lemmas.Grind.{common_steps}
-use Rattle.std.specs.Cmp.Lexicographic.{bytes_decides}
-use Rattle.room_records.specs.Room.{Room}
-use Rattle.room_wire.specs.Asks.EventModel.{EventModel, Open, Close, Slot}
-use Rattle.room_desk.specs.AnswerModel.{IsTurnedAway}
-use Rattle.room_desk.specs.History.{History, session_of, accepted, state_after, answer_to, changes_rows}
-use Rattle.room_desk.specs.Representation.{session_row_of}
+use Rattle.room_desk.proofs.Common.{◌≡◌, ℕ, refl, arith, inl, inr, true, false, List, ◌∷◌, option_map, bytes_eq}
+use Rattle.room_desk.proofs.Common.{and_parts, cases_Bool, nat_tests, common_steps, bytes_decides, Room, EventModel}
+use Rattle.room_desk.proofs.Common.{Open, Close, Slot, IsTurnedAway, History, session_of, accepted, state_after}
+use Rattle.room_desk.proofs.Common.{answer_to, changes_rows, session_row_of}
 
 pub itself : (text : List ℕ) → bytes_eq text text ≡ true
 itself text = (bytes_decides text text).1 refl

@@ -1,18 +1,11 @@
 -- The slot test by the row that is kept answers as the history does.
-use Rattle.std.proofs.Common.{◌≡◌, ℕ, suc, ◌+◌, ◌%◌, ◌^◌, refl, arith, true, List, [], ◌∷◌, length, nat_lt, ◌↔◌}
-use Rattle.std.specs.Prelude.{◌==◌, if◌then◌else◌}
-use Rattle.std.proofs.lemmas.Bool.{and_parts, eqb-true, eq-eqb}
-use Rattle.std.proofs.lemmas.Bool.Decides.{nat_tests}
-use Rattle.std.proofs.lemmas.Grind.{common_steps}
-use Rattle.room_slots.specs.Slots.{next_number, verdict}
+use Rattle.room_desk.proofs.Common.{◌≡◌, ℕ, suc, ◌+◌, ◌%◌, ◌^◌, refl, arith, true, List, [], ◌∷◌, length, nat_lt, ◌↔◌}
+use Rattle.room_desk.proofs.Common.{◌==◌, if◌then◌else◌, and_parts, eqb-true, eq-eqb, nat_tests, common_steps}
+use Rattle.room_desk.proofs.Common.{next_number, verdict, Room, Request, Slot, command_text, History, session_of}
+use Rattle.room_desk.proofs.Common.{is_open_for, slots_of, Accepted, accepted, is_accepted, original_reply, answer_to}
+use Rattle.room_desk.proofs.Common.{slot_row_of, kept_after}
 use Rattle.room_slots.specs.declared.verdict.Verdict.TheVariants.{New}
 use Rattle.room_slots.proofs.Counts.{KeepsCount, verdict_by_count, verdict_unaccepted, new_exactly_if_accepted}
-use Rattle.room_records.specs.Room.{Room}
-use Rattle.room_wire.specs.Asks.EventModel.{Request, Slot}
-use Rattle.room_wire.specs.Forms.Texts.{command_text}
-use Rattle.room_desk.specs.History.{History, session_of, is_open_for, slots_of, Accepted, accepted, is_accepted}
-use Rattle.room_desk.specs.History.{original_reply, answer_to}
-use Rattle.room_desk.specs.Representation.{slot_row_of, kept_after}
 use Rattle.room_desk.specs.Verdicts.{answer_by}
 use Rattle.room_desk.proofs.Numbers.{AreNumbered, accepted_are_numbered}
 

@@ -1,36 +1,16 @@
 -- How many numbers are left shows in a history by ROOM_FULL alone; and rows of a room that is put anew.
-use Rattle.std.proofs.Common.{◌≡◌, ℕ, refl, ap, sym, ◌∙◌, arith, Bool, true, false, cond, List, [], ◌∷◌, length}
-use Rattle.std.proofs.Common.{Option, None, Some, inl, inr, option_map}
-use Rattle.std.specs.Prelude.{◌&&◌, not, ◌==◌, if◌then◌else◌, nat_lt}
-use Rattle.std.specs.List.{AllByRecursion}
-use Rattle.std.specs.Bool.{then_some}
-use Rattle.std.specs.Option.{option_map_or}
-use Rattle.std.specs.Str.{bytes_eq}
-use Rattle.std.specs.Cmp.Lexicographic.{bytes_decides}
-use Rattle.std.proofs.lemmas.Bool.{and_parts}
-use Rattle.std.proofs.lemmas.Bool.Decides.{nat_tests}
-use Rattle.std.proofs.lemmas.Grind.{common_steps}
-use Rattle.room_acl.specs.SubjectModel.{SubjectModel}
-use Rattle.room_slots.specs.KeptModel.{KeptModel}
-use Rattle.room_records.specs.declared.session.SessionRow.{SessionRow}
-use Rattle.room_records.specs.Records.{Records}
-use Rattle.room_records.specs.Room.{Room}
-use Rattle.room_records.specs.Representation.{RepresentsRoom}
-use Rattle.room_commands.specs.CommandModel.{CommandModel}
-use Rattle.room_commands.specs.ReplyModel.{ReplyModel}
-use Rattle.room_commands.specs.Effect.{effect}
-use Rattle.room_commands.specs.Made.{with_more, IsRoomFull}
+use Rattle.room_desk.proofs.Common.{◌≡◌, ℕ, refl, ap, sym, ◌∙◌, arith, Bool, true, false, cond, List, [], ◌∷◌, length}
+use Rattle.room_desk.proofs.Common.{Option, None, Some, inl, inr, option_map, ◌&&◌, not, ◌==◌, if◌then◌else◌, nat_lt}
+use Rattle.room_desk.proofs.Common.{AllByRecursion, then_some, option_map_or, bytes_eq, bytes_decides, and_parts}
+use Rattle.room_desk.proofs.Common.{nat_tests, common_steps, SubjectModel, KeptModel, SessionRow, Records, Room}
+use Rattle.room_desk.proofs.Common.{RepresentsRoom, CommandModel, ReplyModel, effect, with_more, IsRoomFull, BadSession}
+use Rattle.room_desk.proofs.Common.{BadSlot, SeqMisordered, SeqFalseRetry, RetryUncached, EventModel, Request, Open}
+use Rattle.room_desk.proofs.Common.{Close, Slot, command_text, reply_text, Reply, Refused, History, Accepted, accepted}
+use Rattle.room_desk.proofs.Common.{accepts, is_for, is_accepted, state_after, session_of, original_reply}
+use Rattle.room_desk.proofs.Common.{answer_unaccepted, answer_to, is_open, is_open_for, slots_of, RepresentsHistory}
+use Rattle.room_desk.proofs.Common.{kept_after, closed_row}
 use Rattle.room_commands.proofs.LeftShows.{left_shows}
-use Rattle.room_wire.specs.declared.answers.code.Code.TheVariants.{BadSession, BadSlot, SeqMisordered, SeqFalseRetry}
-use Rattle.room_wire.specs.declared.answers.code.Code.TheVariants.{RetryUncached}
-use Rattle.room_wire.specs.Asks.EventModel.{EventModel, Request, Open, Close, Slot}
-use Rattle.room_wire.specs.Forms.Texts.{command_text, reply_text}
-use Rattle.room_desk.specs.AnswerModel.{Reply, Refused}
-use Rattle.room_desk.specs.History.{History, Accepted, accepted, accepts, is_for, is_accepted, state_after, session_of}
-use Rattle.room_desk.specs.History.{original_reply, answer_unaccepted, answer_to, is_open, is_open_for, slots_of}
-use Rattle.room_desk.specs.Representation.{RepresentsHistory, kept_after}
 use Rattle.room_desk.specs.Made.{NeverFull, ended}
-use Rattle.room_desk.specs.SessionRows.{closed_row}
 use Rattle.room_desk.proofs.Idle.{itself}
 use Rattle.room_desk.proofs.Secrets.{row_in}
 

@@ -1,3 +1,4 @@
+mod Common
 pub mod Shorthands
 pub mod Runs
 pub mod Acceptance

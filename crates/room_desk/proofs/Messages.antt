@@ -1,31 +1,17 @@
 -- Answers to the messages of a stream, one after another, by a history.
-use Rattle.std.proofs.Common.{◌≡◌, ◌≢◌, ℕ, List, [], ◌∷◌, ◌++◌, refl, sym, ap, ◌∙◌, arith}
-use Rattle.std.proofs.Common.{Result, Ok, Err, Option, inl, inr}
-use Rattle.room_acl.specs.SubjectModel.{SubjectModel}
-use Rattle.room_records.specs.Records.{Records}
-use Rattle.room_records.specs.Room.{Room}
-use Rattle.room_records.specs.Shelf.{View, ShelfFrame}
-use Rattle.room_wire.specs.declared.answers.code.Code.TheVariants.{Delay}
-use Rattle.room_wire.specs.declared.fault.WireFault.{WireFault}
+use Rattle.room_desk.proofs.Common.{◌≡◌, ◌≢◌, ℕ, List, [], ◌∷◌, ◌++◌, refl, sym, ap, ◌∙◌, arith, Result, Ok, Err}
+use Rattle.room_desk.proofs.Common.{Option, inl, inr, SubjectModel, Records, Room, View, ShelfFrame, Delay, WireFault}
+use Rattle.room_desk.proofs.Common.{append_assoc, AskModel, Check, Event, ask_of, DecodesAsk, EventModel, MessageModel}
+use Rattle.room_desk.proofs.Common.{Outputs, AnswerModel, Refused, History, StandsFor, no_output, first_answered}
+use Rattle.room_desk.proofs.Common.{with_first, AnswersOrDelays, AnswersMessage, Answered, IsLeftAlone, MayAnswer}
+use Rattle.room_desk.proofs.Common.{no_call, calls_then}
 use Rattle.room_wire.specs.declared.fault.WireFault.TheVariants.{Memory}
 use Rattle.room_wire.specs.declared.serving.stop.Why.{Why}
 use Rattle.room_wire.specs.declared.serving.stop.Why.TheVariants as W
 use Rattle.std.proofs.KnownBytes.{Appends-nil, Consumes-nil}
-use Rattle.std.proofs.lemmas.List.{append_assoc}
-use Rattle.room_wire.specs.Asks.AskOf.{AskModel, Check, Event, ask_of, DecodesAsk}
-use Rattle.room_wire.specs.Asks.EventModel.{EventModel}
 use Rattle.room_wire.specs.Serving.CheckService.{fault_code, IsCheckAnswer}
 use Rattle.room_wire.specs.Serving.Ends.{Serves}
-use Rattle.room_wire.specs.Messages.MessageModel.{MessageModel}
 use Rattle.room_wire.specs.Questions.QuestionModel.{QuestionModel}
-use Rattle.room_wire.specs.Serving.Outputs.{Outputs}
-use Rattle.room_desk.specs.AnswerModel.{AnswerModel, Refused}
-use Rattle.room_desk.specs.History.{History}
-use Rattle.room_desk.specs.Representation.{StandsFor}
-use Rattle.room_wire.proofs.Lemmas.Serving.Rounds.{no_output, first_answered, with_first}
-use Rattle.room_desk.specs.Serving.{AnswersOrDelays, AnswersMessage, Answered, IsLeftAlone}
-use Rattle.room_desk.specs.Serving.{MayAnswer}
-use Rattle.room_records.proofs.Shelves.{no_call, calls_then}
 use Rattle.room_desk.proofs.Shorthands.{AskChangesFew}
 
 -- what is answered otherwise than by DELAY and asks no event changes nothing

@@ -1,41 +1,30 @@
 -- A room that has a number left was never full: ROOM_FULL is answered where none is left, and their number never rises.
-use Rattle.std.proofs.Common.{◌≡◌, ◌≤◌, ℕ, ◌+◌, ◌-◌, refl, ap, sym, ◌∙◌, arith, Bool, true, false, cond, List, [], ◌∷◌}
-use Rattle.std.proofs.Common.{length, map, Option, None, Some, ◌==◌}
-use Rattle.std.specs.Prelude.{if◌then◌else◌}
-use Rattle.std.specs.List.{AllByRecursion}
-use Rattle.std.specs.Option.{option_map_or}
-use Rattle.std.proofs.lemmas.Bool.Decides.{nat_tests}
+use Rattle.room_desk.proofs.Common.{◌≡◌, ◌≤◌, ℕ, ◌+◌, ◌-◌, refl, ap, sym, ◌∙◌, arith, Bool, true, false, cond, List, []}
+use Rattle.room_desk.proofs.Common.{◌∷◌, length, map, Option, None, Some, ◌==◌, if◌then◌else◌, AllByRecursion}
+use Rattle.room_desk.proofs.Common.{option_map_or, nat_tests, read_data, list_directory, write_data, add_file}
+use Rattle.room_desk.proofs.Common.{append_data, add_subdirectory, execute, delete_object, read_attributes, read_acl}
+use Rattle.room_desk.proofs.Common.{write_acl, write_owner, SubjectModel, Path, path_eq, Records, Object, Room, list_of}
+use Rattle.room_desk.proofs.Common.{standing_of, object_at, parent_of, CommandModel, ReplyModel, Refusal, NotDone}
+use Rattle.room_desk.proofs.Common.{effect, effect_by, IsRoomFull, Open, Close, Slot, History, is_accepted, state_after}
+use Rattle.room_desk.proofs.Common.{RepresentsHistory}
 use Rattle.room_acl.specs.declared.access.Decision.{Decision}
 use Rattle.room_acl.specs.declared.access.Decision.TheVariants.{Allowed, Denied}
 use Rattle.room_acl.specs.declared.inheritance.ListFault.{ListFault}
 use Rattle.room_acl.specs.declared.inheritance.ListFault.TheVariants as L
 use Rattle.room_acl.specs.Access.{decision}
-use Rattle.room_acl.specs.Bits.{read_data, list_directory, write_data, add_file, append_data, add_subdirectory, execute}
-use Rattle.room_acl.specs.Bits.{delete_object, read_attributes, read_acl, write_acl, write_owner}
 use Rattle.room_acl.specs.Inheritance.{own_entries_fault}
-use Rattle.room_acl.specs.SubjectModel.{SubjectModel}
 use Rattle.room_records.specs.Limits.{max_objects}
-use Rattle.room_records.specs.Names.{Path, path_eq}
-use Rattle.room_records.specs.Records.{Records}
-use Rattle.room_records.specs.Room.{Object, Room, list_of, standing_of, object_at, parent_of}
-use Rattle.room_commands.specs.CommandModel.{CommandModel}
 use Rattle.room_commands.specs.CommandModel as C
 use Rattle.room_commands.specs.declared.reply.RefusalCode.{RefusalCode}
 use Rattle.room_commands.specs.declared.reply.RefusalCode.TheVariants.{NoEnt, NotDir, IsDir, Exist, NotEmpty}
 use Rattle.room_commands.specs.declared.reply.RefusalCode.TheVariants.{Inval, FBig, TooDeep, FolderFull, RoomFull}
-use Rattle.room_commands.specs.ReplyModel.{ReplyModel, Refusal, NotDone}
 use Rattle.room_commands.specs.SetList.{own_entries_of_setlist}
 use Rattle.room_commands.specs.Checks.{first_refusal, checks, check_right, check_removal, denied_at, walk, refuse_if}
 use Rattle.room_commands.specs.Checks.{check_exists, check_absent, check_folder, check_file, check_size}
 use Rattle.room_commands.specs.Checks.{check_folder_full, check_lawful, check_room_full, may_delete}
 use Rattle.room_commands.specs.Checks.{refusal_without_place, prefix_refusal, proper_prefixes}
 use Rattle.room_commands.specs.Checks.{bytes_at, object_or_default, right_to_add}
-use Rattle.room_commands.specs.Effect.{effect, effect_by}
-use Rattle.room_commands.specs.Made.{IsRoomFull}
-use Rattle.room_wire.specs.Asks.EventModel.{Open, Close, Slot}
-use Rattle.room_desk.specs.History.{History, is_accepted, state_after}
 use Rattle.room_desk.specs.Made.{NeverFull}
-use Rattle.room_desk.specs.Representation.{RepresentsHistory}
 
 abbrev is_full_code : RefusalCode → Bool
 is_full_code RoomFull = true

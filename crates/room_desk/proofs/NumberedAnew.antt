@@ -1,19 +1,14 @@
 -- Rows that are numbered anew keep the record rules, and stand for the same room with more numbers left.
-use Rattle.std.proofs.Common.{◌≡◌, ℕ, ◌+◌, refl, ap, sym, ◌∙◌, arith, inl, inr, List, [], ◌∷◌}
-use Rattle.std.proofs.Common.{Option, None, Some, IsSome, option_map, reverse}
-use Rattle.std.specs.Option.{unwrap_or}
+use Rattle.room_desk.proofs.Common.{◌≡◌, ℕ, ◌+◌, refl, ap, sym, ◌∙◌, arith, inl, inr, List, [], ◌∷◌, Option, None, Some}
+use Rattle.room_desk.proofs.Common.{IsSome, option_map, reverse, unwrap_or, Name, Path, ObjectRecords, root_number}
+use Rattle.room_desk.proofs.Common.{ObjectRules, NodeRules, IsRoot, Object, Room, IsRoom, NamesUpwards, RepresentsRoom}
+use Rattle.room_desk.proofs.Common.{NodeIsObject, with_more}
 use Rattle.room_records.specs.declared.node.Node.{Node}
-use Rattle.room_records.specs.Names.{Name, Path}
-use Rattle.room_records.specs.Records.{ObjectRecords, root_number}
-use Rattle.room_records.specs.Rules.{ObjectRules, NodeRules, IsRoot}
-use Rattle.room_records.specs.Room.{Object, Room, IsRoom}
-use Rattle.room_records.specs.Representation.{NamesUpwards, RepresentsRoom, NodeIsObject}
 use Rattle.room_records.proofs.Options.{none_is_not_some}
 use Rattle.room_records.proofs.RoomsMap.{some_is, none_is_some}
 use Rattle.room_records.proofs.RoomsLists.{lists_by_objects_above}
 use Rattle.room_records.proofs.RulesKept.{same_or_other}
 use Rattle.room_records.proofs.Paths.{own_number, root_only}
-use Rattle.room_commands.specs.Made.{with_more}
 use Rattle.room_desk.specs.NumberedAnew.{node_anew, AreNumberedAnew}
 
 some_there : {X : Type 0} (o : Option X) → IsSome o → (x : X) × (o ≡ Some x)

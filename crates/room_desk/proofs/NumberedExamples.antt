@@ -1,15 +1,11 @@
 -- A worked example, computed by the definitions: a folder and a file in it have the numbers 5 and 9, since others were
 -- removed, and get 2 and 3.
-use Rattle.std.proofs.Common.{◌≡◌, ◌≢◌, ◌≤◌, ◌<◌, ◌⊎◌, ℕ, refl, ap, sym, arith, inl, inr, []}
-use Rattle.std.proofs.Common.{Option, None, Some, IsSome, ◌==◌}
-use Rattle.std.specs.Prelude.{codes, if◌then◌else◌}
+use Rattle.room_desk.proofs.Common.{◌≡◌, ◌≢◌, ◌≤◌, ◌<◌, ◌⊎◌, ℕ, refl, ap, sym, arith, inl, inr, [], Option, None, Some}
+use Rattle.room_desk.proofs.Common.{IsSome, ◌==◌, codes, if◌then◌else◌, no_list_flags, Name, ObjectRecords}
+use Rattle.room_desk.proofs.Common.{fresh_entries}
 use Rattle.room_acl.specs.declared.subject.Kind.{Kind}
 use Rattle.room_acl.specs.declared.subject.Kind.TheVariants.{File, Folder}
-use Rattle.room_acl.specs.Bits.{no_list_flags}
 use Rattle.room_records.specs.declared.node.Node.{Node}
-use Rattle.room_records.specs.Names.{Name}
-use Rattle.room_records.specs.Records.{ObjectRecords}
-use Rattle.room_records.specs.Room.{fresh_entries}
 use Rattle.room_records.proofs.RoomsMap.{some_is}
 use Rattle.room_records.proofs.RulesKept.{same_or_other}
 use Rattle.room_desk.specs.NumberedAnew.{node_anew, AreNumberedAnew}

@@ -1,12 +1,7 @@
 -- The numbers of the accepted requests of a slot: none comes twice.
-use Rattle.std.proofs.Common.{◌≡◌, ℕ, suc, ◌^◌, ◌<◌, ◌≤◌, arith, true, false, List, [], ◌∷◌, map, length, nat_eq}
-use Rattle.std.specs.List.{AllByRecursion, IsDistinct}
-use Rattle.std.proofs.lemmas.Bool.{and_parts}
-use Rattle.std.proofs.lemmas.Bool.Decides.{nat_tests}
-use Rattle.std.proofs.lemmas.Grind.{common_steps}
-use Rattle.room_slots.specs.Slots.{next_number}
-use Rattle.room_wire.specs.Asks.EventModel.{EventModel, Request, Slot}
-use Rattle.room_desk.specs.History.{History, Accepted, accepted, is_for}
+use Rattle.room_desk.proofs.Common.{◌≡◌, ℕ, suc, ◌^◌, ◌<◌, ◌≤◌, arith, true, false, List, [], ◌∷◌, map, length, nat_eq}
+use Rattle.room_desk.proofs.Common.{AllByRecursion, IsDistinct, and_parts, nat_tests, common_steps, next_number}
+use Rattle.room_desk.proofs.Common.{EventModel, Request, Slot, History, Accepted, accepted, is_for}
 
 -- the latest first, each request has the number after the count of those before it, and is for the slot
 abbrev pub AreNumbered : List ℕ → ℕ → List Accepted → Type 0

@@ -1,29 +1,14 @@
 -- An OPEN of an unused name: the rows that it leaves stand for the longer history.
-use Rattle.std.proofs.Common.{◌≡◌, ℕ, refl, ap, sym, ◌∙◌, arith, inl, inr, List, [], ◌∷◌, None, Some}
+use Rattle.room_desk.proofs.Common.{◌≡◌, ℕ, refl, ap, sym, ◌∙◌, arith, inl, inr, List, [], ◌∷◌, None, Some, bytes_eq}
+use Rattle.room_desk.proofs.Common.{and_parts, cases_Bool, nat_tests, common_steps, none-some, bytes_decides}
+use Rattle.room_desk.proofs.Common.{SubjectModel, SessionRow, Records, SlotRules, RulesHold, PutSession, DropSlots}
+use Rattle.room_desk.proofs.Common.{apply_change, Room, EventModel, Open, History, session_of, accepted, answer_to}
+use Rattle.room_desk.proofs.Common.{RepresentsHistory, session_row_of, slot_row_of, StandsWith, opened_row, Opened}
+use Rattle.room_desk.proofs.Common.{reply_text, Reply}
 use Rattle.std.specs.Option.{option_map}
-use Rattle.std.specs.Str.{bytes_eq}
-use Rattle.std.proofs.lemmas.Bool.{and_parts, cases_Bool}
-use Rattle.std.proofs.lemmas.Bool.Decides.{nat_tests}
-use Rattle.std.proofs.lemmas.Grind.{common_steps}
-use Rattle.std.proofs.lemmas.Option.{none-some}
-use Rattle.std.specs.Cmp.Lexicographic.{bytes_decides}
-use Rattle.room_acl.specs.SubjectModel.{SubjectModel}
-use Rattle.room_records.specs.declared.session.SessionRow.{SessionRow}
-use Rattle.room_records.specs.Records.{Records}
-use Rattle.room_records.specs.Rules.{SlotRules, RulesHold}
-use Rattle.room_records.specs.declared.change.Change.TheVariants.{PutSession, DropSlots}
-use Rattle.room_records.specs.Changes.{apply_change}
-use Rattle.room_records.specs.Room.{Room}
-use Rattle.room_wire.specs.Asks.EventModel.{EventModel, Open}
-use Rattle.room_desk.specs.History.{History, session_of, accepted, answer_to}
-use Rattle.room_desk.specs.Representation.{RepresentsHistory, session_row_of, slot_row_of, StandsWith}
-use Rattle.room_desk.specs.SessionRows.{opened_row}
 use Rattle.room_desk.proofs.Idle.{itself}
 use Rattle.room_desk.proofs.SlotRows.{slot_rules}
 use Rattle.room_desk.proofs.Answers.{no_session}
-use Rattle.room_commands.specs.ReplyModel.{Opened}
-use Rattle.room_wire.specs.Forms.Texts.{reply_text}
-use Rattle.room_desk.specs.AnswerModel.{Reply}
 
 none_later : (past : History) (event : EventModel) (sid : List ℕ) (slot : ℕ) → session_of (event ∷ past) sid ≡ None
     → (session_of past sid ≡ None → accepted past sid slot ≡ []) → accepted (event ∷ past) sid slot ≡ []

@@ -1,38 +1,21 @@
 -- The bytes of documents show to reads alone.
-use Rattle.std.proofs.Common.{◌≡◌, ℕ, refl, ap, sym, ◌∙◌, arith, inl, inr, ◌⊎◌, Bool, true, false}
-use Rattle.std.proofs.Common.{not, ◌&&◌, cond}
-use Rattle.std.proofs.Common.{List, [], ◌∷◌, map, length, nat_lt}
-use Rattle.std.specs.Prelude.{◌==◌, ⊤, suc}
-use Rattle.std.specs.Str.{bytes_eq}
-use Rattle.std.specs.Cmp.Lexicographic.{bytes_decides}
-use Rattle.std.proofs.lemmas.Bool.{and_from, eqb-true, eq-eqb}
-use Rattle.std.proofs.lemmas.Grind.{common_steps}
-use Rattle.room_acl.specs.Bits.{read_data}
-use Rattle.room_acl.specs.SubjectModel.{SubjectModel}
-use Rattle.room_slots.specs.Slots.{next_number}
-use Rattle.room_records.specs.Names.{Path}
-use Rattle.room_records.specs.Room.{Room}
-use Rattle.room_commands.specs.CommandModel.{CommandModel, Read}
-use Rattle.room_commands.specs.ReplyModel.{ReplyModel, Bytes}
-use Rattle.room_commands.specs.Effect.{effect}
+use Rattle.room_desk.proofs.Common.{◌≡◌, ℕ, refl, ap, sym, ◌∙◌, arith, inl, inr, ◌⊎◌, Bool, true, false, not, ◌&&◌}
+use Rattle.room_desk.proofs.Common.{cond, List, [], ◌∷◌, map, length, nat_lt, ◌==◌, ⊤, suc, bytes_eq, bytes_decides}
+use Rattle.room_desk.proofs.Common.{and_from, eqb-true, eq-eqb, common_steps, read_data, SubjectModel, next_number}
+use Rattle.room_desk.proofs.Common.{Path, Room, CommandModel, Read, ReplyModel, Bytes, effect, EventModel, Request}
+use Rattle.room_desk.proofs.Common.{Open, Close, Slot, command_text, reply_text, BadSession, BadSlot, SeqMisordered}
+use Rattle.room_desk.proofs.Common.{SeqFalseRetry, AnswerModel, Reply, Refused, History, Accepted, session_of}
+use Rattle.room_desk.proofs.Common.{is_open_for, slots_of, accepts, is_for, accepted, is_accepted, state_after}
+use Rattle.room_desk.proofs.Common.{original_reply, answer_unaccepted, answer_to, caller_of, then_some}
 use Rattle.room_commands.specs.Sight.{may}
 use Rattle.room_commands.specs.OtherBytes.{room_with, command_with, reply_with, blank}
 use Rattle.room_commands.proofs.OtherBytes.{same_room, same_reply, read_alone}
-use Rattle.room_wire.specs.Asks.EventModel.{EventModel, Request, Open, Close, Slot}
-use Rattle.room_wire.specs.Forms.Texts.{command_text, reply_text}
-use Rattle.room_wire.specs.declared.answers.code.Code.TheVariants.{BadSession, BadSlot, SeqMisordered, SeqFalseRetry}
-use Rattle.room_desk.specs.AnswerModel.{AnswerModel, Reply, Refused}
-use Rattle.room_desk.specs.History.{History, Accepted, session_of, is_open_for, slots_of, accepts, is_for, accepted}
-use Rattle.room_desk.specs.History.{is_accepted, state_after, original_reply}
-use Rattle.room_desk.specs.History.{answer_unaccepted, answer_to}
-use Rattle.room_desk.specs.AlikePasts.{caller_of}
 use Rattle.room_desk.specs.OtherBytes.{DifferInBytes, NoEvents, Same, Written, TellsOfRead}
 use Rattle.room_desk.proofs.Idle.{itself, accepted_after_idle}
 use Rattle.room_desk.proofs.OwnRequests.{Owned, own, accepted_are_owned}
 use Rattle.room_desk.proofs.Secrets.{row_in, row_then, row_is_open_for, row_slots, open_by_row, slots_by_row}
 use Rattle.room_desk.proofs.Secrets.{open_answer, close_answer, open_answered, close_answered}
 use Rattle.room_desk.proofs.Shorthands.{answer_again, replay}
-use Rattle.std.specs.Bool.{then_some}
 
 -- replies that differ in bytes alone are the same, or bytes were read
 no_bytes : (y x : ReplyModel) → reply_with blank y ≡ x → ((bytes : List ℕ) → x ≡ Bytes bytes → ⊥) → y ≡ x

@@ -1,19 +1,9 @@
 -- RETRY_UNCACHED is answered to a request of the session's owner alone, and that request is the last one of its slot.
-use Rattle.std.proofs.Common.{◌≡◌, ℕ, refl, arith, true, false, List, [], ◌∷◌, length, Option, None, Some}
-use Rattle.std.specs.List.{AllByRecursion}
-use Rattle.std.specs.Str.{bytes_eq}
-use Rattle.std.specs.Cmp.Lexicographic.{bytes_decides}
-use Rattle.std.proofs.lemmas.Bool.{and_parts}
-use Rattle.std.proofs.lemmas.Bool.Decides.{nat_tests}
-use Rattle.std.proofs.lemmas.Grind.{common_steps}
-use Rattle.room_records.specs.Room.{Room}
-use Rattle.room_wire.specs.declared.answers.code.Code.TheVariants.{RetryUncached}
-use Rattle.room_wire.specs.Asks.EventModel.{EventModel, Request, Slot}
-use Rattle.room_wire.specs.Forms.Texts.{command_text}
-use Rattle.room_desk.specs.AnswerModel.{Refused}
-use Rattle.room_desk.specs.History.{History, Session, session_of, is_open_for, Accepted, accepted, answer_unaccepted}
-use Rattle.room_desk.specs.History.{answer_to}
-use Rattle.room_slots.specs.Slots.{next_number}
+use Rattle.room_desk.proofs.Common.{◌≡◌, ℕ, refl, arith, true, false, List, [], ◌∷◌, length, Option, None, Some}
+use Rattle.room_desk.proofs.Common.{AllByRecursion, bytes_eq, bytes_decides, and_parts, nat_tests, common_steps, Room}
+use Rattle.room_desk.proofs.Common.{RetryUncached, EventModel, Request, Slot, command_text, Refused, History, Session}
+use Rattle.room_desk.proofs.Common.{session_of, is_open_for, Accepted, accepted, answer_unaccepted, answer_to}
+use Rattle.room_desk.proofs.Common.{next_number}
 use Rattle.room_desk.proofs.Numbers.{accepted_are_numbered}
 
 -- ---- the accepted requests of a slot are those of the session's owner

@@ -1,14 +1,7 @@
 -- The same event again, right after itself: it gets the same answer, and changes nothing.
-use Rattle.std.proofs.Common.{◌≡◌, ℕ, suc, ◌+◌, ◌%◌, ◌^◌, arith, true, false, ◌∷◌}
-use Rattle.std.proofs.lemmas.Bool.{and_parts}
-use Rattle.std.proofs.lemmas.Bool.Decides.{nat_tests}
-use Rattle.std.proofs.lemmas.Grind.{common_steps}
-use Rattle.room_slots.specs.Slots.{next_number}
-use Rattle.room_records.specs.Room.{Room}
-use Rattle.room_wire.specs.declared.answers.code.Code.TheVariants.{RetryUncached}
-use Rattle.room_wire.specs.Asks.EventModel.{EventModel, Request, Slot}
-use Rattle.room_desk.specs.AnswerModel.{Refused}
-use Rattle.room_desk.specs.History.{History, is_accepted, answer_to, changes_rows, leaves_no_reply}
+use Rattle.room_desk.proofs.Common.{◌≡◌, ℕ, suc, ◌+◌, ◌%◌, ◌^◌, arith, true, false, ◌∷◌, and_parts, nat_tests}
+use Rattle.room_desk.proofs.Common.{common_steps, next_number, Room, RetryUncached, EventModel, Request, Slot, Refused}
+use Rattle.room_desk.proofs.Common.{History, is_accepted, answer_to, changes_rows, leaves_no_reply}
 use Rattle.room_desk.proofs.Idle.{itself}
 
 next_differs : (n : ℕ) → next_number n ≡ next_number (suc n) → ⊥

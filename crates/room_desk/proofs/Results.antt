@@ -1,5 +1,5 @@
 -- Facts on a result that several clauses say apart.
-use Rattle.std.proofs.Common.{IfOk, OnOk, Result, Ok, Err}
+use Rattle.room_desk.proofs.Common.{IfOk, OnOk, Result, Ok, Err}
 use Rattle.std.proofs.lemmas.Result.{MatchResult-weaker}
 
 -- what holds of an Ok gives more

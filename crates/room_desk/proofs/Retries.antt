@@ -1,16 +1,8 @@
 -- A request whose number is not new: a repeat gets its first reply, and any other is refused.
-use Rattle.std.proofs.Common.{arith, ◌≡◌, ◌≢◌, true, false, List, ◌∷◌, length, nat_lt}
-use Rattle.std.specs.Cmp.Lexicographic.{bytes_decides}
-use Rattle.std.proofs.lemmas.Bool.Decides.{nat_tests}
-use Rattle.std.proofs.lemmas.Grind.{common_steps}
-use Rattle.room_slots.specs.Slots.{next_number}
-use Rattle.room_records.specs.Room.{Room}
-use Rattle.room_wire.specs.declared.answers.code.Code.TheVariants.{SeqMisordered, SeqFalseRetry, RetryUncached}
-use Rattle.room_wire.specs.Asks.EventModel.{Request, Slot}
-use Rattle.room_wire.specs.Forms.Texts.{command_text}
-use Rattle.room_desk.specs.AnswerModel.{Reply, Refused}
-use Rattle.room_desk.specs.History.{History, session_of, is_open_for, slots_of, Accepted, accepted, original_reply}
-use Rattle.room_desk.specs.History.{answer_to}
+use Rattle.room_desk.proofs.Common.{arith, ◌≡◌, ◌≢◌, true, false, List, ◌∷◌, length, nat_lt, bytes_decides, nat_tests}
+use Rattle.room_desk.proofs.Common.{common_steps, next_number, Room, SeqMisordered, SeqFalseRetry, RetryUncached}
+use Rattle.room_desk.proofs.Common.{Request, Slot, command_text, Reply, Refused, History, session_of, is_open_for}
+use Rattle.room_desk.proofs.Common.{slots_of, Accepted, accepted, original_reply, answer_to}
 use Rattle.room_desk.proofs.Numbers.{accepted_are_numbered}
 
 module _ (start : Room) (past : History) (q : Request) (last : Accepted) (earlier : List Accepted)

@@ -1,29 +1,14 @@
 -- The changes of a command and its slot row, in one list.
-use Rattle.std.proofs.Common.{◌≡◌, ℕ, refl, ◌∙◌, arith, List, [], ◌∷◌, ◌++◌}
-use Rattle.std.specs.List.{AllByRecursion}
-use Rattle.std.specs.Cmp.Lexicographic.{bytes_decides}
-use Rattle.std.proofs.lemmas.Bool.{and_parts}
-use Rattle.std.proofs.lemmas.Bool.Decides.{nat_tests}
-use Rattle.std.proofs.lemmas.Grind.{common_steps}
+use Rattle.room_desk.proofs.Common.{◌≡◌, ℕ, refl, ◌∙◌, arith, List, [], ◌∷◌, ◌++◌, AllByRecursion, bytes_decides}
+use Rattle.room_desk.proofs.Common.{and_parts, nat_tests, common_steps, PutSlot, Records, ObjectRules, SlotRules}
+use Rattle.room_desk.proofs.Common.{apply_change, apply_changes, apply_all_to_objects, IsOfObjects, RulesHoldAfterEach}
+use Rattle.room_desk.proofs.Common.{ObjectRulesHoldAfterEach, Room, RepresentsRoom, reply_model, effect, IsLawful}
+use Rattle.room_desk.proofs.Common.{Request, command_text, reply_text, HasSlot, RanTo, ran_row, then_some}
 use Rattle.room_records.specs.declared.session.SlotRow.{SlotRow}
 use Rattle.room_records.specs.declared.change.Change.{Change}
-use Rattle.room_records.specs.declared.change.Change.TheVariants.{PutSlot}
-use Rattle.room_records.specs.Records.{Records}
-use Rattle.room_records.specs.Rules.{ObjectRules, SlotRules}
-use Rattle.room_records.specs.Changes.{apply_change, apply_changes, apply_all_to_objects, IsOfObjects}
-use Rattle.room_records.specs.Changes.{RulesHoldAfterEach, ObjectRulesHoldAfterEach}
-use Rattle.room_records.specs.Room.{Room}
-use Rattle.room_records.specs.Representation.{RepresentsRoom}
 use Rattle.room_records.proofs.Changes.{changes_then}
-use Rattle.room_commands.specs.ReplyModel.{reply_model}
-use Rattle.room_commands.specs.Effect.{effect}
-use Rattle.room_commands.specs.Lawful.{IsLawful}
 use Rattle.room_tree.specs.Plans.{PlansEffect}
 use Rattle.room_tree.specs.declared.planning.Outcome.{Outcome}
-use Rattle.room_wire.specs.Asks.EventModel.{Request}
-use Rattle.room_wire.specs.Forms.Texts.{command_text, reply_text}
-use Rattle.room_desk.specs.RowAnswers.{HasSlot, RanTo, ran_row}
-use Rattle.std.specs.Bool.{then_some}
 
 objects_of_changes : (changes : List Change) (r : Records)
     → (apply_changes changes r).objects ≡ apply_all_to_objects changes r.objects

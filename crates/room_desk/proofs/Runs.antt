@@ -1,11 +1,7 @@
 -- Events that are taken in turn go on by one.
-use Rattle.std.proofs.Common.{◌≡◌, ℕ, ◌+◌, ◌<◌, List, [], ◌∷◌, ◌++◌, map, take, length, get_or, refl}
-use Rattle.std.proofs.lemmas.List.{take_more, map-append}
-use Rattle.room_wire.specs.Asks.EventModel.{EventModel, event_model}
+use Rattle.room_desk.proofs.Common.{◌≡◌, ℕ, ◌+◌, ◌<◌, List, [], ◌∷◌, ◌++◌, map, take, length, get_or, refl, take_more}
+use Rattle.room_desk.proofs.Common.{map-append, EventModel, event_model, Answer, AnswerModel, answer_model, InTurn}
 use Rattle.room_wire.specs.declared.asks.event.Event.{Event}
-use Rattle.room_wire.specs.declared.answers.answer.Answer.{Answer}
-use Rattle.room_desk.specs.AnswerModel.{AnswerModel, answer_model}
-use Rattle.room_wire.specs.Serving.Outputs.{InTurn}
 
 module _ {S : Type 0} (answers : S → EventModel → AnswerModel → S → Type 0) where
   pub in_turn_more : (before mid after : S) (events : List EventModel)

@@ -1,23 +1,10 @@
 -- What a caller may not see of a run does not show in the answers of the run to it.
-use Rattle.std.proofs.Common.{◌≡◌, ℕ, ◌+◌, refl, ap, sym, ◌∙◌, arith, inl, inr, Bool, true, false, not, ◌&&◌, cond}
-use Rattle.std.proofs.Common.{List, []}
-use Rattle.std.proofs.Common.{◌∷◌, length, Result, Ok, Err, suc}
-use Rattle.std.specs.Prelude.{IsTrue}
-use Rattle.std.specs.Str.{bytes_eq}
-use Rattle.std.proofs.lemmas.Bool.{and_right}
-use Rattle.room_acl.specs.SubjectModel.{SubjectModel}
-use Rattle.room_records.specs.Room.{Room, IsRoom}
-use Rattle.room_wire.specs.declared.fault.WireFault.{WireFault}
-use Rattle.room_wire.specs.Asks.AskOf.{AskModel, Check, Event, ask_of}
-use Rattle.room_wire.specs.Asks.EventModel.{EventModel}
-use Rattle.room_wire.specs.Messages.MessageModel.{MessageModel}
-use Rattle.room_wire.specs.Serving.Outputs.{InTurn, Writes}
-use Rattle.room_desk.specs.AnswerModel.{AnswerModel}
-use Rattle.room_desk.specs.History.{History, answer_to}
-use Rattle.room_desk.specs.Serving.{AnswersOrDelays, AnswersMessage, IsRun, Run, Step}
-use Rattle.room_desk.specs.Stops.{is_delay}
-use Rattle.room_desk.specs.AlikePasts.{AlikePasts, Begin, Both, First, Second, Others, caller_of, sid_of}
-use Rattle.room_desk.specs.AlikePasts.{LeavesSessions, is_own, asks_own, told}
+use Rattle.room_desk.proofs.Common.{◌≡◌, ℕ, ◌+◌, refl, ap, sym, ◌∙◌, arith, inl, inr, Bool, true, false, not, ◌&&◌}
+use Rattle.room_desk.proofs.Common.{cond, List, [], ◌∷◌, length, Result, Ok, Err, suc, IsTrue, bytes_eq, and_right}
+use Rattle.room_desk.proofs.Common.{SubjectModel, Room, IsRoom, WireFault, AskModel, Check, Event, ask_of, EventModel}
+use Rattle.room_desk.proofs.Common.{MessageModel, InTurn, Writes, AnswerModel, History, answer_to, AnswersOrDelays}
+use Rattle.room_desk.proofs.Common.{AnswersMessage, IsRun, Run, Step, is_delay, AlikePasts, Begin, Both, First, Second}
+use Rattle.room_desk.proofs.Common.{Others, caller_of, sid_of, LeavesSessions, is_own, asks_own, told}
 use Rattle.room_desk.proofs.Stops.{never_delay}
 use Rattle.room_desk.proofs.Secrets.{answers_alike}
 

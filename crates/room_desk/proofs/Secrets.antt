@@ -1,38 +1,23 @@
 -- What a caller may not see of a history does not show in the answers to it.
-use Rattle.std.proofs.Common.{◌≡◌, ℕ, refl, ap, sym, subst, ◌∙◌, arith, Bool, true, false, not, ◌&&◌, cond}
-use Rattle.std.proofs.Common.{List, [], ◌∷◌, length, Option, None, Some, nat_lt, option_map, inl, inr}
-use Rattle.std.specs.Prelude.{◌==◌, IsTrue, ⊤, suc, if◌then◌else◌}
-use Rattle.std.specs.Str.{bytes_eq}
-use Rattle.std.specs.Cmp.Lexicographic.{bytes_decides}
-use Rattle.std.proofs.lemmas.Bool.{false_from_ne_true, and_left}
-use Rattle.std.proofs.lemmas.Grind.{common_steps}
-use Rattle.room_acl.specs.SubjectModel.{SubjectModel}
-use Rattle.room_slots.specs.Slots.{next_number}
-use Rattle.room_records.specs.declared.session.SessionRow.{SessionRow}
-use Rattle.room_records.specs.Room.{Room, IsRoom}
-use Rattle.room_commands.specs.Lawful.{IsLawful}
-use Rattle.room_commands.specs.ReplyModel.{Opened, Done}
-use Rattle.room_commands.specs.Effect.{effect}
+use Rattle.room_desk.proofs.Common.{◌≡◌, ℕ, refl, ap, sym, subst, ◌∙◌, arith, Bool, true, false, not, ◌&&◌, cond, List}
+use Rattle.room_desk.proofs.Common.{[], ◌∷◌, length, Option, None, Some, nat_lt, option_map, inl, inr, ◌==◌, IsTrue, ⊤}
+use Rattle.room_desk.proofs.Common.{suc, if◌then◌else◌, bytes_eq, bytes_decides, false_from_ne_true, and_left}
+use Rattle.room_desk.proofs.Common.{common_steps, SubjectModel, next_number, SessionRow, Room, IsRoom, IsLawful, Opened}
+use Rattle.room_desk.proofs.Common.{Done, effect, EventModel, Request, Open, Close, Slot, command_text, reply_text}
+use Rattle.room_desk.proofs.Common.{BadSession, BadSlot, SeqMisordered, SeqFalseRetry, AnswerModel, Reply, Refused}
+use Rattle.room_desk.proofs.Common.{History, Session, Accepted, session_of, is_open_for, slots_of, accepts, is_for}
+use Rattle.room_desk.proofs.Common.{accepted, is_accepted, state_after, original_reply, answer_unaccepted, answer_open}
+use Rattle.room_desk.proofs.Common.{answer_close, answer_to, session_row_of, is_usable, answer_open_again, AlikePasts}
+use Rattle.room_desk.proofs.Common.{Begin, Both, First, Second, Others, caller_of, sid_of, asks_lawfully}
+use Rattle.room_desk.proofs.Common.{LeavesSessions, then_some}
 use Rattle.room_commands.specs.Sight.{StayAlike}
 use Rattle.room_commands.proofs.EffectIsRoom.{effect_is_room}
 use Rattle.room_commands.proofs.NothingShows.{reply_alike}
 use Rattle.room_commands.proofs.CommandsStay.{command_stays}
 use Rattle.room_commands.proofs.Others.{stay_turned, stay_joined}
-use Rattle.room_wire.specs.Asks.EventModel.{EventModel, Request, Open, Close, Slot}
-use Rattle.room_wire.specs.Forms.Texts.{command_text, reply_text}
-use Rattle.room_wire.specs.declared.answers.code.Code.TheVariants.{BadSession, BadSlot, SeqMisordered, SeqFalseRetry}
-use Rattle.room_desk.specs.AnswerModel.{AnswerModel, Reply, Refused}
-use Rattle.room_desk.specs.History.{History, Session, Accepted, session_of, is_open_for, slots_of, accepts, is_for}
-use Rattle.room_desk.specs.History.{accepted, is_accepted, state_after, original_reply}
-use Rattle.room_desk.specs.History.{answer_unaccepted, answer_open, answer_close, answer_to}
-use Rattle.room_desk.specs.Representation.{session_row_of}
-use Rattle.room_desk.specs.RowAnswers.{is_usable, answer_open_again}
-use Rattle.room_desk.specs.AlikePasts.{AlikePasts, Begin, Both, First, Second, Others, caller_of, sid_of, asks_lawfully}
-use Rattle.room_desk.specs.AlikePasts.{LeavesSessions}
 use Rattle.room_desk.proofs.Idle.{rows_after_idle, accepted_after_idle}
 use Rattle.room_desk.proofs.Numbers.{other_slots_stay}
 use Rattle.room_desk.proofs.Shorthands.{answer_again, replay}
-use Rattle.std.specs.Bool.{then_some}
 
 -- what is asked of a session, by its row
 abbrev pub row_in : History → List ℕ → Option SessionRow

@@ -1,27 +1,15 @@
 -- Reads before a request is answered, and what is answered by them alone.
-use Rattle.std.proofs.Common.{◌≡◌, ◌≢◌, ◌∙◌, Bool, false, sym, subst, refl, ◌∷◌, Option, None, Some}
-use Rattle.std.proofs.Common.{Result, Err, IfOk, inl, inr}
-use Rattle.room_records.specs.declared.shelf.ShelfFault.{ShelfFault}
-use Rattle.room_records.specs.declared.shelf.ShelfFault.TheVariants.{Store}
-use Rattle.room_records.specs.Room.{Room}
-use Rattle.room_records.specs.Shelf.{View, ShelfCall, ShelfRead, fault_in}
-use Rattle.room_records.proofs.Shelves.{none_not_store}
-use Rattle.room_commands.specs.CommandModel.{CommandModel}
-use Rattle.room_wire.specs.declared.answers.answer.Answer.{Answer}
-use Rattle.room_wire.specs.declared.answers.code.Code.TheVariants.{BadRequest, Delay}
+use Rattle.room_desk.proofs.Common.{◌≡◌, ◌≢◌, ◌∙◌, Bool, false, sym, subst, refl, ◌∷◌, Option, None, Some, Result, Err}
+use Rattle.room_desk.proofs.Common.{IfOk, inl, inr, ShelfFault, Store, Room, View, ShelfCall, ShelfRead, fault_in}
+use Rattle.room_desk.proofs.Common.{none_not_store, CommandModel, Answer, BadRequest, Delay, WireFault, event_asked}
+use Rattle.room_desk.proofs.Common.{request_by, sent_event, EventModel, Request, Slot, AnswerModel, Refused}
+use Rattle.room_desk.proofs.Common.{answer_model, IsTurnedAway, History, RepresentsHistory, StandsFor, AnswersText}
+use Rattle.room_desk.proofs.Common.{found_by, found_for, Answered, may_ask_shelf}
 use Rattle.room_wire.specs.declared.asks.routed.SentRequest.{SentRequest}
-use Rattle.room_wire.specs.declared.fault.WireFault.{WireFault}
 use Rattle.room_wire.specs.declared.fault.WireFault.TheVariants as W
-use Rattle.room_wire.specs.Asks.AskOf.{event_asked, request_by, sent_event}
-use Rattle.room_wire.specs.Asks.EventModel.{EventModel, Request, Slot}
 use Rattle.room_wire.specs.Forms.Commands.{ReadsCommand, command_of_body}
 use Rattle.room_wire.specs.Serving.CheckService.{fault_code}
 use Rattle.room_desk.specs.declared.requests.Found.{Found}
-use Rattle.room_desk.specs.AnswerModel.{AnswerModel, Refused, answer_model, IsTurnedAway}
-use Rattle.room_desk.specs.History.{History}
-use Rattle.room_desk.specs.Representation.{RepresentsHistory, StandsFor}
-use Rattle.room_desk.specs.RowAnswers.{AnswersText, found_by, found_for}
-use Rattle.room_desk.specs.Serving.{Answered, may_ask_shelf}
 use Rattle.room_desk.specs.Trying.{EventTried, JoinsHistory}
 use Rattle.room_desk.proofs.Alike.{stand_after_idle}
 use Rattle.room_desk.proofs.Bodies.{kept_text}

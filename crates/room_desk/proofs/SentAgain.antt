@@ -1,17 +1,8 @@
 -- OPEN and CLOSE sent again after other events get their first reply.
-use Rattle.std.proofs.Common.{◌≡◌, ℕ, refl, ◌∙◌, arith, true, List, [], ◌∷◌, Option, is_some}
-use Rattle.std.specs.Prelude.{◌++◌}
-use Rattle.std.proofs.lemmas.Bool.{and_parts}
-use Rattle.std.proofs.lemmas.Bool.Decides.{nat_tests}
-use Rattle.std.proofs.lemmas.Grind.{common_steps}
-use Rattle.room_acl.specs.SubjectModel.{SubjectModel}
-use Rattle.room_records.specs.Room.{Room}
-use Rattle.room_commands.specs.ReplyModel.{Opened}
-use Rattle.room_wire.specs.Asks.EventModel.{EventModel, Open, Close}
-use Rattle.room_wire.specs.Forms.Texts.{reply_text}
-use Rattle.room_desk.specs.AnswerModel.{Reply}
-use Rattle.room_desk.specs.History.{History, Session, session_of, is_open_for, slots_of, answer_open, answer_close}
-use Rattle.room_desk.specs.History.{answer_to}
+use Rattle.room_desk.proofs.Common.{◌≡◌, ℕ, refl, ◌∙◌, arith, true, List, [], ◌∷◌, Option, is_some, ◌++◌, and_parts}
+use Rattle.room_desk.proofs.Common.{nat_tests, common_steps, SubjectModel, Room, Opened, EventModel, Open, Close}
+use Rattle.room_desk.proofs.Common.{reply_text, Reply, History, Session, session_of, is_open_for, slots_of, answer_open}
+use Rattle.room_desk.proofs.Common.{answer_close, answer_to}
 use Rattle.room_desk.proofs.Idle.{itself}
 
 -- a session that lasts keeps its slots and its owner, so that a CLOSE is answered as before

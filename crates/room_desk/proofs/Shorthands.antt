@@ -1,19 +1,9 @@
 -- Names, for proofs alone, of parts of definitions.
-use Rattle.std.specs.Prelude.{ℕ, List, ◌∷◌, map, Option, Result}
-use Rattle.std.specs.List.{AllByRecursion}
-use Rattle.std.specs.Option.{option_map, option_map_or, option_or}
-use Rattle.room_records.specs.Records.{Records}
-use Rattle.room_records.specs.Room.{Room}
-use Rattle.room_commands.specs.CommandModel.{CommandModel}
-use Rattle.room_commands.specs.Lawful.{IsLawful}
-use Rattle.room_wire.specs.declared.answers.code.Code.TheVariants.{RetryUncached}
-use Rattle.room_wire.specs.declared.fault.WireFault.{WireFault}
-use Rattle.room_wire.specs.Asks.AskOf.{AskModel}
-use Rattle.room_wire.specs.Asks.EventModel.{EventModel}
-use Rattle.room_desk.specs.AnswerModel.{AnswerModel, Reply, Refused}
-use Rattle.room_desk.specs.History.{History, Session, Accepted, state_after, kept_of_request}
-use Rattle.room_desk.specs.RowAnswers.{EventChangesFew}
-use Rattle.room_desk.specs.Serving.{by_event}
+use Rattle.room_desk.proofs.Common.{ℕ, List, ◌∷◌, map, Option, Result, AllByRecursion, option_map_or, option_or}
+use Rattle.room_desk.proofs.Common.{Records, Room, CommandModel, IsLawful, RetryUncached, WireFault, AskModel}
+use Rattle.room_desk.proofs.Common.{EventModel, AnswerModel, Reply, Refused, History, Session, Accepted, state_after}
+use Rattle.room_desk.proofs.Common.{kept_of_request, EventChangesFew, by_event}
+use Rattle.std.specs.Option.{option_map}
 
 -- a session with one event more, or the one that the event opens
 abbrev pub with_event : Option Session → Option Session → EventModel → Option Session

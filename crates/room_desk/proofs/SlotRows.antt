@@ -1,18 +1,10 @@
 -- Rows that stand for a history keep the rules on session and slot rows.
-use Rattle.std.proofs.Common.{◌≡◌, ℕ, ◌<◌, ◌∙◌, sym, arith, Bool, true, false, List, [], ◌∷◌, Option, None, Some}
-use Rattle.std.specs.Prelude.{nat_lt, IsSome, if◌then◌else◌}
-use Rattle.std.specs.Option.{option_map, option_map_or}
-use Rattle.std.specs.Cmp.Lexicographic.{bytes_decides}
-use Rattle.std.proofs.lemmas.Bool.{and_parts, ltb-true, false≢true}
-use Rattle.std.proofs.lemmas.Bool.Decides.{nat_tests}
-use Rattle.std.proofs.lemmas.Grind.{common_steps}
-use Rattle.room_records.specs.declared.session.SessionRow.{SessionRow}
-use Rattle.room_records.specs.Records.{Records}
-use Rattle.room_records.specs.Rules.{SlotRules}
-use Rattle.room_records.specs.Room.{Room}
-use Rattle.room_wire.specs.Asks.EventModel.{EventModel}
-use Rattle.room_desk.specs.History.{History, Session, session_of, slots_of, is_open, Accepted, accepted}
-use Rattle.room_desk.specs.Representation.{RepresentsHistory, session_row_of, kept_after}
+use Rattle.room_desk.proofs.Common.{◌≡◌, ℕ, ◌<◌, ◌∙◌, sym, arith, Bool, true, false, List, [], ◌∷◌, Option, None, Some}
+use Rattle.room_desk.proofs.Common.{nat_lt, IsSome, if◌then◌else◌, option_map_or, bytes_decides, and_parts, ltb-true}
+use Rattle.room_desk.proofs.Common.{false≢true, nat_tests, common_steps, SessionRow, Records, SlotRules, Room}
+use Rattle.room_desk.proofs.Common.{EventModel, History, Session, session_of, slots_of, is_open, Accepted, accepted}
+use Rattle.room_desk.proofs.Common.{RepresentsHistory, session_row_of, kept_after}
+use Rattle.std.specs.Option.{option_map}
 
 -- a slot with an accepted request is below the session's number of slots
 abbrev IsBelow : Option Session → ℕ → List Accepted → Type 0

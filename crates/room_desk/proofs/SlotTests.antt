@@ -1,22 +1,11 @@
 -- What a slot keeps decides a request as the count of its accepted requests does.
-use Rattle.std.proofs.Common.{◌≡◌, ℕ, sym, ◌∙◌, true, false, List, length, Option, arith}
-use Rattle.std.specs.Prelude.{◌==◌, nat_lt}
-use Rattle.std.proofs.lemmas.Bool.{lt-ltb}
-use Rattle.std.proofs.lemmas.Bool.Decides.{nat_tests}
-use Rattle.std.proofs.lemmas.Grind.{common_steps}
-use Rattle.room_slots.specs.KeptModel.{KeptModel}
-use Rattle.room_slots.specs.Slots.{next_number, kept_seq, is_next}
+use Rattle.room_desk.proofs.Common.{◌≡◌, ℕ, sym, ◌∙◌, true, false, List, length, Option, arith, ◌==◌, nat_lt, lt-ltb}
+use Rattle.room_desk.proofs.Common.{nat_tests, common_steps, KeptModel, next_number, kept_seq, is_next, Records, Room}
+use Rattle.room_desk.proofs.Common.{Request, Slot, command_text, reply_text, effect, Reply, History, session_of}
+use Rattle.room_desk.proofs.Common.{is_open_for, slots_of, accepted, Accepted, is_accepted, answer_to}
+use Rattle.room_desk.proofs.Common.{answer_unaccepted, state_after, RepresentsHistory, kept_after, HasSlot}
+use Rattle.room_desk.proofs.Common.{answer_by_verdict, answer_kept}
 use Rattle.room_slots.proofs.Counts.{KeepsCount, next_number_of_count, verdict_unaccepted}
-use Rattle.room_records.specs.Records.{Records}
-use Rattle.room_records.specs.Room.{Room}
-use Rattle.room_wire.specs.Asks.EventModel.{Request, Slot}
-use Rattle.room_wire.specs.Forms.Texts.{command_text, reply_text}
-use Rattle.room_commands.specs.Effect.{effect}
-use Rattle.room_desk.specs.AnswerModel.{Reply}
-use Rattle.room_desk.specs.History.{History, session_of, is_open_for, slots_of, accepted, Accepted, is_accepted}
-use Rattle.room_desk.specs.History.{answer_to, answer_unaccepted, state_after}
-use Rattle.room_desk.specs.Representation.{RepresentsHistory, kept_after}
-use Rattle.room_desk.specs.RowAnswers.{HasSlot, answer_by_verdict, answer_kept}
 use Rattle.room_desk.proofs.Answers.{as_many}
 use Rattle.room_desk.proofs.KeptRows.{keeps_count, verdict_is, row_is, accepted_is}
 

@@ -1,19 +1,9 @@
 -- What a stop may leave after several events, and an event that is sent again after it.
-use Rattle.std.proofs.Common.{◌≡◌, suc, refl, ap, sym, subst, ◌∙◌, arith, ◌⊎◌, inl, inr, Ok, true, false, List, [], ◌∷◌}
-use Rattle.std.proofs.lemmas.Bool.{both_ways}
-use Rattle.std.proofs.lemmas.Grind.{common_steps}
-use Rattle.room_records.specs.Records.{Records}
-use Rattle.room_records.specs.Room.{Room}
-use Rattle.room_records.specs.Shelf.{View, LeavesNew}
-use Rattle.room_wire.specs.declared.answers.code.Code.TheVariants.{Delay, RetryUncached}
-use Rattle.room_wire.specs.Asks.AskOf.{Event}
-use Rattle.room_wire.specs.Asks.EventModel.{EventModel}
-use Rattle.room_wire.specs.Serving.Outputs.{InTurn}
-use Rattle.room_desk.specs.AnswerModel.{AnswerModel, Refused}
-use Rattle.room_desk.specs.History.{History, answer_to, leaves_no_reply}
-use Rattle.room_desk.specs.Representation.{RepresentsHistory, StandsFor}
-use Rattle.room_desk.specs.Serving.{Answered, EventAnswered, Run, Step}
-use Rattle.room_desk.specs.Stops.{is_delay, AreDelayed, in_doubt, doubt_after, StandsInDoubt}
+use Rattle.room_desk.proofs.Common.{◌≡◌, suc, refl, ap, sym, subst, ◌∙◌, arith, ◌⊎◌, inl, inr, Ok, true, false, List}
+use Rattle.room_desk.proofs.Common.{[], ◌∷◌, both_ways, common_steps, Records, Room, View, LeavesNew, Delay}
+use Rattle.room_desk.proofs.Common.{RetryUncached, Event, EventModel, InTurn, AnswerModel, Refused, History, answer_to}
+use Rattle.room_desk.proofs.Common.{leaves_no_reply, RepresentsHistory, StandsFor, Answered, EventAnswered, Run, Step}
+use Rattle.room_desk.proofs.Common.{is_delay, AreDelayed, in_doubt, doubt_after, StandsInDoubt}
 use Rattle.room_desk.proofs.Repeats.{again_is_idle, same_answer_again, uncached_again}
 use Rattle.room_desk.proofs.Alike.{alike_after_idle, alike_swapped, stand_alike}
 

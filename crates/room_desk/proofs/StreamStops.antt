@@ -1,24 +1,11 @@
 -- What a stop may leave after several messages.
-use Rattle.std.proofs.Common.{◌≡◌, ℕ, zero, suc, refl, sym, ap, subst, arith, ◌⊎◌, inl, inr, Result, Ok, Err, List, []}
-use Rattle.std.proofs.Common.{◌∷◌}
-use Rattle.std.specs.List.{AllByRecursion, Contains}
-use Rattle.std.proofs.lemmas.Bool.{cases_Bool}
-use Rattle.room_acl.specs.SubjectModel.{SubjectModel}
-use Rattle.room_records.specs.Records.{Records}
-use Rattle.room_records.specs.Room.{Room}
-use Rattle.room_records.specs.Shelf.{View, LeavesNew, LeavesOldOrNew}
-use Rattle.room_wire.specs.declared.fault.WireFault.{WireFault}
-use Rattle.room_wire.specs.declared.answers.code.Code.TheVariants.{Delay}
-use Rattle.room_wire.specs.Asks.AskOf.{AskModel, Check, Event, ask_of}
-use Rattle.room_wire.specs.Asks.EventModel.{EventModel}
-use Rattle.room_wire.specs.Messages.MessageModel.{MessageModel, IsMessage}
-use Rattle.room_wire.specs.Serving.Outputs.{Outputs}
-use Rattle.room_wire.proofs.Lemmas.Serving.Rounds.{no_output, first_answered, with_first}
-use Rattle.room_desk.specs.AnswerModel.{AnswerModel, Refused}
-use Rattle.room_desk.specs.History.{History}
-use Rattle.room_desk.specs.Representation.{StandsFor}
-use Rattle.room_desk.specs.Serving.{Answered, MayAnswer, AnswersOrDelays, AnswersMessage}
-use Rattle.room_desk.specs.Stops.{is_delay, doubt_after, StandsInDoubt, Doubt, no_doubt, AnswersInDoubt}
+use Rattle.room_desk.proofs.Common.{◌≡◌, ℕ, zero, suc, refl, sym, ap, subst, arith, ◌⊎◌, inl, inr, Result, Ok, Err}
+use Rattle.room_desk.proofs.Common.{List, [], ◌∷◌, AllByRecursion, Contains, cases_Bool, SubjectModel, Records, Room}
+use Rattle.room_desk.proofs.Common.{View, LeavesNew, LeavesOldOrNew, WireFault, Delay, AskModel, Check, Event, ask_of}
+use Rattle.room_desk.proofs.Common.{EventModel, MessageModel, IsMessage, Outputs, no_output, first_answered, with_first}
+use Rattle.room_desk.proofs.Common.{AnswerModel, Refused, History, StandsFor, Answered, MayAnswer, AnswersOrDelays}
+use Rattle.room_desk.proofs.Common.{AnswersMessage, is_delay, doubt_after, StandsInDoubt, Doubt, no_doubt}
+use Rattle.room_desk.proofs.Common.{AnswersInDoubt}
 use Rattle.room_desk.proofs.Stops.{after_event, at_rest, one_more, is_delayed}
 
 module _ {S : Type 0} (view : S → View) (users : List SubjectModel) where

@@ -1,22 +1,9 @@
 -- Calls that try an event: by reads alone, by a commit, and after a read.
-use Rattle.std.proofs.Common.{◌≡◌, ◌∙◌, refl, subst, false, true, inl, inr, ◌∷◌, None}
-use Rattle.std.proofs.Common.{Result, Ok, Err, IfOk, OnOk}
-use Rattle.std.proofs.lemmas.Bool.{both_ways}
-use Rattle.room_records.specs.declared.shelf.ShelfFault.{ShelfFault}
-use Rattle.room_records.specs.declared.shelf.ShelfFault.TheVariants.{Store}
-use Rattle.room_records.specs.Records.{Records}
-use Rattle.room_records.specs.Room.{Room}
-use Rattle.room_records.specs.Shelf.{View, ShelfCall, ShelfRead, fault_in, LeavesOldOrNew}
-use Rattle.room_records.proofs.Shelves.{call_then, none_not_store}
-use Rattle.room_wire.specs.declared.answers.answer.Answer.{Answer}
-use Rattle.room_wire.specs.declared.answers.code.Code.TheVariants.{Delay}
-use Rattle.room_wire.specs.Asks.AskOf.{Event}
-use Rattle.room_wire.specs.Asks.EventModel.{EventModel, Open, Close, Slot}
-use Rattle.room_desk.specs.AnswerModel.{Refused, answer_model, IsTurnedAway}
-use Rattle.room_desk.specs.History.{History, answer_to, changes_rows}
-use Rattle.room_desk.specs.Representation.{RepresentsHistory, StandsFor}
-use Rattle.room_desk.specs.RowAnswers.{EventChangesFew}
-use Rattle.room_desk.specs.Serving.{Answered}
+use Rattle.room_desk.proofs.Common.{◌≡◌, ◌∙◌, refl, subst, false, true, inl, inr, ◌∷◌, None, Result, Ok, Err, IfOk}
+use Rattle.room_desk.proofs.Common.{OnOk, both_ways, ShelfFault, Store, Records, Room, View, ShelfCall, ShelfRead}
+use Rattle.room_desk.proofs.Common.{fault_in, LeavesOldOrNew, call_then, none_not_store, Answer, Delay, Event}
+use Rattle.room_desk.proofs.Common.{EventModel, Open, Close, Slot, Refused, answer_model, IsTurnedAway, History}
+use Rattle.room_desk.proofs.Common.{answer_to, changes_rows, RepresentsHistory, StandsFor, EventChangesFew, Answered}
 use Rattle.room_desk.specs.Trying.{EventTried, JoinsHistory}
 use Rattle.room_desk.proofs.Alike.{stand_after_idle}
 use Rattle.room_desk.proofs.Crashes.{leaves_either}

@@ -1,8 +1,5 @@
 -- Changes one after another.
-use Rattle.std.proofs.Common.{◌≡◌, refl, List, [], ◌∷◌, ◌++◌}
-use Rattle.room_records.specs.declared.change.Change.{Change}
-use Rattle.room_records.specs.Records.{Records}
-use Rattle.room_records.specs.Changes.{apply_change, apply_changes}
+use Rattle.room_records.proofs.Common.{◌≡◌, refl, List, [], ◌∷◌, ◌++◌, Change, Records, apply_change, apply_changes}
 
 -- one more change at the end
 pub changes_then : (changes : List Change) (last : Change) (r : Records)

@@ -1,30 +1,17 @@
 -- The nodes in a folder, read off the index by place.
-use Rattle.std.proofs.Common.{◌≡◌, ℕ, ◌+◌, refl, ap, sym, ◌∙◌, Bool, true, List, [], ◌∷◌}
-use Rattle.std.proofs.Common.{Option, None, Some, arith, nat_cmp, inl, inr, ◌⊎◌, map, false, eqb}
-use Rattle.std.specs.Prelude.{not, ◌&&◌}
-use Rattle.std.specs.List.{AllByRecursion, Contains, IsDistinct, filter_map}
-use Rattle.std.specs.List.Sorted.{IsStrictlySortedBy}
-use Rattle.std.specs.Map.{keys_of, lookup}
-use Rattle.std.specs.Option.{option_and_then, option_cmp}
-use Rattle.std.specs.Ordering.{is_le, ordering_then}
-use Rattle.std.specs.declared.cmp.Ordering.{Ordering}
-use Rattle.std.specs.declared.cmp.Ordering.TheVariants.{Less, Equal, Greater}
+use Rattle.room_records.proofs.Common.{◌≡◌, ℕ, ◌+◌, refl, ap, sym, ◌∙◌, Bool, true, List, [], ◌∷◌, Option, None, Some}
+use Rattle.room_records.proofs.Common.{arith, nat_cmp, inl, inr, ◌⊎◌, map, false, eqb, not, ◌&&◌, AllByRecursion}
+use Rattle.room_records.proofs.Common.{IsDistinct, filter_map, IsStrictlySortedBy, keys_of, lookup, option_and_then}
+use Rattle.room_records.proofs.Common.{option_cmp, is_le, ordering_then, Ordering, Less, Equal, Greater, IsOrdered, get}
+use Rattle.room_records.proofs.Common.{is_at, cases_Bool, cases_eq, ne_eqb, tied_itself, nat_cmp_total, All-found}
+use Rattle.room_records.proofs.Common.{tells_apart, option_and_then_some, Node, Name, name_cmp, ObjectRecords, IsChild}
+use Rattle.room_records.proofs.Common.{NodeRules, AreChildren, IsChildNamed, InNameOrder, name_of, value_in, PlaceKey}
+use Rattle.room_records.proofs.Common.{Places, place_cmp, place_of, id_at}
+use Rattle.std.specs.List.{Contains}
 use Rattle.std.specs.declared.ops.Bound.TheVariants.{Included, Excluded}
-use Rattle.std.specs.BTreeMap.{IsOrdered, get, is_at}
 use Rattle.std.specs.BTreeMap.Range.{range_contains, entries_between}
-use Rattle.std.proofs.lemmas.Bool.{cases_Bool, cases_eq, ne_eqb}
-use Rattle.std.proofs.lemmas.Cmp.{tied_itself, nat_cmp_total}
 use Rattle.std.proofs.lemmas.List.Elements.{All-weaker, recursion_from_All}
 use Rattle.std.proofs.lemmas.Map.Keys.{sorted_head, sorted_tail}
-use Rattle.std.proofs.lemmas.Map.Views.{All-found, tells_apart}
-use Rattle.std.proofs.lemmas.Option.{option_and_then_some}
-use Rattle.room_records.specs.declared.node.Node.{Node}
-use Rattle.room_records.specs.Names.{Name, name_cmp}
-use Rattle.room_records.specs.Records.{ObjectRecords, IsChild}
-use Rattle.room_records.specs.Rules.{NodeRules}
-use Rattle.room_records.specs.Shelf.{AreChildren, IsChildNamed, InNameOrder, name_of}
-use Rattle.room_records.specs.Table.{value_in}
-use Rattle.room_records.specs.NodeIndex.{PlaceKey, Places, place_cmp, place_of, id_at}
 use Rattle.room_records.proofs.Keys.{place_total, exact_places}
 use Rattle.room_records.proofs.Lists.{contains_later, contains_first}
 use Rattle.room_records.proofs.NodePlaces.{IsIndex, place_parts}

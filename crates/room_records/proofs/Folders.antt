@@ -1,21 +1,10 @@
 -- The nodes in a folder, by name, are what the room has there.
-use Rattle.std.proofs.Common.{◌≡◌, ℕ, ap, sym, ◌∙◌, arith, inl, inr, List, [], ◌∷◌, ◌++◌, map, length}
-use Rattle.std.proofs.Common.{Contains, Option, Some, unwrap_or}
-use Rattle.std.specs.Map.{lookup, keys_of}
-use Rattle.std.specs.List.{AllByRecursion}
-use Rattle.std.specs.List.Sorted.{IsStrictlySortedBy}
-use Rattle.std.proofs.lemmas.Bool.{cases_Bool}
-use Rattle.std.proofs.lemmas.Cmp.{nat_list_eq_equiv}
-use Rattle.std.proofs.lemmas.List.{get_or-map, length-map}
-use Rattle.std.proofs.lemmas.Map.Views.{lookup-from_Contains}
-use Rattle.room_acl.specs.declared.subject.Kind.{Kind}
-use Rattle.room_records.specs.declared.node.Node.{Node}
-use Rattle.room_records.specs.Names.{Name, Path, name_eq}
-use Rattle.room_records.specs.Records.{ObjectRecords, IsChild}
-use Rattle.room_records.specs.Rules.{ObjectRules}
-use Rattle.room_records.specs.Room.{Object, Room, object_at, children}
-use Rattle.room_records.specs.Representation.{HasPath, RepresentsRoom}
-use Rattle.room_records.specs.Shelf.{name_of, InNameOrder, AreChildren, IsChildCount}
+use Rattle.room_records.proofs.Common.{◌≡◌, ℕ, ap, sym, ◌∙◌, arith, inl, inr, List, [], ◌∷◌, ◌++◌, map, length}
+use Rattle.room_records.proofs.Common.{Contains, Option, Some, unwrap_or, lookup, keys_of, AllByRecursion}
+use Rattle.room_records.proofs.Common.{IsStrictlySortedBy, cases_Bool, nat_list_eq_equiv, get_or-map, length-map}
+use Rattle.room_records.proofs.Common.{lookup-from_Contains, Kind, Node, Name, Path, name_eq, ObjectRecords, IsChild}
+use Rattle.room_records.proofs.Common.{ObjectRules, Object, Room, object_at, children, HasPath, RepresentsRoom, name_of}
+use Rattle.room_records.proofs.Common.{InNameOrder, AreChildren, IsChildCount}
 use Rattle.room_records.proofs.Children.{named_by_rules}
 use Rattle.room_records.proofs.Options.{none_if}
 use Rattle.room_records.proofs.Paths.{child_is_at, child_there, object_at_node}

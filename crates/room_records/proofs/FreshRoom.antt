@@ -1,15 +1,8 @@
 -- The fresh room is a room, and two rows stand for it.
-use Rattle.std.proofs.Common.{◌≡◌, ℕ, refl, false, List, [], ◌∷◌, ◌++◌, None, Some, length, ap}
-use Rattle.std.proofs.Common.{sym, ◌∙◌, ◌≤◌, arith}
-use Rattle.std.specs.Prelude.{cond, ◌==◌}
-use Rattle.room_records.specs.declared.node.Node.{Node}
-use Rattle.room_records.specs.Fresh.{fresh_root}
-use Rattle.room_records.specs.Limits.{max_children}
-use Rattle.room_records.specs.Names.{Path, Name, path_eq}
-use Rattle.room_records.specs.Records.{ObjectRecords}
-use Rattle.room_records.specs.Rules.{ObjectRules}
-use Rattle.room_records.specs.Room.{Object, IsRoom, fresh_object, fresh_room, fresh_entries, object_at, children}
-use Rattle.room_records.specs.Representation.{RepresentsRoom, NodeIsObject}
+use Rattle.room_records.proofs.Common.{◌≡◌, ℕ, refl, false, List, [], ◌∷◌, ◌++◌, None, Some, length, ap, sym, ◌∙◌, ◌≤◌}
+use Rattle.room_records.proofs.Common.{arith, cond, ◌==◌, Node, fresh_root, max_children, Path, Name, path_eq}
+use Rattle.room_records.proofs.Common.{ObjectRecords, ObjectRules, Object, IsRoom, fresh_object, fresh_room}
+use Rattle.room_records.proofs.Common.{fresh_entries, object_at, children, RepresentsRoom, NodeIsObject}
 use Rattle.room_records.proofs.RoomsMap.{some_is, none_is_some}
 use Rattle.room_records.proofs.PathParts.{root_is_path}
 

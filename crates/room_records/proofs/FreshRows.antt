@@ -1,12 +1,6 @@
 -- The rows of a fresh room keep the record rules, and stand for the fresh room.
-use Rattle.std.proofs.Common.{◌≡◌, ℕ, sym, ◌∙◌, List, Option, None}
-use Rattle.room_records.specs.declared.node.Node.{Node}
-use Rattle.room_records.specs.Records.{Records}
-use Rattle.room_records.specs.Rules.{RulesHold}
-use Rattle.room_records.specs.Room.{fresh_room}
-use Rattle.room_records.specs.Representation.{RepresentsRoom}
-use Rattle.room_records.specs.NodeIndex.{IsFreeFor}
-use Rattle.room_records.specs.Fresh.{fresh_records}
+use Rattle.room_records.proofs.Common.{◌≡◌, ℕ, sym, ◌∙◌, List, Option, None, Node, Records, RulesHold, fresh_room}
+use Rattle.room_records.proofs.Common.{RepresentsRoom, IsFreeFor, fresh_records}
 use Rattle.room_records.proofs.FreshRoom.{fresh_stands, rules}
 use Rattle.room_records.proofs.RoomsMap.{none_is_some}
 

@@ -1,17 +1,12 @@
 -- A function that changes at one key.
-use Rattle.std.proofs.Common.{◌≡◌, ℕ, refl, ap, sym, ◌∙◌, cond, inl, inr, ◌⊎◌, Option, None, Some}
+use Rattle.room_records.proofs.Common.{◌≡◌, ℕ, refl, ap, sym, ◌∙◌, cond, inl, inr, ◌⊎◌, Option, None, Some, option_cmp}
+use Rattle.room_records.proofs.Common.{eq_by_cmp, ordering_reverse, Ordering, Less, Equal, Greater, both_ways}
+use Rattle.room_records.proofs.Common.{cases_Bool, cond-false, cond-true, false_from_ne_true, eq_by_cmp_equiv}
+use Rattle.room_records.proofs.Common.{nat_cmp_total, nat_list_cmp_total, then_total, on_total, options_total}
+use Rattle.room_records.proofs.Common.{CmpEqualImpliesEq, exact_unsigned, exact_bytes, exact_pairs, tells_apart, Name}
+use Rattle.room_records.proofs.Common.{name_cmp, PlaceKey, place_cmp}
 use Rattle.std.specs.Cmp.{IsTotalOrder}
-use Rattle.std.specs.Option.{option_cmp}
-use Rattle.std.specs.Ordering.{eq_by_cmp, nat_cmp, ordering_reverse}
-use Rattle.std.specs.declared.cmp.Ordering.{Ordering}
-use Rattle.std.specs.declared.cmp.Ordering.TheVariants.{Less, Equal, Greater}
-use Rattle.std.proofs.lemmas.Bool.{both_ways, cases_Bool, cond-false, cond-true, false_from_ne_true}
-use Rattle.std.proofs.lemmas.Cmp.{eq_by_cmp_equiv, nat_cmp_total, nat_list_cmp_total, then_total, on_total}
-use Rattle.std.specs.Cmp.Lexicographic.{options_total}
-use Rattle.std.proofs.lemmas.Map.Lookups.{CmpEqualImpliesEq, exact_unsigned, exact_bytes, exact_pairs}
-use Rattle.std.proofs.lemmas.Map.Views.{tells_apart}
-use Rattle.room_records.specs.Names.{Name, name_cmp}
-use Rattle.room_records.specs.NodeIndex.{PlaceKey, place_cmp}
+use Rattle.std.specs.Ordering.{nat_cmp}
 
 -- the three answers of an order
 pub three_ways : (o : Ordering) → (o ≡ Less) ⊎ ((o ≡ Equal) ⊎ (o ≡ Greater))

@@ -1,6 +1,7 @@
 -- Facts on lists.
-use Rattle.std.proofs.Common.{ℕ, ◌<◌, refl, List, [], ◌∷◌, ◌++◌, length, get_or, suc, zero, arith}
-use Rattle.std.specs.List.{AllByRecursion, Contains}
+use Rattle.room_records.proofs.Common.{ℕ, ◌<◌, refl, List, [], ◌∷◌, ◌++◌, length, get_or, suc, zero, arith}
+use Rattle.room_records.proofs.Common.{AllByRecursion}
+use Rattle.std.specs.List.{Contains}
 
 pub all_at : {X : Type 0} (P : X → Type 0) (xs : List X) (i : ℕ) (d : X)
     → AllByRecursion P xs → i < length xs → P (get_or xs i d)

@@ -1,20 +1,12 @@
 -- The records of a shelf in memory, after one of its tables changes.
-use Rattle.std.proofs.Common.{◌≡◌, ℕ, ◌<◌, refl, ap, ◌∙◌, cond, inl, inr, List, [], ◌∷◌, ◌++◌, Option, arith, nat_cmp}
-use Rattle.std.specs.Prelude.{◌==◌}
-use Rattle.std.specs.List.{AllByRecursion}
-use Rattle.std.specs.Ordering.{eq_by_cmp}
-use Rattle.std.proofs.lemmas.Bool.{cases_Bool, eq-eqb}
-use Rattle.room_records.specs.declared.change.Change.{Change}
+use Rattle.room_records.proofs.Common.{◌≡◌, ℕ, ◌<◌, refl, ap, ◌∙◌, cond, inl, inr, List, [], ◌∷◌, ◌++◌, Option, arith}
+use Rattle.room_records.proofs.Common.{nat_cmp, ◌==◌, AllByRecursion, eq_by_cmp, cases_Bool, eq-eqb, Change, max_slots}
+use Rattle.room_records.proofs.Common.{Records, RulesHold, apply_change, apply_changes, RulesHoldAfterEach}
+use Rattle.room_records.proofs.Common.{HaveSlotCounts, HasSpaceFor, KeepsSpace, AreSameChanges}
 use Rattle.room_records.specs.declared.change.Change.TheVariants.{PutNode, DropNode, PutEntries, PutDoc, PutSession}
 use Rattle.room_records.specs.declared.change.Change.TheVariants.{PutSlot, DropSlots, PutNext}
 use Rattle.room_records.specs.declared.session.SlotRow.{SlotRow}
 use Rattle.room_records.specs.declared.mem.MemShelf.{MemShelf}
-use Rattle.room_records.specs.Limits.{max_slots}
-use Rattle.room_records.specs.Records.{Records}
-use Rattle.room_records.specs.Rules.{RulesHold}
-use Rattle.room_records.specs.Changes.{apply_change, apply_changes, RulesHoldAfterEach}
-use Rattle.room_records.specs.Sessions.{HaveSlotCounts}
-use Rattle.room_records.specs.Mem.{HasSpaceFor, KeepsSpace, AreSameChanges}
 use Rattle.room_records.proofs.SessionKeys.{number_key}
 use Rattle.room_records.proofs.RoomsChildren.{name_itself}
 

@@ -1,12 +1,8 @@
 -- Nodes and their index by place, after one of them changes.
-use Rattle.std.proofs.Common.{◌≡◌, ℕ, ap, sym, ◌∙◌, ◌⊎◌, Option, None, Some, arith}
-use Rattle.std.specs.Option.{option_map, option_and_then}
-use Rattle.std.proofs.lemmas.Option.{option_and_then_some}
+use Rattle.room_records.proofs.Common.{◌≡◌, ℕ, ap, sym, ◌∙◌, ◌⊎◌, Option, None, Some, arith, option_map}
+use Rattle.room_records.proofs.Common.{option_and_then, option_and_then_some, Node, Name, PlaceKey, node_in, id_at}
+use Rattle.room_records.proofs.Common.{place_of, IsNumbered, ArePlaced, AreAtPlace, IsFreeFor}
 use Rattle.room_records.specs.declared.mem.nodes.NodeIndex.{NodeIndex}
-use Rattle.room_records.specs.declared.node.Node.{Node}
-use Rattle.room_records.specs.Names.{Name}
-use Rattle.room_records.specs.NodeIndex.{PlaceKey, node_in, id_at, place_of, IsNumbered, ArePlaced, AreAtPlace}
-use Rattle.room_records.specs.NodeIndex.{IsFreeFor}
 use Rattle.room_records.proofs.Keys.{Updated, same_place}
 use Rattle.room_records.proofs.RoomsMap.{none_is_some}
 

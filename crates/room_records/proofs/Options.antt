@@ -1,6 +1,5 @@
 -- Facts on options.
-use Rattle.std.proofs.Common.{◌≡◌, arith, sym, refl, subst, Option, None, Some, IsSome, Result, Ok, Err}
-use Rattle.std.specs.Prelude.{IfOk}
+use Rattle.room_records.proofs.Common.{◌≡◌, arith, sym, refl, subst, Option, None, Some, IsSome, Result, Ok, Err, IfOk}
 
 pub none_is_not_some : {X : Type 0} (o : Option X) → o ≡ None → IsSome o → ⊥
 none_is_not_some o none some = grind arith

@@ -1,13 +1,9 @@
 -- What a file name and a path are, part by part.
-use Rattle.std.proofs.Common.{◌≡◌, ◌≤◌, ℕ, suc, zero, true, [], ◌∷◌, length, take, refl, arith}
-use Rattle.std.specs.Prelude.{IsTrue, nat_le}
-use Rattle.std.specs.List.{list_all, AllByRecursion}
-use Rattle.std.specs.Str.{is_utf8, IsUtf8}
-use Rattle.std.proofs.lemmas.Bool.{and_parts, and_from, leb-true, le-leb}
-use Rattle.std.proofs.lemmas.List.{length-take}
+use Rattle.room_records.proofs.Common.{◌≡◌, ◌≤◌, ℕ, suc, zero, true, [], ◌∷◌, length, take, refl, arith, IsTrue, nat_le}
+use Rattle.room_records.proofs.Common.{list_all, AllByRecursion, is_utf8, IsUtf8, and_parts, and_from, leb-true, le-leb}
+use Rattle.room_records.proofs.Common.{length-take, max_names, max_name_bytes, Name, Path, is_file_name, IsFileName}
+use Rattle.room_records.proofs.Common.{is_path, IsPath, is_name_byte}
 use Rattle.std.proofs.lemmas.Str.{IsUtf8-from_is_utf8}
-use Rattle.room_records.specs.Limits.{max_names, max_name_bytes}
-use Rattle.room_records.specs.Names.{Name, Path, is_file_name, IsFileName, is_path, IsPath, is_name_byte}
 
 pub record NameParts (name : Name) : Type 0 where
   pub text : IsUtf8 name

@@ -1,11 +1,9 @@
 -- A path's text, cut at its slashes.
-use Rattle.std.proofs.Common.{◌≡◌, ℕ, refl, ap, sym, ◌∙◌, false, Bool, List, [], ◌∷◌, ◌++◌, length, arith}
-use Rattle.std.specs.Prelude.{IsTrue, nat_le, ◌==◌}
-use Rattle.std.specs.List.{AllByRecursion, flat_map, slice_split, join_with_byte, list_all}
-use Rattle.std.proofs.lemmas.Bool.{and_parts, not-true}
-use Rattle.std.proofs.lemmas.List.{append-nil}
+use Rattle.room_records.proofs.Common.{◌≡◌, ℕ, refl, ap, sym, ◌∙◌, false, Bool, List, [], ◌∷◌, ◌++◌, length, arith}
+use Rattle.room_records.proofs.Common.{IsTrue, nat_le, ◌==◌, AllByRecursion, flat_map, slice_split, join_with_byte}
+use Rattle.room_records.proofs.Common.{list_all, and_parts, not-true, append-nil, Name, Path, IsFileName, IsPath}
+use Rattle.room_records.proofs.Common.{path_text, is_name_byte}
 use Rattle.std.proofs.lemmas.List.Splits.{join_with_byte-slice_split}
-use Rattle.room_records.specs.Names.{Name, Path, IsFileName, IsPath, path_text, is_name_byte}
 use Rattle.room_records.proofs.PathParts.{name_parts, path_parts}
 
 abbrev is_slash : ℕ → Bool

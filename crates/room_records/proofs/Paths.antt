@@ -1,14 +1,9 @@
 -- Paths of nodes, where rows stand for a room.
-use Rattle.std.proofs.Common.{◌≡◌, ℕ, ◌+◌, refl, ap, sym, ◌∙◌, List, [], ◌∷◌, ◌++◌, reverse, take, drop, length}
-use Rattle.std.proofs.Common.{get_or, ◌<◌, Option, None, Some}
-use Rattle.std.proofs.lemmas.List.{reverse-append, reverse-reverse, take_more, take-append-drop}
-use Rattle.room_records.specs.declared.node.Node.{Node}
-use Rattle.room_records.specs.Names.{Name, Path}
-use Rattle.room_records.specs.Records.{ObjectRecords, IsChild}
-use Rattle.room_records.specs.Rules.{NodeRules, ObjectRules, IsRoot}
-use Rattle.room_records.specs.Shelf.{IsChildNamed}
-use Rattle.room_records.specs.Room.{Object, Room, object_at}
-use Rattle.room_records.specs.Representation.{NamesUpwards, HasPath, RowsShowObject, RepresentsRoom}
+use Rattle.room_records.proofs.Common.{◌≡◌, ℕ, ◌+◌, refl, ap, sym, ◌∙◌, List, [], ◌∷◌, ◌++◌, reverse, take, drop}
+use Rattle.room_records.proofs.Common.{length, get_or, ◌<◌, Option, None, Some, reverse-append, reverse-reverse}
+use Rattle.room_records.proofs.Common.{take_more, take-append-drop, Node, Name, Path, ObjectRecords, IsChild, NodeRules}
+use Rattle.room_records.proofs.Common.{ObjectRules, IsRoot, IsChildNamed, Object, Room, object_at, NamesUpwards}
+use Rattle.room_records.proofs.Common.{HasPath, RowsShowObject, RepresentsRoom}
 use Rattle.room_records.proofs.Options.{none_if}
 use Rattle.room_records.proofs.RoomsMap.{some_is, none_is_some, nothing_below}
 

@@ -1,26 +1,17 @@
 -- What is in a folder: as a map from names, in order, and how many.
-use Rattle.std.proofs.Common.{◌≡◌, ◌+◌, ◌≤◌, Contains, refl, ap, sym, ◌∙◌, arith}
-use Rattle.std.proofs.Common.{Bool, true, false, cond, ◌⊎◌, inl, inr, List, [], ◌∷◌, ◌++◌, length, Option, None}
-use Rattle.std.proofs.Common.{Some, IsSome, is_some, option_map, Less}
-use Rattle.std.specs.Map.{lookup, keys_of}
-use Rattle.std.specs.List.{AllByRecursion, IsDistinct, filter_map}
-use Rattle.std.specs.List.Sorted.{IsStrictlySortedBy}
-use Rattle.std.specs.BTreeMap.{insert_entry}
-use Rattle.std.specs.Ordering.{is_eq, eq_by_cmp}
-use Rattle.std.specs.Cmp.Lexicographic.{bytes_decides, texts_ties}
+use Rattle.room_records.proofs.Common.{◌≡◌, ◌+◌, ◌≤◌, Contains, refl, ap, sym, ◌∙◌, arith, Bool, true, false, cond, ◌⊎◌}
+use Rattle.room_records.proofs.Common.{inl, inr, List, [], ◌∷◌, ◌++◌, length, Option, None, Some, IsSome, is_some}
+use Rattle.room_records.proofs.Common.{lookup, keys_of, AllByRecursion, IsDistinct, filter_map, IsStrictlySortedBy}
+use Rattle.room_records.proofs.Common.{insert_entry, is_eq, eq_by_cmp, bytes_decides, texts_ties, nat_list_cmp_total}
+use Rattle.room_records.proofs.Common.{nat_list_eq_equiv, and_right, cases_Bool, nil_from_length, exact_bytes}
+use Rattle.room_records.proofs.Common.{Contains-from_lookup, lookup-from_Contains, Kind, Name, Path, name_cmp, name_eq}
+use Rattle.room_records.proofs.Common.{path_eq, Object, Room, object_at, name_in, child_in, by_name, children}
+use Rattle.std.proofs.Common.{option_map, Less}
 use Rattle.std.proofs.Math.Bool.{and-true}
-use Rattle.std.proofs.lemmas.Cmp.{nat_list_cmp_total, nat_list_eq_equiv}
-use Rattle.std.proofs.lemmas.Bool.{and_right, cases_Bool}
-use Rattle.std.proofs.lemmas.List.{nil_from_length}
-use Rattle.std.proofs.lemmas.Map.Lookups.{exact_bytes}
 use Rattle.std.proofs.lemmas.Map.Keys.{IsDistinct-from_sorted}
 use Rattle.std.proofs.lemmas.Map.Entries.{length-keys_of}
 use Rattle.std.proofs.lemmas.Map.Made.{is_some-lookup}
 use Rattle.std.proofs.lemmas.Map.Steps.{length-le_from_keys}
-use Rattle.std.proofs.lemmas.Map.Views.{Contains-from_lookup, lookup-from_Contains}
-use Rattle.room_acl.specs.declared.subject.Kind.{Kind}
-use Rattle.room_records.specs.Names.{Name, Path, name_cmp, name_eq, path_eq}
-use Rattle.room_records.specs.Room.{Object, Room, object_at, name_in, child_in, by_name, children}
 use Rattle.room_records.proofs.Keys.{above_is, three_ways}
 use Rattle.room_records.proofs.Options.{none_if}
 use Rattle.room_records.proofs.RoomsMap.{some_is, none_is_some}

@@ -1,11 +1,10 @@
 -- The list of an object: in its own words, and what it depends on.
-use Rattle.std.proofs.Common.{◌≡◌, arith, refl, ap, sym, ◌∙◌, cond, List, [], ◌∷◌, ◌++◌, reverse, Option, Some}
-use Rattle.std.proofs.Common.{option_map, append-nil, append_assoc}
-use Rattle.std.proofs.lemmas.List.{reverse-append, reverse-reverse}
+use Rattle.room_records.proofs.Common.{◌≡◌, arith, refl, ap, sym, ◌∙◌, cond, List, [], ◌∷◌, ◌++◌, reverse, Option, Some}
+use Rattle.room_records.proofs.Common.{append-nil, append_assoc, reverse-append, reverse-reverse, Name, Path, Object}
+use Rattle.room_records.proofs.Common.{Room, object_at, follows, list_under, root_list, list_upwards, list_of}
+use Rattle.std.proofs.Common.{option_map}
 use Rattle.room_acl.specs.Entries.{EntryModel}
 use Rattle.room_acl.specs.Inheritance.{handed_down}
-use Rattle.room_records.specs.Names.{Name, Path}
-use Rattle.room_records.specs.Room.{Object, Room, object_at, follows, list_under, root_list, list_upwards, list_of}
 
 -- the list of an object in a folder is made under that of the folder
 pub list_in_folder : (room : Room) (path : Path) (name : Name)

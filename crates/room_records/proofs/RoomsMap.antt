@@ -1,13 +1,10 @@
 -- A room's list of objects as a finite map: what stands at a path, and in the list.
-use Rattle.std.proofs.Common.{◌≡◌, ◌-◌, refl, ap, sym, ◌∙◌, arith, true, false, ◌⊎◌, inl, inr, List}
-use Rattle.std.proofs.Common.{[], ◌∷◌, ◌++◌, length, append-nil, append_assoc, None, Some}
-use Rattle.std.specs.Map.{lookup}
-use Rattle.std.proofs.lemmas.List.{take_at, length_push}
-use Rattle.std.proofs.lemmas.Bool.{false_from_ne_true}
-use Rattle.std.specs.Cmp.Lexicographic.{pointwise_decides, bytes_decides}
+use Rattle.room_records.proofs.Common.{◌≡◌, ◌-◌, refl, ap, sym, ◌∙◌, arith, true, false, ◌⊎◌, inl, inr, List, [], ◌∷◌}
+use Rattle.room_records.proofs.Common.{◌++◌, length, append-nil, append_assoc, None, Some, lookup, take_at, length_push}
+use Rattle.room_records.proofs.Common.{false_from_ne_true, pointwise_decides, bytes_decides, Name, Path, IsPath}
+use Rattle.room_records.proofs.Common.{name_eq, path_eq, Object, Room, IsRoom, IsObject, AreObjects, object_at}
+use Rattle.room_records.proofs.Common.{parent_of}
 use Rattle.room_acl.specs.declared.subject.Kind.TheVariants.{Folder}
-use Rattle.room_records.specs.Names.{Name, Path, IsPath, name_eq, path_eq}
-use Rattle.room_records.specs.Room.{Object, Room, IsRoom, IsObject, AreObjects, object_at, parent_of}
 use Rattle.room_records.proofs.Options.{none_if}
 
 pub some_is : {X : Type 0} (a b : X) → Some a ≡ Some b → a ≡ b

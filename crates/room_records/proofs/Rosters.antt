@@ -1,18 +1,10 @@
 -- Users in name order.
-use Rattle.std.proofs.Common.{◌≡◌, ℕ, ◌+◌, ◌<◌, ◌≤◌, refl, ap, sym, ◌∙◌, true, false, inl, inr, List, [], ◌∷◌}
-use Rattle.std.proofs.Common.{◌++◌, length, get_or, None, Some, Ok, Err, arith}
-use Rattle.std.specs.List.{AllByRecursion, insert, slice_get}
-use Rattle.std.specs.Ordering.{ordering_reverse, is_eq}
-use Rattle.std.specs.declared.cmp.Ordering.{Ordering}
-use Rattle.std.specs.declared.cmp.Ordering.TheVariants.{Less, Equal, Greater}
-use Rattle.std.specs.Str.{bytes_eq}
-use Rattle.std.proofs.lemmas.Bool.{and_right, le-leb, lt-ltb}
-use Rattle.std.proofs.lemmas.Cmp.{nat_list_cmp_total}
+use Rattle.room_records.proofs.Common.{◌≡◌, ℕ, ◌+◌, ◌<◌, ◌≤◌, refl, ap, sym, ◌∙◌, true, false, inl, inr, List, [], ◌∷◌}
+use Rattle.room_records.proofs.Common.{◌++◌, length, get_or, None, Some, Ok, Err, arith, AllByRecursion, insert}
+use Rattle.room_records.proofs.Common.{slice_get, ordering_reverse, is_eq, Ordering, Less, Equal, Greater, bytes_eq}
+use Rattle.room_records.proofs.Common.{and_right, le-leb, lt-ltb, nat_list_cmp_total, get_or_from_slice_get}
+use Rattle.room_records.proofs.Common.{SubjectModel, max_users, max_groups, Name, name_cmp}
 use Rattle.std.proofs.lemmas.Map.Text.{is_eq-slice_cmp}
-use Rattle.std.proofs.lemmas.Option.{get_or_from_slice_get}
-use Rattle.room_acl.specs.SubjectModel.{SubjectModel}
-use Rattle.room_records.specs.Limits.{max_users, max_groups}
-use Rattle.room_records.specs.Names.{Name, name_cmp}
 use Rattle.room_records.specs.Roster.{AreInNameOrder, IsRoster, user_named, groups_of, may_join, with_user, AreBefore}
 use Rattle.room_records.specs.Roster.{StartsBehind, IsIndexOf}
 use Rattle.room_records.proofs.Keys.{above_is, three_ways}

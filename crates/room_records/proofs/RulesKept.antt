@@ -1,16 +1,10 @@
 -- The record rules after one change.
-use Rattle.std.proofs.Common.{◌≡◌, ◌≢◌, ℕ, ◌+◌, ◌≤◌, refl, ap, sym, ◌∙◌, arith, cond, eqb}
-use Rattle.std.proofs.Common.{◌⊎◌, inl, inr, List, [], ◌∷◌, Option, None, Some, IsSome, eq-eqb}
-use Rattle.std.proofs.lemmas.Bool.{cases_eq, cond-false, cond-true, ne_eqb}
+use Rattle.room_records.proofs.Common.{◌≡◌, ◌≢◌, ℕ, ◌+◌, ◌≤◌, refl, ap, sym, ◌∙◌, arith, cond, eqb, ◌⊎◌, inl, inr, List}
+use Rattle.room_records.proofs.Common.{[], ◌∷◌, Option, None, Some, IsSome, eq-eqb, cases_eq, cond-false, cond-true}
+use Rattle.room_records.proofs.Common.{ne_eqb, Node, max_objects, Name, ObjectRecords, NodeRules, ObjectRules, IsRoot}
+use Rattle.room_records.proofs.Common.{apply_to_objects, NamesUpwards}
 use Rattle.room_acl.specs.declared.subject.Kind.TheVariants.{File}
 use Rattle.room_records.specs.declared.change.Change.TheVariants.{PutNode, PutEntries, PutDoc, PutNext}
-use Rattle.room_records.specs.declared.node.Node.{Node}
-use Rattle.room_records.specs.Limits.{max_objects}
-use Rattle.room_records.specs.Names.{Name}
-use Rattle.room_records.specs.Records.{ObjectRecords}
-use Rattle.room_records.specs.Rules.{NodeRules, ObjectRules, IsRoot}
-use Rattle.room_records.specs.Changes.{apply_to_objects}
-use Rattle.room_records.specs.Representation.{NamesUpwards}
 use Rattle.room_records.proofs.Options.{none_if}
 use Rattle.room_records.proofs.RoomsMap.{some_is, none_is_some}
 

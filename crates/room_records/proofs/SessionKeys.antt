@@ -1,22 +1,15 @@
 -- Rows by session name and slot, after one of them changes.
-use Rattle.std.proofs.Common.{◌≡◌, ℕ, ◌+◌, ◌<◌, ◌≤◌, ap, ◌∙◌, true, false, Bool, cond, ◌⊎◌}
-use Rattle.std.proofs.Common.{Option, None, Some, arith, nat_cmp}
-use Rattle.std.specs.Prelude.{◌&&◌, ◌==◌, nat_lt}
+use Rattle.room_records.proofs.Common.{◌≡◌, ℕ, ◌+◌, ◌<◌, ◌≤◌, ap, ◌∙◌, true, false, Bool, cond, ◌⊎◌, Option, None, Some}
+use Rattle.room_records.proofs.Common.{arith, nat_cmp, ◌&&◌, ◌==◌, nat_lt, bytes_decides, option_map, is_eq, eq_by_cmp}
+use Rattle.room_records.proofs.Common.{ordering_then, bytes_eq, Ordering, nat_list_cmp_total, nat_list_eq_equiv}
+use Rattle.room_records.proofs.Common.{nat_cmp_total, then_total, on_total, CmpEqualImpliesEq, exact_pairs, exact_bytes}
+use Rattle.room_records.proofs.Common.{exact_unsigned, max_slots, Name, name_cmp, slot_cmp, session_row, AreFewSlots}
+use Rattle.room_records.proofs.Common.{HaveSlotCounts}
 use Rattle.std.specs.Cmp.{IsTotalOrder}
-use Rattle.std.specs.Cmp.Lexicographic.{bytes_decides}
-use Rattle.std.specs.Option.{option_map}
-use Rattle.std.specs.Ordering.{is_eq, eq_by_cmp, ordering_then}
-use Rattle.std.specs.Str.{bytes_eq}
-use Rattle.std.specs.declared.cmp.Ordering.{Ordering}
-use Rattle.std.proofs.lemmas.Cmp.{nat_list_cmp_total, nat_list_eq_equiv, nat_cmp_total, then_total, on_total}
-use Rattle.std.proofs.lemmas.Map.Lookups.{CmpEqualImpliesEq, exact_pairs, exact_bytes, exact_unsigned}
 use Rattle.std.proofs.lemmas.Map.Text.{is_eq-slice_cmp}
 use Rattle.room_slots.specs.KeptModel.{KeptModel}
 use Rattle.room_records.specs.declared.session.SessionRow.{SessionRow}
 use Rattle.room_records.specs.declared.mem.sessions.SessionCell.{SessionCell}
-use Rattle.room_records.specs.Limits.{max_slots}
-use Rattle.room_records.specs.Names.{Name, name_cmp}
-use Rattle.room_records.specs.Sessions.{slot_cmp, session_row, AreFewSlots, HaveSlotCounts}
 
 pub slot_total : IsTotalOrder slot_cmp
 slot_total = then_total (on_total (λ (k : Name × ℕ). k.0) nat_list_cmp_total)

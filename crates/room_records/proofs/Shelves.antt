@@ -1,8 +1,8 @@
 -- Calls of a shelf one after the other.
-use Rattle.std.proofs.Common.{◌≡◌, ◌≢◌, ◌∙◌, Option, None, Some, MatchOption, arith}
+use Rattle.room_records.proofs.Common.{◌≡◌, ◌≢◌, ◌∙◌, Option, None, Some, MatchOption, arith, View, ShelfFrame}
+use Rattle.room_records.proofs.Common.{ShelfCall, ShelfRead}
 use Rattle.room_records.specs.declared.shelf.ShelfFault.{ShelfFault}
 use Rattle.room_records.specs.declared.shelf.ShelfFault.TheVariants.{Store}
-use Rattle.room_records.specs.Shelf.{View, ShelfFrame, ShelfCall, ShelfRead}
 
 -- no fault is not a failure of the store
 pub none_not_store : {T : Type 0} (x : T) → None ≢ Some x

@@ -1,9 +1,6 @@
 -- Rows that changes do not touch.
-use Rattle.std.proofs.Common.{◌≡◌, arith, ℕ, refl, ap, ◌∙◌, List, [], ◌∷◌}
-use Rattle.room_records.specs.declared.change.Change.{Change}
-use Rattle.room_records.specs.Records.{Records}
-use Rattle.room_records.specs.Changes.{apply_change, apply_changes, Leave, Untouched}
-use Rattle.room_records.specs.Mem.{AreSameChanges}
+use Rattle.room_records.proofs.Common.{◌≡◌, arith, ℕ, refl, ap, ◌∙◌, List, [], ◌∷◌, Change, Records, apply_change}
+use Rattle.room_records.proofs.Common.{apply_changes, Leave, Untouched, AreSameChanges}
 use Rattle.room_records.proofs.MemRecords.{same_after}
 
 -- changes that were made leave what they leave

@@ -1,6 +1,6 @@
 -- What a writer took, call after call.
-use Rattle.std.proofs.Common.{ℕ, ◌+◌, List, ◌++◌, take, drop, sym, ap, ◌∙◌, append_assoc, Option}
-use Rattle.std.proofs.lemmas.List.{take-append-drop}
+use Rattle.room_records.proofs.Common.{ℕ, ◌+◌, List, ◌++◌, take, drop, sym, ap, ◌∙◌, append_assoc, Option}
+use Rattle.room_records.proofs.Common.{take-append-drop}
 use Rattle.std.proofs.Math.Seq.{take-add}
 use Rattle.std.proofs.KnownBytes.{Appends-trans, Appends-kept}
 use Rattle.std.specs.Io.KnownBytes.{Appends, Keeps}

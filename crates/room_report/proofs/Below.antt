@@ -1,31 +1,22 @@
 -- The objects of a room in path order: each folder, and then what is in it, child after child.
-use Rattle.std.proofs.Common.{◌≡◌, ℕ, ◌≤◌, refl, ap, sym, ◌∙◌, subst, arith, true, ◌⊎◌, inl, inr}
-use Rattle.std.proofs.Common.{List, [], ◌∷◌, ◌++◌, length, append_assoc, append-nil, Option, None, Some, Ordering, Less}
-use Rattle.std.proofs.Common.{Equal, Greater, unwrap_or}
+use Rattle.room_report.proofs.Common.{◌≡◌, ℕ, ◌≤◌, refl, ap, sym, ◌∙◌, subst, arith, true, ◌⊎◌, inl, inr, List, [], ◌∷◌}
+use Rattle.room_report.proofs.Common.{◌++◌, length, append_assoc, append-nil, Option, None, Some, Ordering, Less, Equal}
+use Rattle.room_report.proofs.Common.{Greater, unwrap_or, IsDistinct, flat_map, both_ways, cases_Bool, flat_map-append}
+use Rattle.room_report.proofs.Common.{length_push, Node, Name, Path, name_cmp, path_cmp, path_eq, ObjectRecords}
+use Rattle.room_report.proofs.Common.{IsChild, Object, Room, IsRoom, AreObjects, object_at, HasPath, RepresentsRoom}
+use Rattle.room_report.proofs.Common.{name_of, InNameOrder, AreChildren, Report, in_path_order, is_front, objects_below}
+use Rattle.room_report.proofs.Common.{text_below, lines_of}
 use Rattle.std.specs.Map.{lookup}
-use Rattle.std.specs.List.{IsDistinct, flat_map}
 use Rattle.std.specs.BTreeMap.{insert_entry}
 use Rattle.std.specs.Ordering.{match_ordering, ordering_reverse}
-use Rattle.std.proofs.lemmas.Bool.{both_ways, cases_Bool}
-use Rattle.std.proofs.lemmas.Grind.{flat_map-append}
 use Rattle.std.proofs.lemmas.Cmp.{nat_list_cmp_total}
-use Rattle.std.proofs.lemmas.List.{length_push}
 use Rattle.room_acl.specs.declared.subject.Kind.TheVariants.{File, Folder}
-use Rattle.room_records.specs.declared.node.Node.{Node}
 use Rattle.room_records.specs.Limits.{max_names}
-use Rattle.room_records.specs.Names.{Name, Path, name_cmp, path_cmp, path_eq}
-use Rattle.room_records.specs.Records.{ObjectRecords, IsChild}
-use Rattle.room_records.specs.Room.{Object, Room, IsRoom, AreObjects, object_at}
-use Rattle.room_records.specs.Representation.{HasPath, RepresentsRoom}
-use Rattle.room_records.specs.Shelf.{name_of, InNameOrder, AreChildren}
 use Rattle.room_records.proofs.Paths.{child_is_at, object_at_node}
 use Rattle.room_records.proofs.Folders.{child_named, object_child}
 use Rattle.room_records.proofs.RoomsMap.{some_is, none_is_some, path_itself, StandsIn, found_stands, standing_found}
 use Rattle.room_records.proofs.RoomsMap.{nothing_below, nothing_in_a_file, path_of_object}
 use Rattle.room_records.proofs.PathParts.{path_parts}
-use Rattle.room_report.specs.declared.lines.Report.{Report}
-use Rattle.room_report.specs.Lines.{in_path_order}
-use Rattle.room_report.specs.Walk.{is_front, objects_below, text_below, lines_of}
 use Rattle.room_report.proofs.Fronts.{path_total, exact_paths, one_way, front_of, front_itself, front_split}
 use Rattle.room_report.proofs.Fronts.{front_above, below_folder, folder_first, fronts_apart}
 use Rattle.room_report.proofs.Rising.{In, in_contained, in_filtered, in_filter, filter_all, in_flat, in_flat_map}

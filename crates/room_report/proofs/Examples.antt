@@ -1,10 +1,7 @@
 -- Worked examples, computed by the definitions.
-use Rattle.std.proofs.Common.{◌≡◌, refl, [], ◌∷◌}
+use Rattle.room_report.proofs.Common.{◌≡◌, refl, [], ◌∷◌, SubjectModel, Room, fresh_room, access_text, list_text, hex}
 use Rattle.std.specs.Prelude.{codes}
 use Rattle.room_acl.specs.declared.subject.Kind.TheVariants.{Folder}
-use Rattle.room_acl.specs.SubjectModel.{SubjectModel}
-use Rattle.room_records.specs.Room.{Room, fresh_room}
-use Rattle.room_report.specs.Lines.{access_text, list_text, hex}
 
 abbrev ann : SubjectModel
 ann = record { name = codes "ann"; groups = codes "eng" ∷ [] }

@@ -1,15 +1,12 @@
 -- Fronts of paths, and the order of paths.
-use Rattle.std.proofs.Common.{◌≡◌, refl, ap, sym, ◌∙◌, true, false, [], ◌∷◌, ◌++◌}
-use Rattle.std.proofs.Common.{append_assoc, inl, inr, Less, Equal, Greater}
+use Rattle.room_report.proofs.Common.{◌≡◌, refl, ap, sym, ◌∙◌, true, false, [], ◌∷◌, ◌++◌, append_assoc, inl, inr, Less}
+use Rattle.room_report.proofs.Common.{Equal, Greater, cases_Bool, Name, Path, name_cmp, name_eq, path_cmp, is_front}
 use Rattle.std.specs.Cmp.{IsTotalOrder, tied_itself}
 use Rattle.std.specs.Cmp.Lexicographic.{texts_ties, lists_ties}
 use Rattle.std.specs.Ordering.{ordering_reverse, is_eq}
 use Rattle.std.proofs.lemmas.Cmp.{nat_list_cmp_total, lists_total}
-use Rattle.std.proofs.lemmas.Bool.{cases_Bool}
-use Rattle.room_records.specs.Names.{Name, Path, name_cmp, name_eq, path_cmp}
 use Rattle.room_records.proofs.RoomsChildren.{name_itself, same_name}
 use Rattle.room_records.proofs.RoomsMap.{same_path}
-use Rattle.room_report.specs.Walk.{is_front}
 
 pub path_total : IsTotalOrder path_cmp
 path_total = lists_total nat_list_cmp_total

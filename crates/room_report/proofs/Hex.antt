@@ -1,7 +1,6 @@
 -- Hexadecimal digits, one after another.
-use Rattle.std.proofs.Common.{◌≡◌, ℕ, zero, suc, ◌+◌, ◌/◌, ◌%◌, false, refl, arith, [], ◌∷◌, ◌++◌}
+use Rattle.room_report.proofs.Common.{◌≡◌, ℕ, zero, suc, ◌+◌, ◌/◌, ◌%◌, false, refl, arith, [], ◌∷◌, ◌++◌, hex}
 use Rattle.std.specs.Fmt.{digit_glyph}
-use Rattle.room_report.specs.Lines.{hex}
 
 pub hex_none : (places n : ℕ) → places ≡ 0 → hex places n ≡ []
 unfolding hex

@@ -1,22 +1,13 @@
 -- What is carried down of an object.
-use Rattle.std.proofs.Common.{◌≡◌, ℕ, refl, ap, sym, ◌∙◌, List, Some, [], ◌∷◌, ◌++◌, append-nil}
-use Rattle.std.specs.List.{flat_map}
-use Rattle.std.proofs.lemmas.Grind.{flat_map-append}
-use Rattle.room_acl.specs.SubjectModel.{SubjectModel}
+use Rattle.room_report.proofs.Common.{◌≡◌, ℕ, refl, ap, sym, ◌∙◌, List, Some, [], ◌∷◌, ◌++◌, append-nil, flat_map}
+use Rattle.room_report.proofs.Common.{flat_map-append, SubjectModel, Node, Name, Path, path_text, ObjectRecords}
+use Rattle.room_report.proofs.Common.{IsChild, Room, HasPath, RepresentsRoom, name_of, Report, Access, Lists, mask_line}
+use Rattle.room_report.proofs.Common.{access_line, entry_line, head_line, IsItem, names_text, shown_path, item_lines}
+use Rattle.room_report.proofs.Common.{lines_of}
 use Rattle.room_acl.specs.Access.{allowed_mask}
-use Rattle.room_records.specs.declared.node.Node.{Node}
-use Rattle.room_records.specs.Names.{Name, Path, path_text}
-use Rattle.room_records.specs.Records.{ObjectRecords, IsChild}
-use Rattle.room_records.specs.Room.{Room}
-use Rattle.room_records.specs.Representation.{HasPath, RepresentsRoom}
-use Rattle.room_records.specs.Shelf.{name_of}
 use Rattle.room_records.proofs.Paths.{child_is_at, object_at_node}
 use Rattle.room_records.proofs.Folders.{child_named}
 use Rattle.room_report.specs.declared.item.Item.{Item}
-use Rattle.room_report.specs.declared.lines.Report.{Report}
-use Rattle.room_report.specs.declared.lines.Report.TheVariants.{Access, Lists}
-use Rattle.room_report.specs.Lines.{mask_line, access_line, entry_line, head_line}
-use Rattle.room_report.specs.Walk.{IsItem, names_text, shown_path, item_lines, lines_of}
 
 pub path_shown : (path : Path) → shown_path (names_text path) ≡ path_text path
 path_shown [] = refl

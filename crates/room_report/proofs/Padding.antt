@@ -1,5 +1,5 @@
 -- Spaces, one after another.
-use Rattle.std.proofs.Common.{◌≡◌, ℕ, zero, suc, ◌+◌, ap, arith, List, [], ◌∷◌, ◌++◌, replicate}
+use Rattle.room_report.proofs.Common.{◌≡◌, ℕ, zero, suc, ◌+◌, ap, arith, List, [], ◌∷◌, ◌++◌, replicate}
 
 pub spaces_more : (n m : ℕ) → m ≡ n + 1 → replicate {A = ℕ} m 32 ≡ replicate {A = ℕ} n 32 ++ 32 ∷ []
 spaces_more zero m is = ap (λ (k : ℕ). replicate {A = ℕ} k 32) is

@@ -1,8 +1,6 @@
 -- Lists whose elements rise, and what is in them.
-use Rattle.std.proofs.Common.{◌≡◌, ℕ, zero, suc, ◌<◌, refl, ap, sym, ◌∙◌, subst, arith, Bool, true, ◌⊎◌}
-use Rattle.std.proofs.Common.{inl, inr, List, [], ◌∷◌, ◌++◌, length}
-use Rattle.std.specs.List.{filter, flat_map, slice_index_or}
-use Rattle.std.proofs.lemmas.Bool.{cases_Bool}
+use Rattle.room_report.proofs.Common.{◌≡◌, ℕ, zero, suc, ◌<◌, refl, ap, sym, ◌∙◌, subst, arith, Bool, true, ◌⊎◌, inl}
+use Rattle.room_report.proofs.Common.{inr, List, [], ◌∷◌, ◌++◌, length, filter, flat_map, slice_index_or, cases_Bool}
 
 module _ {E : Type 0} where
   -- an element of a list

@@ -1,13 +1,10 @@
 -- What a writer took, call after call.
-use Rattle.std.proofs.Common.{◌≡◌, ℕ, List, [], ◌++◌, refl, sym, ◌∙◌, append-nil, Option, Result, Ok, Err}
+use Rattle.room_report.proofs.Common.{◌≡◌, ℕ, List, [], ◌++◌, refl, sym, ◌∙◌, append-nil, Option, Result, Ok, Err}
+use Rattle.room_report.proofs.Common.{RepresentsRoom, Room, View, Report, AppendsFront, OfIntactRoom, Writes}
+use Rattle.room_report.proofs.Common.{text_below}
 use Rattle.std.specs.Io.KnownBytes.{Appends}
 use Rattle.std.specs.Prelude.{OnOk}
-use Rattle.room_records.specs.Representation.{RepresentsRoom}
-use Rattle.room_records.specs.Room.{Room}
-use Rattle.room_records.specs.Shelf.{View}
-use Rattle.room_report.specs.declared.lines.Report.{Report}
 use Rattle.room_report.specs.Reported.{Reported}
-use Rattle.room_report.specs.Walk.{AppendsFront, OfIntactRoom, Writes, text_below}
 
 pub front_is : (a b : Option (List ℕ)) (x y : List ℕ) → x ≡ y → AppendsFront a b x → AppendsFront a b y
 front_is a b x y e h = rw (← e) h

@@ -1,6 +1,6 @@
 -- The users of a roster, one after another.
-use Rattle.std.proofs.Common.{◌≡◌, ℕ, zero, suc, ◌+◌, ap, ◌∙◌, arith, List, [], ◌∷◌, ◌++◌, take, Some}
-use Rattle.std.specs.List.{slice_get}
+use Rattle.room_report.proofs.Common.{◌≡◌, ℕ, zero, suc, ◌+◌, ap, ◌∙◌, arith, List, [], ◌∷◌, ◌++◌, take, Some}
+use Rattle.room_report.proofs.Common.{slice_get}
 
 pub one_more : {X : Type 0} (xs : List X) (i m : ℕ) (x : X) → m ≡ i + 1
     → Some x ≡ slice_get xs i → take m xs ≡ take i xs ++ x ∷ []

@@ -1,20 +1,12 @@
 -- What is written of an object and what is below it, node after node.
-use Rattle.std.proofs.Common.{◌≡◌, ℕ, ◌+◌, ◌<◌, ◌≤◌, ap, sym, ◌∙◌, List, [], ◌∷◌, ◌++◌, take, drop, get_or}
-use Rattle.std.proofs.Common.{length, append_assoc, append-nil, Option, Result, Ok, Err}
-use Rattle.std.specs.List.{flat_map}
+use Rattle.room_report.proofs.Common.{◌≡◌, ℕ, ◌+◌, ◌<◌, ◌≤◌, ap, sym, ◌∙◌, List, [], ◌∷◌, ◌++◌, take, drop, get_or}
+use Rattle.room_report.proofs.Common.{length, append_assoc, append-nil, Option, Result, Ok, Err, flat_map}
+use Rattle.room_report.proofs.Common.{flat_map-append, take-append-drop, take_more, take_all, Node, Path, ObjectRecords}
+use Rattle.room_report.proofs.Common.{IsChild, Room, RepresentsRoom, AreChildren, name_of, Report, IsItem, AppendsFront}
+use Rattle.room_report.proofs.Common.{Writes, item_lines, lines_of, text_below}
 use Rattle.std.specs.Result.{IsErr}
-use Rattle.std.proofs.lemmas.Grind.{flat_map-append}
-use Rattle.std.proofs.lemmas.List.{take-append-drop, take_more, take_all}
-use Rattle.room_records.specs.declared.node.Node.{Node}
-use Rattle.room_records.specs.Names.{Path}
-use Rattle.room_records.specs.Records.{ObjectRecords, IsChild}
-use Rattle.room_records.specs.Room.{Room}
-use Rattle.room_records.specs.Representation.{RepresentsRoom}
-use Rattle.room_records.specs.Shelf.{AreChildren, name_of}
 use Rattle.room_records.proofs.Lists.{all_at}
 use Rattle.room_report.specs.declared.item.Item.{Item}
-use Rattle.room_report.specs.declared.lines.Report.{Report}
-use Rattle.room_report.specs.Walk.{IsItem, AppendsFront, Writes, item_lines, lines_of, text_below}
 use Rattle.room_report.proofs.Below.{first_below, text_is}
 use Rattle.room_report.proofs.Items.{lines_are}
 

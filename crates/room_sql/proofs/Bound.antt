@@ -1,15 +1,10 @@
 -- The parameters of an INSERT of entries.
-use Rattle.std.proofs.Common.{◌≡◌, ◌≤◌, ◌<◌, refl, ◌+◌, ℕ, List, [], ◌∷◌, ◌++◌, length, take, drop, get_or}
-use Rattle.std.proofs.Common.{sym, ap, ap₂, ◌∙◌, arith}
+use Rattle.room_sql.proofs.Common.{◌≡◌, ◌≤◌, ◌<◌, refl, ◌+◌, ℕ, List, [], ◌∷◌, ◌++◌, length, take, drop, get_or, sym}
+use Rattle.room_sql.proofs.Common.{ap, ap₂, ◌∙◌, arith, map-append, append_assoc, length-append, length-take-le}
+use Rattle.room_sql.proofs.Common.{take-append-drop, length-drop, Row, bound, bound_value, EntryModel, shown_as}
 use Rattle.std.proofs.Math.Seq.{take-append_seam, drop-append_seam}
-use Rattle.std.proofs.lemmas.List.{map-append, append_assoc, length-append, length-take-le, take-append-drop}
-use Rattle.std.proofs.lemmas.List.{length-drop}
 use Rattle.sqlite_value.specs.declared.value.ValueRef.{ValueRef}
 use Rattle.sqlite_value.specs.Value.{owned}
-use Rattle.sqlite_value.specs.Order.{Row}
-use Rattle.sqlite.specs.Values.{bound, bound_value}
-use Rattle.room_acl.specs.Entries.{EntryModel}
-use Rattle.room_tables.specs.Steps.{shown_as}
 use Rattle.room_sql.specs.declared.values.EntryRow.{EntryRow}
 
 abbrev pub columns : List EntryRow → List ValueRef

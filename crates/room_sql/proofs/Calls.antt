@@ -1,23 +1,12 @@
 -- The frames of calls of the shelf.
-use Rattle.std.proofs.Common.{◌≡◌, ◌≢◌, ◌≤◌, ℕ, None, Some, Result, Ok}
-use Rattle.std.proofs.Common.{Err, IfOk, OnOk, OnErr, inl, inr, refl, sym, ap, subst, arith}
-use Rattle.std.proofs.Common.{IsTrue}
-use Rattle.sqlite_trees.specs.declared.store.Store.{Ghosts}
-use Rattle.sqlite_trees.specs.Tree.{Trees}
-use Rattle.sqlite.specs.Effect.{Database}
-use Rattle.sqlite.specs.State.{HasCleanDisk, Survives}
-use Rattle.sqlite.specs.Held.{Held, state}
-use Rattle.sqlite.specs.declared.error.Error.{Error}
+use Rattle.room_sql.proofs.Common.{◌≡◌, ◌≢◌, ◌≤◌, ℕ, None, Some, Result, Ok, Err, IfOk, OnOk, OnErr, inl, inr, refl}
+use Rattle.room_sql.proofs.Common.{sym, ap, subst, arith, IsTrue, Ghosts, Trees, Database, HasCleanDisk, Survives, Held}
+use Rattle.room_sql.proofs.Common.{state, Error, View, ShelfCall, ShelfRead, FailureCounted, fault_in, records_of}
+use Rattle.room_sql.proofs.Common.{IsRoomOfVersion2, AreOfRoom, StaysRoom, AreTrueOf, KnowsNothing, AreStored}
+use Rattle.room_sql.proofs.Common.{QueryFrame}
 use Rattle.room_records.specs.declared.shelf.ShelfFault.{ShelfFault}
 use Rattle.room_records.specs.declared.shelf.ShelfFault.TheVariants.{Store}
-use Rattle.room_records.specs.Shelf.{View, ShelfCall, ShelfRead, FailureCounted, fault_in}
-use Rattle.room_tables.specs.Rows.{records_of}
-use Rattle.room_tables.specs.Layout.{IsRoomOfVersion2, AreOfRoom}
-use Rattle.room_tables.specs.Steps.{StaysRoom}
 use Rattle.room_sql.specs.declared.facts.Facts.{Facts}
-use Rattle.room_sql.specs.Facts.{AreTrueOf, KnowsNothing}
-use Rattle.room_sql.specs.ReadLists.{AreStored}
-use Rattle.room_sql.specs.Frames.{QueryFrame}
 use Rattle.room_sql.proofs.Frames.{was_clean}
 
 module _ {S : Type 0} (store : Ghosts S) where

@@ -1,28 +1,16 @@
 -- A decision over the rows that were read so far, and the frame of a query whose rows are read one at a time.
-use Rattle.std.proofs.Common.{◌≡◌, ◌⊎◌, ℕ, pos, false, List, [], ◌∷◌, ◌++◌, map, Result, Ok, Err, IsErr, OnOk}
-use Rattle.std.proofs.Common.{◌<◌, ◌-◌, ◌^◌, length, refl, sym, ap, subst, ◌∙◌, append-nil, length-append, arith}
-use Rattle.std.specs.List.{AllByRecursion}
-use Rattle.std.proofs.lemmas.Result.{IfOk-from_err}
-use Rattle.std.proofs.lemmas.List.{map-append, append_assoc}
-use Rattle.sqlite_value.specs.declared.value.Value.TheVariants.{Int}
-use Rattle.sqlite_value.specs.Order.{Row}
-use Rattle.sqlite.specs.Effect.{Database, IsDatabase}
-use Rattle.sqlite.specs.State.{State, HasCleanDisk, IsLive, IsUnchanged, IsRolledBack, Survives, Shown, Begins}
-use Rattle.sqlite.specs.declared.error.Error.{Error}
-use Rattle.sqlite.proofs.StateLemmas.{survives_then}
+use Rattle.room_sql.proofs.Common.{◌≡◌, ◌⊎◌, ℕ, pos, false, List, [], ◌∷◌, ◌++◌, map, Result, Ok, Err, IsErr, OnOk, ◌<◌}
+use Rattle.room_sql.proofs.Common.{◌-◌, ◌^◌, length, refl, sym, ap, subst, ◌∙◌, append-nil, length-append, arith}
+use Rattle.room_sql.proofs.Common.{AllByRecursion, IfOk-from_err, map-append, append_assoc, Int, Row, Database}
+use Rattle.room_sql.proofs.Common.{IsDatabase, State, HasCleanDisk, IsLive, IsUnchanged, IsRolledBack, Survives, Shown}
+use Rattle.room_sql.proofs.Common.{Begins, Error, survives_then, EntryModel, IsRoomDatabase, entry_of, entry_rows}
+use Rattle.room_sql.proofs.Common.{ShowsEntry, AreEntries, read_entries_text, left_open, left_now, QueryFrame}
 use Rattle.room_acl.specs.declared.subject.Standing.{Standing}
 use Rattle.room_acl.specs.SubjectModel.{SubjectModel}
-use Rattle.room_acl.specs.Entries.{EntryModel}
 use Rattle.room_acl.specs.Access.{decision}
 use Rattle.room_acl.specs.Pending.{PendingModel, decision_with}
-use Rattle.room_tables.specs.Layout.{IsRoomDatabase}
-use Rattle.room_tables.specs.Rows.{entry_of, entry_rows}
-use Rattle.room_tables.specs.Steps.{ShowsEntry, AreEntries}
 use Rattle.room_tables.proofs.EntryRows.{next_shows}
-use Rattle.room_tables.proofs.Texts.{read_entries_text}
-use Rattle.room_tables.proofs.Queries.{left_open, left_now}
 use Rattle.room_tables.proofs.Reading.{read_begins, read_ends}
-use Rattle.room_sql.specs.Frames.{QueryFrame}
 use Rattle.room_sql.proofs.Frames.{was_clean}
 
 -- ---- frames

@@ -1,29 +1,18 @@
 -- The frames of calls.
-use Rattle.std.proofs.Common.{◌≡◌, ◌∙◌, true, false, Vec, Result, Ok, Err, IfOk, IfErr, IsErr, OnOk}
-use Rattle.std.proofs.Common.{◌≢◌, refl, sym, ap, subst, arith, ◌⊎◌, inl, inr}
-use Rattle.std.specs.declared.alloc.Global.{Global}
-use Rattle.std.specs.Prelude.{List, ℕ, IsErrAnd}
-use Rattle.std.proofs.lemmas.Result.{IfOk-from_err}
-use Rattle.sqlite_value.specs.Order.{Row}
-use Rattle.sqlite_trees.specs.declared.store.Store.{Ghosts}
+use Rattle.room_sql.proofs.Common.{◌≡◌, ◌∙◌, true, false, Vec, Result, Ok, Err, IfOk, IfErr, IsErr, OnOk, ◌≢◌, refl}
+use Rattle.room_sql.proofs.Common.{sym, ap, subst, arith, ◌⊎◌, inl, inr, Global, List, ℕ, IsErrAnd, IfOk-from_err, Row}
+use Rattle.room_sql.proofs.Common.{Ghosts, State, HasCleanDisk, Survives, Shown, FailsToQuery, CommitsShowing}
+use Rattle.room_sql.proofs.Common.{ExecutesInside, KeepsCommit, IsTooLate, Held, state, Error, Trees, Database}
+use Rattle.room_sql.proofs.Common.{survives_then, keeps_all, was_inside, is_query_text, query_keeps, query_left}
+use Rattle.room_sql.proofs.Common.{query_answered, query_open, query_leaves, fails_leaves, QueryFrame, InsideFrame}
+use Rattle.room_sql.proofs.Common.{CommitFrame}
 use Rattle.sqlite_resolve.specs.Compile.{first}
-use Rattle.sqlite.specs.State.{State, HasCleanDisk, Survives, Shown, FailsToQuery, CommitsShowing}
-use Rattle.sqlite.specs.State.{ExecutesInside, KeepsCommit, IsTooLate}
-use Rattle.sqlite.specs.Held.{Held, state}
-use Rattle.sqlite.specs.declared.error.Error.{Error}
 use Rattle.sqlite.specs.declared.error.Error.TheVariants.{SqliteFailure}
 use Rattle.sqlite.specs.declared.error.ErrorCode.TheVariants.{OutOfMemory}
 use Rattle.sqlite.specs.declared.rows.Row.{Row as Answer}
 use Rattle.sqlite.specs.declared.transaction.Transaction.{Transaction}
-use Rattle.sqlite_trees.specs.Tree.{Trees}
-use Rattle.sqlite.specs.Effect.{Database}
-use Rattle.sqlite.proofs.StateLemmas.{survives_then}
 use Rattle.sqlite.proofs.InsideLemmas.{keeps_then, unchanged_keeps}
-use Rattle.room_tables.proofs.Changes.{keeps_all, was_inside}
-use Rattle.room_tables.proofs.Queries.{is_query_text, query_keeps, query_left, query_answered, query_open}
-use Rattle.room_tables.proofs.Queries.{query_leaves, fails_leaves}
 use Rattle.room_sql.specs.Faults.{ErrMeans}
-use Rattle.room_sql.specs.Frames.{QueryFrame, InsideFrame, CommitFrame}
 
 -- what holds after an Ok
 pub ok_then : {X E P Q : Type 0} (r : Result X E) → OnOk r P → (P → Q) → OnOk r Q

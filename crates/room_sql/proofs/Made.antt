@@ -1,37 +1,23 @@
 -- What the statements of a change make of a database.
-use Rattle.std.specs.declared.alloc.Global.{Global}
-use Rattle.std.proofs.Common.{Vec, ◌≡◌, ℕ, suc, true, pos, IsTrue, List, [], ◌∷◌, Ok, inl, inr, refl, arith}
-use Rattle.std.proofs.Common.{◌∙◌, ap, filter}
-use Rattle.sqlite_value.specs.declared.value.Value.TheVariants.{Int, Text}
-use Rattle.sqlite_value.specs.Order.{Row}
-use Rattle.sqlite_trees.specs.declared.store.Store.{Ghosts}
-use Rattle.sqlite.specs.State.{State, ExecutesInside}
-use Rattle.sqlite.specs.Held.{Held, state}
-use Rattle.room_acl.specs.Entries.{EntryModel}
+use Rattle.room_sql.proofs.Common.{Global, Vec, ◌≡◌, ℕ, suc, true, pos, IsTrue, List, [], ◌∷◌, Ok, inl, inr, refl}
+use Rattle.room_sql.proofs.Common.{arith, ◌∙◌, ap, filter, Int, Text, Row, Ghosts, State, ExecutesInside, Held, state}
+use Rattle.room_sql.proofs.Common.{EntryModel, PutNode, PutEntries, PutDoc, PutSession, PutSlot, DropSlots}
+use Rattle.room_sql.proofs.Common.{change_node_text, add_node_text, change_doc_text, add_doc_text, put_session_text}
+use Rattle.room_sql.proofs.Common.{change_slot_text, add_slot_text, drop_slots_text, change_next_text, add_next_text}
+use Rattle.room_sql.proofs.Common.{has, name_of_text, entries_shown, IsRoomDatabase, Lists, flag_of, drops_slots}
+use Rattle.room_sql.proofs.Common.{lists_steps, steps_change_doc, steps_add_doc, steps_new_doc, doc_change_leaves_nodes}
+use Rattle.room_sql.proofs.Common.{doc_add_leaves_nodes, doc_new_leaves_nodes, SetsNext, change_sets_next}
+use Rattle.room_sql.proofs.Common.{add_sets_next, row_of_node, params_of_node, node_changed, node_added}
+use Rattle.room_sql.proofs.Common.{steps_change_node, steps_add_node, steps_change_or_add, left_then_added, RunsOr}
+use Rattle.room_sql.proofs.Common.{MakesChange}
 use Rattle.room_records.specs.declared.node.Node.{Node}
 use Rattle.room_records.specs.declared.session.SessionRow.{SessionRow}
 use Rattle.room_records.specs.declared.session.SlotRow.{SlotRow}
-use Rattle.room_records.specs.declared.change.Change.TheVariants.{PutNode, PutEntries, PutDoc, PutSession, PutSlot}
-use Rattle.room_records.specs.declared.change.Change.TheVariants.{DropSlots}
-use Rattle.room_tables.proofs.Texts.{change_node_text, add_node_text, change_doc_text, add_doc_text, put_session_text}
-use Rattle.room_tables.proofs.Texts.{change_slot_text, add_slot_text, drop_slots_text, change_next_text, add_next_text}
-use Rattle.room_tables.specs.Rows.{has, name_of_text, entries_shown}
-use Rattle.room_tables.specs.Layout.{IsRoomDatabase}
-use Rattle.room_tables.specs.Steps.{Lists, flag_of}
 use Rattle.room_tables.proofs.Each.{above}
 use Rattle.room_tables.proofs.Puts.{doc_params, puts_session}
-use Rattle.room_tables.proofs.Takes.{drops_slots}
-use Rattle.room_tables.proofs.FirstEntries.{lists_steps}
 use Rattle.room_tables.proofs.Sessions.{steps_session}
 use Rattle.room_tables.proofs.Slots.{row_values, steps_change_slot, steps_add_slot, steps_drop_slots}
 use Rattle.room_tables.proofs.Slots.{change_leaves_nodes, add_leaves_nodes}
-use Rattle.room_tables.proofs.Effects.{steps_change_doc, steps_add_doc, steps_new_doc}
-use Rattle.room_tables.proofs.Effects.{doc_change_leaves_nodes, doc_add_leaves_nodes, doc_new_leaves_nodes}
-use Rattle.room_tables.proofs.Effects.{SetsNext, change_sets_next, add_sets_next}
-use Rattle.room_tables.proofs.Effects.{row_of_node, params_of_node, node_changed, node_added, steps_change_node}
-use Rattle.room_tables.proofs.Effects.{steps_add_node, steps_change_or_add, left_then_added}
-use Rattle.room_sql.specs.Frames.{RunsOr}
-use Rattle.room_sql.specs.NodeRows.{MakesChange}
 use Rattle.room_sql.proofs.NodeRows.{one_more}
 
 -- the rows of an object's entries, in order, of those of the table

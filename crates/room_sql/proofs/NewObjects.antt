@@ -1,10 +1,5 @@
 -- What is known of the object that a commit makes stays so.
-use Rattle.std.specs.declared.alloc.Global.{Global}
-use Rattle.std.proofs.Common.{ℕ, nat_lt, inl, inr, Vec}
-use Rattle.std.proofs.lemmas.Bool.{cases_Bool}
-use Rattle.sqlite_trees.specs.Tree.{Trees}
-use Rattle.room_acl.specs.Entries.{EntryModel}
-use Rattle.room_records.specs.declared.change.Change.TheVariants.{PutEntries, PutNext}
+use Rattle.room_sql.proofs.Common.{Global, ℕ, nat_lt, inl, inr, Vec, cases_Bool, Trees, EntryModel, PutEntries, PutNext}
 use Rattle.room_sql.specs.declared.new_object.NewObject.{NewObject}
 use Rattle.room_sql.specs.NewObject.{lacks_entries, after_change, NoEntriesIfKnown}
 

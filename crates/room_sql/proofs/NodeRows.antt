@@ -1,25 +1,18 @@
 -- What changes do to the rows of nodes.
-use Rattle.std.proofs.Common.{◌≡◌, ◌∙◌, ◌+◌, ◌<◌, ◌==◌, ℕ, pos, Bool, true, false, List, ◌∷◌, length, filter}
-use Rattle.std.proofs.Common.{Option, None, Some, inl, inr, refl, sym, ap, subst, is_eq, eq-eqb, arith, get_or, drop}
-use Rattle.std.proofs.Common.{if◌then◌else◌}
-use Rattle.std.proofs.lemmas.Bool.{cases_Bool, cases_eq}
+use Rattle.room_sql.proofs.Common.{◌≡◌, ◌∙◌, ◌+◌, ◌<◌, ◌==◌, ℕ, pos, Bool, true, false, List, ◌∷◌, length, filter}
+use Rattle.room_sql.proofs.Common.{Option, None, Some, inl, inr, refl, sym, ap, subst, is_eq, eq-eqb, arith, get_or}
+use Rattle.room_sql.proofs.Common.{drop, if◌then◌else◌, cases_Bool, cases_eq, drop_more, Int, Row, column, value_cmp}
+use Rattle.room_sql.proofs.Common.{Trees, without_rowid, has_rowid, Layout, has, parent_value, HasNone, HasOneMore}
+use Rattle.room_sql.proofs.Common.{is_parent}
 use Rattle.std.proofs.lemmas.Bool.Decides.{nat_tests}
-use Rattle.std.proofs.lemmas.List.{drop_more}
 use Rattle.std.proofs.lemmas.List.Sorted.{length_permutation}
-use Rattle.sqlite_value.specs.declared.value.Value.TheVariants.{Int}
-use Rattle.sqlite_value.specs.Order.{Row, column, value_cmp}
 use Rattle.sqlite_value.proofs.OrderLemmas.{value_cmp-Null}
-use Rattle.sqlite_trees.specs.Tree.{Trees, without_rowid, has_rowid}
 use Rattle.sqlite_keyed.proofs.ListLemmas.{IsPermutation-filter}
 use Rattle.sqlite_rules.specs.Lists.{Has}
 use Rattle.sqlite_rules.proofs.ListLemmas.{has_kept}
-use Rattle.room_tables.specs.Tables.{Layout}
-use Rattle.room_tables.specs.Rows.{has}
-use Rattle.room_tables.specs.Layout.{parent_value}
 use Rattle.room_tables.proofs.Upserts.{Put}
 use Rattle.room_tables.proofs.Filters.{put_is_one_more, put_passed_over, others_left_on, not_both}
 use Rattle.room_tables.proofs.Values.{int_has, has_is}
-use Rattle.room_sql.specs.NodeRows.{HasNone, HasOneMore, is_parent}
 
 -- ---- a node where no row has its number
 

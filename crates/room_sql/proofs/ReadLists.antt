@@ -1,18 +1,12 @@
 -- Lists that are kept, after calls.
-use Rattle.std.specs.declared.alloc.Global.{Global}
-use Rattle.std.proofs.Common.{◌≡◌, ◌≢◌, ◌∙◌, ◌⊎◌, ℕ, cond, List, Option, None, Some, Vec, Result, Ok}
-use Rattle.std.proofs.Common.{Err, OnOk, OnErr, inl, inr, sym, ap, subst, subst₂, eq-eqb}
+use Rattle.room_sql.proofs.Common.{Global, ◌≡◌, ◌≢◌, ◌∙◌, ◌⊎◌, ℕ, cond, List, Option, None, Some, Vec, Result, Ok, Err}
+use Rattle.room_sql.proofs.Common.{OnOk, OnErr, inl, inr, sym, ap, subst, subst₂, eq-eqb, cases_eq, ne_eqb, Trees}
+use Rattle.room_sql.proofs.Common.{EntryModel, PutEntries, entry_rows, IsStored, IsKeptFor}
 use Rattle.std.specs.BTreeMap.{BTreeMap, Updates, IsUnchanged, is_at}
 use Rattle.std.specs.Cmp.{unsigned_tied}
 use Rattle.std.specs.Ordering.{nat_cmp}
-use Rattle.std.proofs.lemmas.Bool.{cases_eq, ne_eqb}
-use Rattle.sqlite_trees.specs.Tree.{Trees}
-use Rattle.room_acl.specs.Entries.{EntryModel}
 use Rattle.room_records.specs.declared.change.Change.{Change}
-use Rattle.room_records.specs.declared.change.Change.TheVariants.{PutEntries}
 use Rattle.room_cache.specs.Rows.{row_at}
-use Rattle.room_tables.specs.Rows.{entry_rows}
-use Rattle.room_sql.specs.ReadLists.{IsStored, IsKeptFor}
 
 abbrev Kept : Type 0
 Kept = List (ℕ × Vec EntryModel Global)

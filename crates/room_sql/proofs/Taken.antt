@@ -1,21 +1,13 @@
 -- A room of version 1 that is upgraded, by the rows that were read before.
-use Rattle.std.proofs.Common.{◌≡◌, ◌∙◌, ℕ, List, [], ◌∷◌, option_map, unwrap_or, refl, sym, ap, IsPermutation}
-use Rattle.std.proofs.Common.{false, true≢false, IsTrue}
-use Rattle.sqlite_value.specs.Order.{Row, column}
-use Rattle.sqlite_trees.specs.Tree.{Trees}
+use Rattle.room_sql.proofs.Common.{◌≡◌, ◌∙◌, ℕ, List, [], ◌∷◌, option_map, unwrap_or, refl, sym, ap, IsPermutation}
+use Rattle.room_sql.proofs.Common.{false, true≢false, IsTrue, Row, column, Trees, Database, State, Shown, Layout}
+use Rattle.room_sql.proofs.Common.{with_last, room_schema, first_schema, last_tables, slot_table, has_room}
+use Rattle.room_sql.proofs.Common.{has_first_room, only, number_in, next_rows, IsVersion, records_of, IsRoomOfVersion1}
+use Rattle.room_sql.proofs.Common.{IsUpgraded, MayBeUpgraded, MayBeMovedWith, find_version_selects, told_version}
+use Rattle.room_sql.proofs.Common.{told_another, only_permuted, shown_still}
 use Rattle.sqlite.specs.Table.{Table}
-use Rattle.sqlite.specs.Effect.{Database}
-use Rattle.sqlite.specs.State.{State, Shown}
-use Rattle.room_tables.specs.Tables.{Layout, with_last, room_schema, first_schema, last_tables}
-use Rattle.room_tables.specs.Tables.{slot_table, has_room, has_first_room}
-use Rattle.room_tables.specs.Rows.{only, number_in, next_rows, IsVersion, records_of}
-use Rattle.room_tables.specs.Layout.{IsRoomOfVersion1}
 use Rattle.room_tables.specs.Versions.{find_version_text, TellsVersion}
-use Rattle.room_tables.specs.Upgrade.{IsUpgraded, MayBeUpgraded, MayBeMovedWith}
 use Rattle.room_tables.proofs.Meaning.{room_has_room, first_has_first, first_has_no_kept}
-use Rattle.room_tables.proofs.Selects.{find_version_selects}
-use Rattle.room_tables.proofs.Asks.{told_version, told_another}
-use Rattle.room_tables.proofs.Queries.{only_permuted, shown_still}
 use Rattle.room_sql.specs.Taken.{SaysFirst, HasItsVersion, HasAnotherVersion}
 
 -- the number that was read is the one that is next

@@ -1,40 +1,24 @@
 -- What the queries answer.
-use Rattle.std.proofs.Common.{◌≡◌, ℕ, pos, Bool, true, ◌&&◌, List, [], ◌∷◌, length, map, filter}
-use Rattle.std.proofs.Common.{Some, option_map, refl, sym, ap, subst, ◌∙◌, IsPermutation}
-use Rattle.std.specs.List.{AllByRecursion, list_all, AllZip}
-use Rattle.std.proofs.lemmas.List.Sorted.{length_permutation, IsPermutation-map}
-use Rattle.std.proofs.lemmas.List.{length-map}
+use Rattle.room_tables.proofs.Common.{◌≡◌, ℕ, pos, Bool, true, ◌&&◌, List, [], ◌∷◌, length, map, filter, Some}
+use Rattle.room_tables.proofs.Common.{option_map, refl, sym, ap, subst, ◌∙◌, IsPermutation, AllByRecursion, list_all}
+use Rattle.room_tables.proofs.Common.{AllZip, length_permutation, IsPermutation-map, length-map, Null, Int, Text, Row}
+use Rattle.room_tables.proofs.Common.{column, Trees, IsAscending, unary, Env, eval_all, holds, IsAnswer, Output, output}
+use Rattle.room_tables.proofs.Common.{overlay, filter_same, ascending-map, State, Shown, everything, understood}
+use Rattle.room_tables.proofs.Common.{reads_as, one_permutation, Table, room_schema, with_last, slots_tree}
+use Rattle.room_tables.proofs.Common.{IsRoomDatabase, has, has_text, is_child_named, is_slot, shown_node, node_rows}
+use Rattle.room_tables.proofs.Common.{named_rows, child_rows, shown_entry, entry_rows, IsEntryRow, HasEntryColumns}
+use Rattle.room_tables.proofs.Common.{one_column, doc_rows, shown_session, session_rows, shown_slot, slot_rows}
+use Rattle.room_tables.proofs.Common.{next_rows, version_rows, IsVersion, seq_rows, shown_size, size_rows, ByName}
+use Rattle.room_tables.proofs.Common.{counted_row, all_has, all_from, has_mapped}
 use Rattle.std.proofs.lemmas.Option.{same_Some}
-use Rattle.sqlite_value.specs.declared.value.Value.TheVariants.{Null, Int, Text}
-use Rattle.sqlite_value.specs.Order.{Row, column}
-use Rattle.sqlite_trees.specs.Tree.{Trees, IsAscending}
-use Rattle.sqlite_sql.specs.Ops.{unary}
-use Rattle.sqlite_sql.specs.Term.{Env, eval_all, holds}
-use Rattle.sqlite_sql.specs.Query.{IsAnswer, Output, output}
 use Rattle.sqlite_sql.specs.Group.{value_over, IsSummary}
-use Rattle.sqlite_sql.specs.Program.{overlay}
-use Rattle.sqlite_keyed.proofs.ListLemmas.{filter_same, ascending-map}
-use Rattle.sqlite.specs.State.{State, Shown}
-use Rattle.sqlite_tied.specs.Compute.{everything}
-use Rattle.sqlite.specs.Listing.{understood}
-use Rattle.sqlite.proofs.Callers.{reads_as, one_permutation}
-use Rattle.sqlite.specs.Table.{Table}
 use Rattle.room_tables.proofs.Texts as T
-use Rattle.room_tables.specs.Tables.{room_schema, with_last, slots_tree}
-use Rattle.room_tables.specs.Layout.{IsRoomDatabase}
 use Rattle.room_tables.proofs.Each.{slots_seen}
-use Rattle.room_tables.specs.Rows.{has, has_text, is_child_named, is_slot, shown_node, node_rows, named_rows}
-use Rattle.room_tables.specs.Rows.{child_rows, shown_entry, entry_rows, IsEntryRow, HasEntryColumns, one_column}
-use Rattle.room_tables.specs.Rows.{doc_rows, shown_session, session_rows, shown_slot, slot_rows, next_rows}
-use Rattle.room_tables.specs.Rows.{version_rows, IsVersion, seq_rows, shown_size, size_rows}
 use Rattle.room_tables.specs.Versions.{find_version_text, TellsVersion}
 use Rattle.room_tables.proofs.Meaning.{list_children_means, count_children_means, list_entries_means, find_size_means}
 use Rattle.room_tables.proofs.Meaning.{find_slot_means, find_seq_means}
-use Rattle.room_tables.specs.Names.{ByName, counted_row}
 use Rattle.room_tables.proofs.Queries.{passing, and_true, picked, found, asked, arranged, listed, envs_are}
 use Rattle.room_tables.proofs.Queries.{only_permuted}
-use Rattle.sqlite_rules.proofs.ListLemmas.{all_has, all_from}
-use Rattle.sqlite_rules.proofs.ProbeLemmas.{has_mapped}
 use Rattle.room_tables.proofs.Removed.{has_permuted}
 use Rattle.room_tables.proofs.Placed.{exact_entries}
 

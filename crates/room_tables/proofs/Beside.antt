@@ -1,48 +1,28 @@
 -- A CREATE TABLE under any schema: what is there beside stays.
-use Rattle.std.proofs.Common.{◌≡◌, ◌≢◌, ◌+◌, ◌&&◌, not, ℕ, Bool, true, false, cond, is_some, ◌==◌}
-use Rattle.std.proofs.Common.{length, List, [], ◌∷◌, ◌++◌}
-use Rattle.std.proofs.Common.{slice_range, MatchBool, Option, None, Some, Result, Ok, Err}
-use Rattle.std.proofs.Common.{refl, sym, ap, ap₂}
-use Rattle.std.proofs.Common.{subst, subst₂, ◌∙◌, arith, append_assoc, append-nil, true≢false}
-use Rattle.std.proofs.lemmas.Grind.{flat_map-append}
+use Rattle.room_tables.proofs.Common.{◌≡◌, ◌≢◌, ◌+◌, ◌&&◌, not, ℕ, Bool, true, false, cond, is_some, ◌==◌, length, List}
+use Rattle.room_tables.proofs.Common.{[], ◌∷◌, ◌++◌, slice_range, MatchBool, Option, None, Some, Result, Ok, Err, refl}
+use Rattle.room_tables.proofs.Common.{sym, ap, ap₂, subst, subst₂, ◌∙◌, arith, append_assoc, append-nil, true≢false}
+use Rattle.room_tables.proofs.Common.{flat_map-append, everything, Statement, Compiled, CompileError, NoSuchTable}
+use Rattle.room_tables.proofs.Common.{Exists, Misuse, Unsupported, compiled, first, command, returning, meaning}
+use Rattle.room_tables.proofs.Common.{planned, with_command, small, timed_formats, creates, create_table, is_reserved}
+use Rattle.room_tables.proofs.Common.{is_attached, Checked, and_then, or_else, table_named, index_named, view_named}
+use Rattle.room_tables.proofs.Common.{Has, all_from, has_left, has_right, Trees, no_trees, Row, timed, understood}
+use Rattle.room_tables.proofs.Common.{reads_listing, if_select, listing_schema, is_select, next_tree, KeepsRows}
+use Rattle.room_tables.proofs.Common.{automatics, Command, CreateTable, Nothing, Schema, Table, Gives, Tally}
+use Rattle.room_tables.proofs.Common.{MakesTable, MakesSequence, lacks_sequence, sequence_text, Database, is_query}
+use Rattle.room_tables.proofs.Common.{State, text_of, is_pragma, shows_rows, Runs, Writes, ExecutesIn, Executes}
+use Rattle.room_tables.proofs.Common.{ExecutesInside, room_table, node_table, entry_table, doc_table, session_table}
+use Rattle.room_tables.proofs.Common.{slots_table, schema_0, schema_1, schema_2, schema_3, schema_4, schema_5, Fresh}
+use Rattle.room_tables.proofs.Common.{room_schema, room_text, node_text, entry_text, doc_text, session_text, kept_text}
+use Rattle.room_tables.proofs.Common.{own_indexes, IsApart, IsBeside, HasItsSequence, AreOurs, AddsTables}
 use Rattle.std.specs.Option.{option_or}
-use Rattle.sqlite_tied.specs.Compute.{everything}
-use Rattle.sqlite_ast.specs.declared.Statement.{Statement}
 use Rattle.sqlite_ast.specs.declared.Statement.TheVariants as written
 use Rattle.sqlite_syntax.specs.declared.statement.Parsed.{Parsed}
-use Rattle.sqlite_resolve.specs.declared.compiled.Compiled.{Compiled}
-use Rattle.sqlite_resolve.specs.declared.error.CompileError.{CompileError}
-use Rattle.sqlite_resolve.specs.declared.error.CompileError.TheVariants.{NoSuchTable, Exists, Misuse, Unsupported}
-use Rattle.sqlite_resolve.specs.Compile.{compiled, first, command, returning, meaning, planned, with_command}
-use Rattle.sqlite_resolve.specs.Compile.{small, timed as timed_formats, creates, create_table, is_reserved, is_attached}
 use Rattle.sqlite_resolve.specs.Define.{table as table_of}
-use Rattle.sqlite_resolve.specs.Lowering.{Checked, and_then, or_else}
-use Rattle.sqlite_schema.specs.Names.{table_named, index_named, view_named}
 use Rattle.sqlite_schema.specs.declared.command.Returning.{Returning}
-use Rattle.sqlite_rules.specs.Lists.{Has}
-use Rattle.sqlite_rules.proofs.ListLemmas.{all_from, has_left, has_right}
 use Rattle.sqlite_catalog.specs.Calls.{CreatesTable}
 use Rattle.sqlite_catalog.proofs.StepLemmas.{table_below}
-use Rattle.sqlite_trees.specs.Tree.{Trees, no_trees}
-use Rattle.sqlite_value.specs.Order.{Row}
 use Rattle.sqlite.specs.Compile.{table_defined_by}
-use Rattle.sqlite.specs.Clock.{timed}
-use Rattle.sqlite.specs.Listing.{understood, reads_listing, if_select, listing_schema, is_select}
-use Rattle.sqlite.specs.Change.{next_tree, KeepsRows, automatics}
-use Rattle.sqlite.specs.Command.{Command}
-use Rattle.sqlite.specs.Command.TheVariants.{CreateTable, Nothing}
-use Rattle.sqlite.specs.Schema.{Schema}
-use Rattle.sqlite.specs.Table.{Table}
-use Rattle.sqlite.specs.Rows.{Gives}
-use Rattle.sqlite.specs.Does.{Tally, MakesTable, MakesSequence, lacks_sequence, sequence_text}
-use Rattle.sqlite.specs.Effect.{Database, is_query}
-use Rattle.sqlite.specs.State.{State, text_of, is_pragma, shows_rows, Runs, Writes}
-use Rattle.sqlite.specs.State.{ExecutesIn, Executes, ExecutesInside}
-use Rattle.room_tables.specs.Tables.{room_table, node_table, entry_table, doc_table, session_table, slots_table}
-use Rattle.room_tables.specs.Tables.{schema_0, schema_1, schema_2, schema_3, schema_4, schema_5, Fresh, room_schema}
-use Rattle.room_tables.specs.Tables.{room_text, node_text, entry_text, doc_text, session_text, kept_text}
-use Rattle.room_tables.specs.Tables.{own_indexes}
-use Rattle.room_tables.specs.Beside.{IsApart, IsBeside, HasItsSequence, AreOurs, AddsTables}
 use Rattle.room_tables.proofs.Changes.{went, same_value}
 use Rattle.room_tables.proofs.Ours.{all_push, all_front, all_back, ours_push, still_whole}
 

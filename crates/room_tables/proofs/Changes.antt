@@ -1,44 +1,23 @@
 -- What the statements that write do to the tables.
-use Rattle.std.proofs.Common.{◌≡◌, ◌≢◌, ◌⊎◌, length, ◌/◌, MatchBool, is_lt, int_cmp, inl, inr, ℕ, ℤ, Bool, true, false}
-use Rattle.std.proofs.Common.{not, cond, List, [], ◌∷◌, map, drop, filter, slice_get, Option, None, Some, Ok, Err}
-use Rattle.std.proofs.Common.{Result, IfErr, OnErr, refl, sym, ap, subst, true≢false, ◌∙◌, unwrap_or, arith}
-use Rattle.std.proofs.lemmas.Bool.{not-true, cases_Bool}
-use Rattle.std.proofs.lemmas.Grind.{common_steps}
-use Rattle.sqlite_value.specs.declared.value.Value.TheVariants.{Null, Int}
-use Rattle.sqlite_value.specs.Order.{Row}
-use Rattle.sqlite_trees.specs.Tree.{Trees, rowid, put_row}
-use Rattle.sqlite_sql.specs.Program.{overlay}
-use Rattle.sqlite_keyed.proofs.RuleLemmas.{first_of_both, second_of_both}
-use Rattle.sqlite_rules.specs.Edit.{edit_of, next_rowid, is_taken, are_fresh, numbered, put_all}
-use Rattle.sqlite_rules.specs.Cast.{cast_row}
-use Rattle.sqlite_rules.specs.Calls.{ids_of}
-use Rattle.sqlite_rules.specs.Action.{works}
-use Rattle.sqlite.specs.Rowids.TheVariants.{Chosen, Given, Above}
-use Rattle.sqlite_schema.specs.declared.schema.Keys.TheVariants.{Enforced}
-use Rattle.sqlite.specs.Command.TheVariants.{Insert, Delete}
+use Rattle.room_tables.proofs.Common.{◌≡◌, ◌≢◌, ◌⊎◌, length, ◌/◌, MatchBool, is_lt, int_cmp, inl, inr, ℕ, ℤ, Bool, true}
+use Rattle.room_tables.proofs.Common.{false, not, cond, List, [], ◌∷◌, map, drop, filter, slice_get, Option, None, Some}
+use Rattle.room_tables.proofs.Common.{Ok, Err, Result, IfErr, OnErr, refl, sym, ap, subst, true≢false, ◌∙◌, unwrap_or}
+use Rattle.room_tables.proofs.Common.{arith, not-true, cases_Bool, common_steps, Null, Int, Row, Trees, rowid, put_row}
+use Rattle.room_tables.proofs.Common.{overlay, first_of_both, second_of_both, edit_of, next_rowid, is_taken, are_fresh}
+use Rattle.room_tables.proofs.Common.{numbered, put_all, cast_row, ids_of, works, Chosen, Given, Above, Enforced}
+use Rattle.room_tables.proofs.Common.{Insert, Delete, Values, Integer, Value, Database, value_rows, IsDatabase}
+use Rattle.room_tables.proofs.Common.{IsSource, Edited, Counts, CountsIn, Gives, sequence, Written, Task, count_of}
+use Rattle.room_tables.proofs.Common.{rowids_for, last_id, stamped, Tally, OnTable, OnRows, WritesRows, Table, Command}
+use Rattle.room_tables.proofs.Common.{State, mode_of, Writes, Executes, ExecutesInside, KeepsCommit, Shows, Error}
+use Rattle.room_tables.proofs.Common.{runs_as, one_step, AllByRecursion, list_all, Term, col, holds, Layout}
+use Rattle.room_tables.proofs.Common.{room_schema, IsKeyed, OfEachTable}
 use Rattle.sqlite.specs.Source.{Source}
-use Rattle.sqlite.specs.Source.TheVariants.{Values}
-use Rattle.sqlite.specs.Kind.TheVariants.{Integer}
 use Rattle.sqlite.specs.Cast.{cast}
 use Rattle.sqlite.specs.Ops.{unary}
-use Rattle.sqlite_value.specs.declared.value.Value.{Value}
-use Rattle.sqlite.specs.Effect.{Database, value_rows, IsDatabase, IsSource}
-use Rattle.sqlite.specs.Rows.{Edited, Counts, CountsIn, Gives, sequence, Written, Task, count_of, rowids_for, last_id}
-use Rattle.sqlite.specs.Rows.{stamped}
-use Rattle.sqlite.specs.Does.{Tally, OnTable, OnRows, WritesRows}
-use Rattle.sqlite.specs.Table.{Table}
-use Rattle.sqlite.specs.Command.{Command}
-use Rattle.sqlite.specs.State.{State, mode_of, Writes, Executes, ExecutesInside, KeepsCommit, Shows}
 use Rattle.sqlite.specs.Steps.{FailsToCommit}
-use Rattle.sqlite.specs.declared.error.Error.{Error}
-use Rattle.sqlite.proofs.Callers.{runs_as, one_step}
 use Rattle.sqlite.proofs.InsideLemmas.{inside_keeps}
-use Rattle.std.specs.List.{AllByRecursion, list_all}
-use Rattle.sqlite_sql.specs.Term.{Term, col, holds}
-use Rattle.room_tables.specs.Tables.{Layout, room_schema}
 use Rattle.room_tables.proofs.Texts.{over_table}
 use Rattle.room_tables.proofs.Queries.{Picks, passing, answer_is, found}
-use Rattle.room_tables.specs.Layout.{IsKeyed, OfEachTable}
 use Rattle.room_tables.proofs.Each.{by_name}
 use Rattle.room_tables.proofs.Meaning.{Means}
 use Rattle.room_tables.proofs.Removed.{removed}

@@ -1,43 +1,23 @@
 -- The children of a folder, as the rows show them.
-use Rattle.std.proofs.Common.{◌≡◌, ◌≢◌, inl, inr, ℕ, suc, ◌≤◌, pos, Bool, true, false, cond, eqb, List, [], ◌∷◌}
-use Rattle.std.proofs.Common.{length, map, filter, slice_get, Option, None, Some, option_map, unwrap_or, refl, sym, ap}
-use Rattle.std.proofs.Common.{ap₂, subst, ◌∙◌, true≢false, arith, Ordering, Less, Equal, is_gt, IsPermutation}
-use Rattle.std.specs.List.{AllByRecursion, IsDistinct}
-use Rattle.std.specs.Ordering.{nat_cmp, ordering_then}
+use Rattle.room_tables.proofs.Common.{◌≡◌, ◌≢◌, inl, inr, ℕ, suc, ◌≤◌, pos, Bool, true, false, cond, eqb, List, [], ◌∷◌}
+use Rattle.room_tables.proofs.Common.{length, map, filter, slice_get, Option, None, Some, option_map, unwrap_or, refl}
+use Rattle.room_tables.proofs.Common.{sym, ap, ap₂, subst, ◌∙◌, true≢false, arith, Ordering, Less, Equal, is_gt}
+use Rattle.room_tables.proofs.Common.{IsPermutation, AllByRecursion, IsDistinct, nat_cmp, ordering_then, and_from}
+use Rattle.room_tables.proofs.Common.{ne_eqb, eqb-false, common_steps, exact_bytes, length_permutation}
+use Rattle.room_tables.proofs.Common.{IsPermutation-sym, Value, Int, Text, Binary, ascending, Row, column, value_cmp}
+use Rattle.room_tables.proofs.Common.{value_cmp-Text, IsAscending, is_null, key_cmp, key_cmp_total, sort_by}
+use Rattle.room_tables.proofs.Common.{IsPermutation-filter, filter-map, first_of_both, second_of_both}
+use Rattle.room_tables.proofs.Common.{IsPermutation-sort_by, Has, all_has, all_from, has_filtered, contains_had}
+use Rattle.room_tables.proofs.Common.{mapped_has, Database, Node, ObjectRecords, IsChild, has, is_child_named, only}
+use Rattle.room_tables.proofs.Common.{number_in, parent_in, name_of_text, name_stored, one_column, shown_node, node_of}
+use Rattle.room_tables.proofs.Common.{nodes_in, named_rows, child_rows, records_of, HasNumbers, IsRoomDatabase}
+use Rattle.room_tables.proofs.Common.{parent_value, ByName}
 use Rattle.std.specs.Cmp.Lexicographic.{slice_cmp}
-use Rattle.std.proofs.lemmas.Bool.{and_from, ne_eqb, eqb-false}
-use Rattle.std.proofs.lemmas.Grind.{common_steps}
-use Rattle.std.proofs.lemmas.Map.Lookups.{exact_bytes}
-use Rattle.std.proofs.lemmas.List.Sorted.{length_permutation, IsPermutation-sym}
 use Rattle.std.proofs.lemmas.Option.{same_Some}
-use Rattle.sqlite_value.specs.declared.value.Value.{Value}
-use Rattle.sqlite_value.specs.declared.value.Value.TheVariants.{Int, Text}
-use Rattle.sqlite_value.specs.declared.keys.Collation.TheVariants.{Binary}
-use Rattle.sqlite_value.specs.Keys.{ascending}
-use Rattle.sqlite_value.specs.Order.{Row, column, value_cmp}
-use Rattle.sqlite_value.proofs.OrderLemmas.{value_cmp-Text}
-use Rattle.sqlite_trees.specs.Tree.{IsAscending}
-use Rattle.sqlite_sql.specs.Ops.{is_null}
-use Rattle.sqlite_sql.specs.Query.{key_cmp}
-use Rattle.sqlite_sql.proofs.QueryLemmas.{key_cmp_total}
-use Rattle.sqlite_keyed.specs.Lists.{sort_by}
-use Rattle.sqlite_keyed.proofs.ListLemmas.{IsPermutation-filter, filter-map}
-use Rattle.sqlite_keyed.proofs.RuleLemmas.{first_of_both, second_of_both}
-use Rattle.sqlite_keyed.proofs.SortLemmas.{IsPermutation-sort_by}
-use Rattle.sqlite_rules.specs.Lists.{Has}
-use Rattle.sqlite_rules.proofs.ListLemmas.{all_has, all_from, has_filtered, contains_had}
-use Rattle.sqlite_rules.proofs.ProbeLemmas.{mapped_has}
-use Rattle.sqlite.specs.Effect.{Database}
-use Rattle.room_records.specs.declared.node.Node.{Node}
 use Rattle.room_records.specs.Names.{name_cmp}
-use Rattle.room_records.specs.Records.{ObjectRecords, IsChild}
 use Rattle.room_records.specs.Rules.{NodeRules}
 use Rattle.room_records.specs.Shelf.{AreChildren, IsChildCount, IsChildNamed, InNameOrder, name_of}
 use Rattle.room_records.proofs.Children.{named_by_rules}
-use Rattle.room_tables.specs.Rows.{has, is_child_named, only, number_in, parent_in, name_of_text, name_stored}
-use Rattle.room_tables.specs.Rows.{one_column, shown_node, node_of, nodes_in, named_rows, child_rows, records_of}
-use Rattle.room_tables.specs.Layout.{HasNumbers, IsRoomDatabase, parent_value}
-use Rattle.room_tables.specs.Names.{ByName}
 use Rattle.room_tables.proofs.Values.{has_one, has_text_value, has_not_null, has_tied, int_has, text_has}
 use Rattle.room_tables.proofs.Removed.{one_row, shown_of, is_shown}
 use Rattle.room_tables.proofs.Sorted.{ascending-sort_by}

@@ -1,45 +1,18 @@
 -- A row of `slot` is copied into `kept`, and taken out of `slot`.
-use Rattle.std.proofs.Common.{◌≡◌, ◌≢◌, ◌⊎◌, inl, inr, ℕ, ℤ, true, false, not, cond, List, [], ◌∷◌, ◌++◌, map}
-use Rattle.std.proofs.Common.{drop, take, filter, None, Ok, length, unwrap_or, is_eq, refl, sym, ap, subst}
-use Rattle.std.proofs.Common.{◌∙◌, Equal, IsPermutation, arith}
-use Rattle.std.proofs.lemmas.Cmp.{tied_itself, alike_right}
-use Rattle.std.proofs.lemmas.List.Sorted.{IsPermutation-refl, IsPermutation-trans, IsPermutation-sym, IsPermutation-map}
-use Rattle.std.proofs.lemmas.List.Sorted.{IsPermutation-middle, IsPermutation-append_left, IsPermutation-append_right}
-use Rattle.std.proofs.lemmas.List.Sorted.{IsPermutation-filter_both, length_permutation}
-use Rattle.std.specs.List.{AllByRecursion}
-use Rattle.std.proofs.lemmas.Bool.{not-true}
-use Rattle.sqlite_value.specs.declared.value.Value.{Value}
-use Rattle.sqlite_value.specs.declared.value.Value.TheVariants.{Null, Int, Text}
-use Rattle.sqlite_value.specs.Order.{Row, column, value_cmp}
-use Rattle.sqlite_value.proofs.OrderLemmas.{value_cmp_total}
-use Rattle.sqlite_trees.specs.Tree.{rowid, put_row}
-use Rattle.sqlite_sql.specs.Program.{overlay}
-use Rattle.sqlite_sql.specs.Query.{Output}
-use Rattle.sqlite_tied.specs.Compute.{everything}
-use Rattle.sqlite.specs.Listing.{understood}
-use Rattle.sqlite_keyed.proofs.ListLemmas.{filter_all, IsPermutation-filter}
-use Rattle.sqlite_keyed.proofs.RuleLemmas.{first_of_both, second_of_both, each_true}
-use Rattle.sqlite_rules.specs.Action.{works}
-use Rattle.sqlite_rules.specs.Cast.{cast, cast_row}
-use Rattle.sqlite_rules.specs.Edit.{id_in, is_taken, are_fresh, numbered, put_all}
-use Rattle.sqlite_rules.specs.Lists.{Has}
-use Rattle.sqlite_rules.proofs.ListLemmas.{all_has, all_from}
-use Rattle.sqlite_rules.proofs.ProbeLemmas.{has_mapped}
-use Rattle.sqlite_rules.proofs.TableLemmas.{int_is}
-use Rattle.sqlite_schema.specs.Rules.{is_of, are_typed}
-use Rattle.sqlite_schema.specs.declared.schema.Constraint.TheVariants.{Datatype}
-use Rattle.sqlite_schema.specs.declared.schema.Keys.TheVariants.{Enforced}
+use Rattle.room_tables.proofs.Common.{◌≡◌, ◌≢◌, ◌⊎◌, inl, inr, ℕ, ℤ, true, false, not, cond, List, [], ◌∷◌, ◌++◌, map}
+use Rattle.room_tables.proofs.Common.{drop, take, filter, None, Ok, length, unwrap_or, is_eq, refl, sym, ap, subst, ◌∙◌}
+use Rattle.room_tables.proofs.Common.{Equal, IsPermutation, arith, tied_itself, alike_right, IsPermutation-refl}
+use Rattle.room_tables.proofs.Common.{IsPermutation-trans, IsPermutation-sym, IsPermutation-map, IsPermutation-middle}
+use Rattle.room_tables.proofs.Common.{IsPermutation-append_left, IsPermutation-append_right, IsPermutation-filter_both}
+use Rattle.room_tables.proofs.Common.{length_permutation, AllByRecursion, not-true, Value, Null, Int, Text, Row, column}
+use Rattle.room_tables.proofs.Common.{value_cmp, value_cmp_total, rowid, put_row, overlay, Output, everything}
+use Rattle.room_tables.proofs.Common.{understood, filter_all, IsPermutation-filter, first_of_both, second_of_both}
+use Rattle.room_tables.proofs.Common.{each_true, works, cast, cast_row, id_in, is_taken, are_fresh, numbered, put_all}
+use Rattle.room_tables.proofs.Common.{Has, all_has, all_from, has_mapped, int_is, is_of, are_typed, Datatype, Enforced}
+use Rattle.room_tables.proofs.Common.{Chosen, last_id, From, State, Executes, Table, Database, IsDatabase, Upgraded}
+use Rattle.room_tables.proofs.Common.{room_schema, slot_table, slots_table, is_slot, shown_slot, IsKeyed}
 use Rattle.sqlite_schema.specs.declared.schema.Kind.TheVariants as kind
-use Rattle.sqlite.specs.Rowids.TheVariants.{Chosen}
-use Rattle.sqlite.specs.Rows.{last_id}
-use Rattle.sqlite.specs.Source.TheVariants.{Query as From}
-use Rattle.sqlite.specs.State.{State, Executes}
-use Rattle.sqlite.specs.Table.{Table}
-use Rattle.sqlite.specs.Effect.{Database, IsDatabase}
-use Rattle.room_tables.specs.Tables.{Upgraded, room_schema, slot_table, slots_table}
 use Rattle.room_tables.proofs.Texts.{copy_row_text, copy_row_query, take_row_text}
-use Rattle.room_tables.specs.Rows.{is_slot, shown_slot}
-use Rattle.room_tables.specs.Layout.{IsKeyed}
 use Rattle.room_tables.specs.Upgrade.{shows, has_id, others_than, LeavesFewer, IsShared, IsMoving, CopiesRow}
 use Rattle.room_tables.proofs.Each.{by_name, from_both}
 use Rattle.room_tables.proofs.Meaning.{copy_row_means}

@@ -1,32 +1,17 @@
 -- What the CREATE TABLE of each table makes.
-use Rattle.std.specs.declared.alloc.Global.{Global}
-use Rattle.std.proofs.Common.{Vec, ◌≡◌, ◌==◌, cond, ℕ, false, List, [], ◌∷◌, ◌++◌, None, Some, Ok}
-use Rattle.std.proofs.Common.{refl, sym, ap, subst, ◌∙◌}
-use Rattle.room_acl.specs.Entries.{EntryModel}
-use Rattle.room_records.specs.declared.change.Change.TheVariants.{PutNode, PutEntries, PutNext}
-use Rattle.room_records.specs.Changes.{apply_change}
+use Rattle.room_tables.proofs.Common.{Global, Vec, ◌≡◌, ◌==◌, cond, ℕ, false, List, [], ◌∷◌, ◌++◌, None, Some, Ok, refl}
+use Rattle.room_tables.proofs.Common.{sym, ap, subst, ◌∙◌, EntryModel, PutNode, PutEntries, PutNext, apply_change}
+use Rattle.room_tables.proofs.Common.{AllByRecursion, Trees, no_trees, Table, Schema, CreateTable, created, next_tree}
+use Rattle.room_tables.proofs.Common.{KeepsRows, Tally, Does, lacks_sequence, Database, IsDatabase, State, mode_of}
+use Rattle.room_tables.proofs.Common.{ExecutesInside, runs_as, room_text, node_text, entry_text, doc_text, session_text}
+use Rattle.room_tables.proofs.Common.{kept_text, schema_0, schema_1, schema_2, schema_3, schema_4, schema_5, Fresh}
+use Rattle.room_tables.proofs.Common.{room_schema, IsKeyed, HasNumbers, IsRoomDatabase, Steps, Node, Records}
+use Rattle.room_tables.proofs.Common.{records_of, version_rows, IsVersion}
 use Rattle.room_records.specs.Room.{fresh_room, fresh_entries}
 use Rattle.room_records.specs.Fresh.{no_records}
 use Rattle.room_records.specs.Representation.{RepresentsRoom}
 use Rattle.room_records.proofs.FreshRoom.{root_node, fresh_stands}
-use Rattle.std.specs.List.{AllByRecursion}
-use Rattle.sqlite_trees.specs.Tree.{Trees, no_trees}
-use Rattle.sqlite.specs.Table.{Table}
-use Rattle.sqlite.specs.Schema.{Schema}
-use Rattle.sqlite.specs.Command.TheVariants.{CreateTable}
-use Rattle.sqlite.specs.Change.{created, next_tree, KeepsRows}
-use Rattle.sqlite.specs.Does.{Tally, Does, lacks_sequence}
-use Rattle.sqlite.specs.Effect.{Database, IsDatabase}
-use Rattle.sqlite.specs.State.{State, mode_of, ExecutesInside}
-use Rattle.sqlite.proofs.Callers.{runs_as}
-use Rattle.room_tables.specs.Tables.{room_text, node_text, entry_text, doc_text, session_text, kept_text, schema_0}
-use Rattle.room_tables.specs.Tables.{schema_1, schema_2, schema_3, schema_4, schema_5, Fresh, room_schema}
-use Rattle.room_tables.specs.Layout.{IsKeyed, HasNumbers, IsRoomDatabase}
 use Rattle.room_tables.specs.Fresh.{IsMade, IsFresh, IsFilled, filled}
-use Rattle.room_tables.specs.Steps.{Steps}
-use Rattle.room_records.specs.declared.node.Node.{Node}
-use Rattle.room_records.specs.Records.{Records}
-use Rattle.room_tables.specs.Rows.{records_of, version_rows, IsVersion}
 use Rattle.room_tables.proofs.Each.{by_name, from_both, in_turn}
 use Rattle.room_tables.proofs.TreeNames.{slots_listed}
 use Rattle.room_tables.proofs.Making.{Makes, room_makes, node_makes, entry_makes, doc_makes, session_makes, kept_makes}

@@ -1,50 +1,24 @@
 -- What a DELETE of a node does, whose entries and document go with it by ON DELETE CASCADE.
-use Rattle.std.proofs.Common.{◌≡◌, ◌⊎◌, inl, inr, ℕ, zero, suc, ℤ, pos, Bool, true, false, not, ◌||◌, List, [], ◌∷◌}
-use Rattle.std.proofs.Common.{◌++◌, length, map, filter, Some, option_map, Ok, refl, sym, ap, subst, subst₂, ◌∙◌, arith}
-use Rattle.std.proofs.Common.{length-append, append-nil, codes, IsPermutation, Equal, is_eq}
-use Rattle.std.specs.List.{AllByRecursion, list_any}
-use Rattle.std.proofs.lemmas.Bool.{or_from}
-use Rattle.std.proofs.lemmas.Cmp.{tied_itself, alike_right}
-use Rattle.std.proofs.lemmas.List.{same_from_push}
-use Rattle.std.proofs.lemmas.List.Sorted.{length_permutation}
-use Rattle.sqlite_value.specs.declared.value.Value.TheVariants.{Null, Int}
-use Rattle.sqlite_value.specs.Keys.{plain, first_key}
-use Rattle.sqlite_value.specs.Order.{Row, column, value_cmp}
-use Rattle.sqlite_value.proofs.OrderLemmas.{value_cmp_total}
-use Rattle.sqlite_trees.specs.Tree.{Trees, rowid, without_rowid}
-use Rattle.sqlite_sql.specs.Ops.{binary}
-use Rattle.sqlite_sql.specs.Program.{overlay}
-use Rattle.sqlite_schema.specs.Rules.{agree, parent_key, has_null, is_held, has_parent}
-use Rattle.sqlite_schema.specs.declared.schema.Constraint.TheVariants.{ForeignKey}
-use Rattle.sqlite_schema.specs.declared.schema.Keys.TheVariants.{Enforced}
+use Rattle.room_tables.proofs.Common.{◌≡◌, ◌⊎◌, inl, inr, ℕ, zero, suc, ℤ, pos, Bool, true, false, not, ◌||◌, List, []}
+use Rattle.room_tables.proofs.Common.{◌∷◌, ◌++◌, length, map, filter, Some, option_map, Ok, refl, sym, ap, subst}
+use Rattle.room_tables.proofs.Common.{subst₂, ◌∙◌, arith, length-append, append-nil, codes, IsPermutation, Equal, is_eq}
+use Rattle.room_tables.proofs.Common.{AllByRecursion, list_any, or_from, tied_itself, alike_right, same_from_push}
+use Rattle.room_tables.proofs.Common.{length_permutation, Null, Int, plain, first_key, Row, column, value_cmp}
+use Rattle.room_tables.proofs.Common.{value_cmp_total, Trees, rowid, without_rowid, binary, overlay, agree, parent_key}
+use Rattle.room_tables.proofs.Common.{has_null, is_held, has_parent, ForeignKey, Enforced, Has, edit_of, taken_by}
+use Rattle.room_tables.proofs.Common.{without_all, ids_of, Work, works, loses, is_child_of, Leads, Acts, ActsOn}
+use Rattle.room_tables.proofs.Common.{AreChildren, action_edit, all_has, some_has, has_kept, has_filtered, row_at_is}
+use Rattle.room_tables.proofs.Common.{first_of_both, all_weaker, all-filter, Given, Table, Database, IsDatabase}
+use Rattle.room_tables.proofs.Common.{Written, State, Executes, ExecutesInside, runs_as, one_step, one_permutation}
+use Rattle.room_tables.proofs.Common.{everything, DropNode, apply_change, Layout, Fresh, Upgraded, room_schema}
+use Rattle.room_tables.proofs.Common.{slots_tree, node_table, entry_table, doc_table, refers, has, only, shown_node}
+use Rattle.room_tables.proofs.Common.{node_of, entry_of, entries_shown, one_column, blob_in, next_in, sessions_in}
+use Rattle.room_tables.proofs.Common.{slots_in, IsKeyed, HasNumbers, IsRoomDatabase, Steps}
 use Rattle.sqlite_schema.specs.declared.schema.Reference.{Reference}
 use Rattle.sqlite_schema.specs.declared.schema.Action.TheVariants.{Cascade}
 use Rattle.sqlite_rules.specs.declared.action.Deed.TheVariants.{Delete}
-use Rattle.sqlite_rules.specs.Lists.{Has}
-use Rattle.sqlite_rules.specs.Edit.{edit_of, taken_by, without_all}
-use Rattle.sqlite_rules.specs.Calls.{ids_of}
-use Rattle.sqlite_rules.specs.Action.{Work, works, loses, is_child_of, Leads, Acts, ActsOn, AreChildren}
-use Rattle.sqlite_rules.specs.Action.{Writes, action_edit}
-use Rattle.sqlite_rules.proofs.ListLemmas.{all_has, some_has, has_kept, has_filtered}
-use Rattle.sqlite_rules.proofs.PlaceLemmas.{row_at_is}
-use Rattle.sqlite_keyed.proofs.RuleLemmas.{first_of_both}
-use Rattle.sqlite_keyed.proofs.ListLemmas.{all_weaker, all-filter}
-use Rattle.sqlite.specs.Rowids.TheVariants.{Given}
-use Rattle.sqlite.specs.Table.{Table}
-use Rattle.sqlite.specs.Effect.{Database, IsDatabase}
-use Rattle.sqlite.specs.Rows.{Written}
-use Rattle.sqlite.specs.State.{State, Executes, ExecutesInside}
-use Rattle.sqlite.proofs.Callers.{runs_as, one_step, one_permutation}
-use Rattle.sqlite_tied.specs.Compute.{everything}
-use Rattle.room_records.specs.declared.change.Change.TheVariants.{DropNode}
-use Rattle.room_records.specs.Changes.{apply_change}
-use Rattle.room_tables.specs.Tables.{Layout, Fresh, Upgraded, room_schema, slots_tree, node_table, entry_table}
-use Rattle.room_tables.specs.Tables.{doc_table, refers}
+use Rattle.sqlite_rules.specs.Action.{Writes}
 use Rattle.room_tables.proofs.Texts.{drop_node_text, drop_node_query}
-use Rattle.room_tables.specs.Rows.{has, only, shown_node, node_of, entry_of, entries_shown, one_column, blob_in}
-use Rattle.room_tables.specs.Rows.{next_in, sessions_in, slots_in}
-use Rattle.room_tables.specs.Layout.{IsKeyed, HasNumbers, IsRoomDatabase}
-use Rattle.room_tables.specs.Steps.{Steps}
 use Rattle.room_tables.proofs.Each.{of_any, in_turn, rows_pass, above}
 use Rattle.room_tables.proofs.TreeNames.{slots_listed}
 use Rattle.room_tables.proofs.Meaning.{drop_node_means}

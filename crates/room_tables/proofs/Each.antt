@@ -1,24 +1,13 @@
 -- Facts of each table that a room is read from.
-use Rattle.std.proofs.Common.{◌≡◌, ◌<◌, true, [], ◌∷◌, slice_get, Some, refl, subst, arith, sym, ap₂, ◌∙◌, inl, inr}
-use Rattle.std.proofs.Common.{Equal, true≢false, not, ◌&&◌}
-use Rattle.std.specs.List.{AllByRecursion}
-use Rattle.std.proofs.lemmas.Bool.{cases_Bool, not-true, and_from}
-use Rattle.sqlite_value.specs.Order.{Row, value_cmp}
-use Rattle.sqlite_trees.specs.Tree.{Trees, rowid}
-use Rattle.sqlite_trees.specs.View.{is_int}
-use Rattle.sqlite_sql.specs.Program.{overlay}
-use Rattle.sqlite_schema.specs.Rules.{passes, Keeps, guards, clashes, agree, differ}
+use Rattle.room_tables.proofs.Common.{◌≡◌, ◌<◌, true, [], ◌∷◌, slice_get, Some, refl, subst, arith, sym, ap₂, ◌∙◌, inl}
+use Rattle.room_tables.proofs.Common.{inr, Equal, true≢false, not, ◌&&◌, AllByRecursion, cases_Bool, not-true, and_from}
+use Rattle.room_tables.proofs.Common.{Row, value_cmp, Trees, rowid, is_int, overlay, passes, Keeps, guards, clashes}
+use Rattle.room_tables.proofs.Common.{agree, differ, Unique, Has, test_has, some_from, int_is, Table, Database}
+use Rattle.room_tables.proofs.Common.{IsDatabase, Layout, Fresh, Upgraded, room_schema, room_table, node_table}
+use Rattle.room_tables.proofs.Common.{entry_table, doc_table, session_table, slots_table, slots_tree, slots_place}
+use Rattle.room_tables.proofs.Common.{with_last, OfEachTable}
 use Rattle.sqlite_schema.specs.declared.schema.Constraint.{Constraint}
-use Rattle.sqlite_schema.specs.declared.schema.Constraint.TheVariants.{Unique}
 use Rattle.sqlite_schema.specs.declared.schema.Index.{Index}
-use Rattle.sqlite_rules.specs.Lists.{Has}
-use Rattle.sqlite_rules.proofs.ListLemmas.{test_has, some_from}
-use Rattle.sqlite_rules.proofs.TableLemmas.{int_is}
-use Rattle.sqlite.specs.Table.{Table}
-use Rattle.sqlite.specs.Effect.{Database, IsDatabase}
-use Rattle.room_tables.specs.Tables.{Layout, Fresh, Upgraded, room_schema, room_table, node_table, entry_table}
-use Rattle.room_tables.specs.Tables.{doc_table, session_table, slots_table, slots_tree, slots_place, with_last}
-use Rattle.room_tables.specs.Layout.{OfEachTable}
 use Rattle.room_tables.proofs.Values.{same_ids}
 
 slots_among : (l : Layout) (P : Table → Type 0) → AllByRecursion P (room_schema l).tables → P (slots_table l)

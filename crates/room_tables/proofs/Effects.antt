@@ -1,34 +1,21 @@
 -- What the statements do to the records.
-use Rattle.std.specs.declared.alloc.Global.{Global}
-use Rattle.std.proofs.Common.{Vec, ◌≡◌, ◌≢◌, ◌≤◌, ℕ, suc, ℤ, pos, not, ◌==◌, cond, List, [], ◌∷◌, ◌++◌, map, Option}
-use Rattle.std.proofs.Common.{None, Some, option_map, unwrap_or, Ok, refl, sym, ap, subst, ◌∙◌, arith, inl, inr, eq-eqb}
-use Rattle.std.specs.List.{AllByRecursion}
-use Rattle.sqlite_value.specs.declared.value.Value.TheVariants.{Int}
-use Rattle.sqlite_value.specs.Order.{Row, column}
-use Rattle.sqlite_trees.specs.Tree.{Trees, rowid, has_rowid, with_tree}
-use Rattle.std.proofs.lemmas.Bool.{cases_eq, ne_eqb}
+use Rattle.room_tables.proofs.Common.{Global, Vec, ◌≡◌, ◌≢◌, ◌≤◌, ℕ, suc, ℤ, pos, not, ◌==◌, cond, List, [], ◌∷◌, ◌++◌}
+use Rattle.room_tables.proofs.Common.{map, Option, None, Some, option_map, unwrap_or, Ok, refl, sym, ap, subst, ◌∙◌}
+use Rattle.room_tables.proofs.Common.{arith, inl, inr, eq-eqb, AllByRecursion, Int, Row, column, Trees, rowid}
+use Rattle.room_tables.proofs.Common.{has_rowid, with_tree, cases_eq, ne_eqb, all-filter, State, ExecutesInside, Node}
+use Rattle.room_tables.proofs.Common.{PutNode, PutNext, PutDoc, Records, apply_change, apply_changes, Database}
+use Rattle.room_tables.proofs.Common.{IsDatabase, Table, Layout, Upgraded, room_schema, node_table, doc_table, only}
+use Rattle.room_tables.proofs.Common.{parent_in, name_of_text, kind_stored, shown_node, node_of, nodes_in, entries_in}
+use Rattle.room_tables.proofs.Common.{one_column, blob_in, documents_in, number_in, next_in, version_rows, versions_in}
+use Rattle.room_tables.proofs.Common.{IsVersion, sessions_in, slots_in, kept_rows, records_of, IsKeyed, HasNumbers}
+use Rattle.room_tables.proofs.Common.{IsRoomDatabase, OfEachTable, parent_value, reply_value, Steps, kind_number}
 use Rattle.sqlite_trees.proofs.TreeLemmas.{all-put_row}
-use Rattle.sqlite_keyed.proofs.ListLemmas.{all-filter}
 use Rattle.sqlite.specs.Values.{bound_value}
-use Rattle.sqlite.specs.State.{State, ExecutesInside}
 use Rattle.room_acl.specs.declared.subject.Kind.{Kind}
 use Rattle.room_acl.specs.declared.subject.Kind.TheVariants.{File, Folder}
-use Rattle.room_records.specs.declared.node.Node.{Node}
 use Rattle.room_records.specs.declared.change.Change.{Change}
-use Rattle.room_records.specs.declared.change.Change.TheVariants.{PutNode, PutNext, PutDoc}
-use Rattle.room_records.specs.Records.{Records}
-use Rattle.room_records.specs.Changes.{apply_change, apply_changes}
 use Rattle.room_records.proofs.Changes.{changes_then}
-use Rattle.sqlite.specs.Effect.{Database, IsDatabase}
-use Rattle.sqlite.specs.Table.{Table}
-use Rattle.room_tables.specs.Tables.{Layout, Upgraded, room_schema, node_table, doc_table}
 use Rattle.room_tables.proofs.Texts as T
-use Rattle.room_tables.specs.Rows.{only, parent_in, name_of_text, kind_stored, shown_node, node_of, nodes_in}
-use Rattle.room_tables.specs.Rows.{entries_in, one_column, blob_in, documents_in, number_in, next_in}
-use Rattle.room_tables.specs.Rows.{version_rows, versions_in, IsVersion, sessions_in, slots_in}
-use Rattle.room_tables.specs.Rows.{kept_rows, records_of}
-use Rattle.room_tables.specs.Layout.{IsKeyed, HasNumbers, IsRoomDatabase, OfEachTable, parent_value, reply_value}
-use Rattle.room_tables.specs.Steps.{Steps, kind_number}
 use Rattle.room_tables.proofs.Each.{from_both, in_turn, of_turn}
 use Rattle.room_tables.proofs.TreeNames.{slots_listed}
 use Rattle.room_tables.proofs.Changes.{Leaves, Others}

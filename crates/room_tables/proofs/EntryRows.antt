@@ -1,13 +1,8 @@
 -- What rows show of entries.
-use Rattle.std.proofs.Common.{◌≡◌, ◌≢◌, ◌++◌, ◌∙◌, ℕ, pos, Bool, true, false, List, [], ◌∷◌}
-use Rattle.std.proofs.Common.{refl, ap}
+use Rattle.room_tables.proofs.Common.{◌≡◌, ◌≢◌, ◌++◌, ◌∙◌, ℕ, pos, Bool, true, false, List, [], ◌∷◌, refl, ap}
+use Rattle.room_tables.proofs.Common.{AllByRecursion, Int, Text, Row, column, who_text, type_of, flag_of, ShowsEntry}
 use Rattle.std.specs.Prelude.{IsUtf8, not}
-use Rattle.std.specs.List.{AllByRecursion}
-use Rattle.sqlite_value.specs.declared.value.Value.TheVariants.{Int, Text}
-use Rattle.sqlite_value.specs.Order.{Row, column}
-use Rattle.room_acl.specs.Entries.{who_text}
 use Rattle.room_acl.proofs.WhoTexts.{who_utf8}
-use Rattle.room_tables.specs.Steps.{type_of, flag_of, ShowsEntry}
 
 -- ---- a row without a part of an entry shows none
 

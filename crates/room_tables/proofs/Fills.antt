@@ -1,43 +1,21 @@
 -- An INSERT into a table of ours, under any schema: its rows go in, and what is there beside stays.
-use Rattle.std.proofs.Common.{◌≡◌, ◌≢◌, ◌/◌, ℕ, ℤ, true, false, cond, length, List, [], ◌∷◌}
-use Rattle.std.proofs.Common.{◌==◌, eq-eqb, map, drop, slice_get, None, Some, Ok, inl, inr, refl, sym, ap, ap₂}
-use Rattle.std.proofs.Common.{subst, subst₂, ◌∙◌, arith, append-nil, true≢false}
-use Rattle.std.specs.List.{AllByRecursion, find}
-use Rattle.sqlite_ast.specs.declared.Statement.{Statement}
+use Rattle.room_tables.proofs.Common.{◌≡◌, ◌≢◌, ◌/◌, ℕ, ℤ, true, false, cond, length, List, [], ◌∷◌, ◌==◌, eq-eqb, map}
+use Rattle.room_tables.proofs.Common.{drop, slice_get, None, Some, Ok, inl, inr, refl, sym, ap, ap₂, subst, subst₂, ◌∙◌}
+use Rattle.room_tables.proofs.Common.{arith, append-nil, true≢false, AllByRecursion, find, Statement, NoSuchTable}
+use Rattle.room_tables.proofs.Common.{first, command, returning, target, timed_formats, insert, insert_or_abort}
+use Rattle.room_tables.proofs.Common.{new_rows, shows, and_then, same_name, table_named, Has, edit_of, numbered}
+use Rattle.room_tables.proofs.Common.{put_all, are_fresh, cast_row, all_has, has_got, has_either, Term, Trees, Row}
+use Rattle.room_tables.proofs.Common.{timed, is_select, KeepsRows, Command, Insert, Chosen, Above, Values, Schema}
+use Rattle.room_tables.proofs.Common.{Table, Task, Written, count_of, rowids_for, stamped, Tally, Database, IsDatabase}
+use Rattle.room_tables.proofs.Common.{IsSource, value_rows, State, mode_of, text_of, Runs, Writes, ExecutesIn, Executes}
+use Rattle.room_tables.proofs.Common.{ExecutesInside, one_step, has_a_table, IsApart, IsBeside, HasItsSequence, AreOurs}
+use Rattle.room_tables.proofs.Common.{Fills, six, with_rows}
 use Rattle.sqlite_ast.specs.declared.Statement.TheVariants as written
 use Rattle.sqlite_ast.specs.declared.Conflict.TheVariants as conflict
-use Rattle.sqlite_resolve.specs.declared.error.CompileError.TheVariants.{NoSuchTable}
-use Rattle.sqlite_resolve.specs.Compile.{first, command, returning, target, timed as timed_formats}
-use Rattle.sqlite_resolve.specs.Compile.{insert, insert_or_abort, new_rows, shows}
 use Rattle.sqlite_resolve.specs.Body.{table_at}
-use Rattle.sqlite_resolve.specs.Lowering.{and_then}
-use Rattle.sqlite_schema.specs.Names.{same_name, table_named}
-use Rattle.sqlite_rules.specs.Lists.{Has}
-use Rattle.sqlite_rules.specs.Edit.{edit_of, numbered, put_all, are_fresh}
-use Rattle.sqlite_rules.specs.Cast.{cast_row}
-use Rattle.sqlite_rules.proofs.ListLemmas.{all_has, has_got, has_either}
 use Rattle.sqlite_rules.proofs.ActionLemmas.{no_works}
 use Rattle.sqlite_catalog.proofs.ListFacts.{none_placed}
-use Rattle.sqlite_sql.specs.Term.{Term}
-use Rattle.sqlite_trees.specs.Tree.{Trees}
-use Rattle.sqlite_value.specs.Order.{Row}
-use Rattle.sqlite.specs.Clock.{timed}
-use Rattle.sqlite.specs.Listing.{is_select}
-use Rattle.sqlite.specs.Change.{KeepsRows}
-use Rattle.sqlite.specs.Command.{Command}
-use Rattle.sqlite.specs.Command.TheVariants.{Insert}
-use Rattle.sqlite.specs.Rowids.TheVariants.{Chosen, Above}
 use Rattle.sqlite.specs.Source.{Source}
-use Rattle.sqlite.specs.Source.TheVariants.{Values}
-use Rattle.sqlite.specs.Schema.{Schema}
-use Rattle.sqlite.specs.Table.{Table}
-use Rattle.sqlite.specs.Rows.{Task, Written, count_of, rowids_for, stamped}
-use Rattle.sqlite.specs.Does.{Tally}
-use Rattle.sqlite.specs.Effect.{Database, IsDatabase, IsSource, value_rows}
-use Rattle.sqlite.specs.State.{State, mode_of, text_of, Runs, Writes, ExecutesIn, Executes, ExecutesInside}
-use Rattle.sqlite.proofs.Callers.{one_step}
-use Rattle.room_tables.specs.Tables.{has_a_table}
-use Rattle.room_tables.specs.Beside.{IsApart, IsBeside, HasItsSequence, AreOurs, Fills, six, with_rows}
 use Rattle.room_tables.proofs.Beside.{OfParsed, gave, found, quiet, keeps_then, understood_meant}
 use Rattle.room_tables.proofs.Changes.{went, same_value, not_counted}
 use Rattle.room_tables.proofs.Ours.{all_front, all_back, located, found_behind, AreDistinct, refilled}

@@ -1,29 +1,15 @@
 -- Which rows pass a test after a row was put in or rows were taken out.
-use Rattle.std.proofs.Common.{◌≡◌, ◌≢◌, ◌≤◌, ℕ, pos, Bool, true, false, not, ◌||◌, ◌==◌, cond, List, [], ◌∷◌, filter}
-use Rattle.std.proofs.Common.{inl, inr, refl, sym, ap, subst, ◌∙◌, true≢false, Less, Equal, Greater, Ordering, is_eq}
-use Rattle.std.proofs.Common.{arith, eq-eqb, IsPermutation}
-use Rattle.std.specs.List.{AllByRecursion}
-use Rattle.std.specs.Ordering.{match_ordering}
-use Rattle.std.proofs.lemmas.Bool.{cases_Bool, not-true, cases_eq, ne_eqb, false_from_ne_true}
-use Rattle.std.proofs.lemmas.List.Sorted.{IsPermutation-refl, IsPermutation-cons, IsPermutation-trans}
-use Rattle.std.proofs.lemmas.List.Sorted.{IsPermutation-middle, IsPermutation-sym}
-use Rattle.sqlite_value.specs.declared.value.Value.TheVariants.{Int}
-use Rattle.sqlite_value.specs.Order.{Row, value_cmp}
-use Rattle.sqlite_trees.specs.Tree.{Trees, rowid, put_row, without_rowid, has_rowid}
-use Rattle.sqlite_trees.specs.View.{is_int}
+use Rattle.room_tables.proofs.Common.{◌≡◌, ◌≢◌, ◌≤◌, ℕ, pos, Bool, true, false, not, ◌||◌, ◌==◌, cond, List, [], ◌∷◌}
+use Rattle.room_tables.proofs.Common.{filter, inl, inr, refl, sym, ap, subst, ◌∙◌, true≢false, Less, Equal, Greater}
+use Rattle.room_tables.proofs.Common.{Ordering, is_eq, arith, eq-eqb, IsPermutation, AllByRecursion, match_ordering}
+use Rattle.room_tables.proofs.Common.{cases_Bool, not-true, cases_eq, ne_eqb, false_from_ne_true, IsPermutation-refl}
+use Rattle.room_tables.proofs.Common.{IsPermutation-cons, IsPermutation-trans, IsPermutation-middle, IsPermutation-sym}
+use Rattle.room_tables.proofs.Common.{Int, Row, value_cmp, Trees, rowid, put_row, without_rowid, has_rowid, is_int}
+use Rattle.room_tables.proofs.Common.{is_taken, Has, IsPermutation-filter, filter-filter, filter_all, filter_none}
+use Rattle.room_tables.proofs.Common.{ascending-filter, all-filter, all_from, has_filtered, has_put, one_permutation}
+use Rattle.room_tables.proofs.Common.{Table, Database, IsDatabase, Layout, room_schema, has, versions_in, kept_rows}
+use Rattle.room_tables.proofs.Common.{IsVersion, IsKeyed, HasNumbers, IsRoomDatabase}
 use Rattle.sqlite_trees.proofs.TreeLemmas.{IsTable-put_row, all-put_row}
-use Rattle.sqlite_rules.specs.Edit.{is_taken}
-use Rattle.sqlite_rules.specs.Lists.{Has}
-use Rattle.sqlite_keyed.proofs.ListLemmas.{IsPermutation-filter, filter-filter, filter_all, filter_none}
-use Rattle.sqlite_keyed.proofs.ListLemmas.{ascending-filter, all-filter}
-use Rattle.sqlite_rules.proofs.ListLemmas.{all_from, has_filtered}
-use Rattle.sqlite_rules.proofs.TableLemmas.{has_put}
-use Rattle.sqlite.proofs.Callers.{one_permutation}
-use Rattle.sqlite.specs.Table.{Table}
-use Rattle.sqlite.specs.Effect.{Database, IsDatabase}
-use Rattle.room_tables.specs.Tables.{Layout, room_schema}
-use Rattle.room_tables.specs.Rows.{has, versions_in, kept_rows, IsVersion}
-use Rattle.room_tables.specs.Layout.{IsKeyed, HasNumbers, IsRoomDatabase}
 use Rattle.room_tables.proofs.Each.{from_both, in_turn, of_turn, above}
 use Rattle.room_tables.proofs.TreeNames.{slots_listed}
 use Rattle.room_tables.proofs.Values.{has_is, has_one, int_has}

@@ -1,22 +1,10 @@
 -- An object whose row was just added has no entries, and is given its first ones.
-use Rattle.std.specs.declared.alloc.Global.{Global}
-use Rattle.std.proofs.Common.{Vec, ◌≡◌, ◌==◌, ℕ, pos, false, cond, IsTrue, List, [], ◌∷◌, map, filter, Ok, inl, inr}
-use Rattle.std.proofs.Common.{refl, sym, ap, subst, ◌∙◌, arith}
-use Rattle.std.proofs.lemmas.Bool.{cases_Bool}
-use Rattle.sqlite_value.specs.Order.{Row}
-use Rattle.sqlite_trees.specs.Tree.{rowid, has_rowid}
-use Rattle.sqlite_keyed.proofs.ListLemmas.{filter_none}
-use Rattle.sqlite_rules.proofs.ListLemmas.{all_from}
-use Rattle.sqlite.specs.Effect.{Database}
-use Rattle.sqlite.specs.State.{State, ExecutesInside}
-use Rattle.room_acl.specs.Entries.{EntryModel}
-use Rattle.room_records.specs.declared.node.Node.{Node}
-use Rattle.room_records.specs.declared.change.Change.TheVariants.{PutEntries}
-use Rattle.room_records.specs.Changes.{apply_change}
+use Rattle.room_tables.proofs.Common.{Global, Vec, ◌≡◌, ◌==◌, ℕ, pos, false, cond, IsTrue, List, [], ◌∷◌, map, filter}
+use Rattle.room_tables.proofs.Common.{Ok, inl, inr, refl, sym, ap, subst, ◌∙◌, arith, cases_Bool, Row, rowid, has_rowid}
+use Rattle.room_tables.proofs.Common.{filter_none, all_from, Database, State, ExecutesInside, EntryModel, Node}
+use Rattle.room_tables.proofs.Common.{PutEntries, apply_change, has, entry_of, entries_shown, entries_in, records_of}
+use Rattle.room_tables.proofs.Common.{IsVersion, IsRoomDatabase, Steps, SeesSound, Lists}
 use Rattle.room_tables.proofs.Texts.{add_node_text}
-use Rattle.room_tables.specs.Rows.{has, entry_of, entries_shown, entries_in, records_of, IsVersion}
-use Rattle.room_tables.specs.Layout.{IsRoomDatabase}
-use Rattle.room_tables.specs.Steps.{Steps, SeesSound, Lists}
 use Rattle.room_tables.proofs.Filters.{same_test}
 use Rattle.room_tables.proofs.Effects.{params_of_node, node_added, id_is}
 use Rattle.room_tables.proofs.Drops.{no_entries}

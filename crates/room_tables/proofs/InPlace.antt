@@ -1,50 +1,22 @@
 -- Entries that are written over where they stand, and entries that are taken away from a place on.
-use Rattle.std.proofs.Common.{◌≡◌, ◌≢◌, ◌≤◌, ◌<◌, ◌+◌, ℕ, suc, pos, Bool, true, false, not, ◌&&◌, cond, List, []}
-use Rattle.std.proofs.Common.{◌∷◌, ◌++◌, length, map, filter, drop, Ok, Less, is_eq, int_cmp, inl, inr, refl, sym}
-use Rattle.std.proofs.Common.{ap, ap₂, subst, subst₂, ◌∙◌, arith, IsPermutation}
-use Rattle.std.specs.List.{AllByRecursion, list_all}
-use Rattle.std.specs.Ordering.{is_ge}
-use Rattle.std.proofs.lemmas.Int.{ints}
-use Rattle.std.proofs.lemmas.Bool.{cases_Bool, not-true, false_from_ne_true}
-use Rattle.std.proofs.lemmas.Bool.Decides.{nat_tests}
-use Rattle.std.proofs.lemmas.List.{append-nil, length-map}
+use Rattle.room_tables.proofs.Common.{◌≡◌, ◌≢◌, ◌≤◌, ◌<◌, ◌+◌, ℕ, suc, pos, Bool, true, false, not, ◌&&◌, cond, List}
+use Rattle.room_tables.proofs.Common.{[], ◌∷◌, ◌++◌, length, map, filter, drop, Ok, Less, is_eq, int_cmp, inl, inr}
+use Rattle.room_tables.proofs.Common.{refl, sym, ap, ap₂, subst, subst₂, ◌∙◌, arith, IsPermutation, AllByRecursion}
+use Rattle.room_tables.proofs.Common.{list_all, is_ge, ints, cases_Bool, not-true, false_from_ne_true, nat_tests}
+use Rattle.room_tables.proofs.Common.{append-nil, length-map, IsPermutation-map, IsPermutation-trans}
+use Rattle.room_tables.proofs.Common.{IsPermutation-cons, IsPermutation-sym, IsPermutation-middle, length_permutation}
+use Rattle.room_tables.proofs.Common.{Int, Binary, Row, column, value_cmp-Int, Trees, rowid, put_row, is_int}
+use Rattle.room_tables.proofs.Common.{all-permutation, Compare, Ge, binary, is_true, holds, key_cmp, key_cmp_total}
+use Rattle.room_tables.proofs.Common.{sort_by, IsPermutation-filter, filter_all, filter_none, all-append, first_of_both}
+use Rattle.room_tables.proofs.Common.{second_of_both, IsPermutation-sort_by, Has, ids_of, cast, cast_row, is_taken}
+use Rattle.room_tables.proofs.Common.{are_fresh, put_all, without_all, all_has, has_kept, mapped_has, Integer, Database}
+use Rattle.room_tables.proofs.Common.{State, ExecutesInside, Shown, EntryModel, who_text, Layout, entry_table, has}
+use Rattle.room_tables.proofs.Common.{shown_entry, entry_keys, entries_shown, entry_rows, five_columns, IsEntryRow}
+use Rattle.room_tables.proofs.Common.{HasEntryColumns, IsKeyed, IsRoomDatabase, type_of, IsReadBack, shown_as, placed}
+use Rattle.room_tables.proofs.Common.{Lists}
 use Rattle.std.proofs.lemmas.List.Elements.{filter-append}
-use Rattle.std.proofs.lemmas.List.Sorted.{IsPermutation-map, IsPermutation-trans, IsPermutation-cons}
-use Rattle.std.proofs.lemmas.List.Sorted.{IsPermutation-sym, IsPermutation-middle, length_permutation}
-use Rattle.sqlite_value.specs.declared.value.Value.TheVariants.{Int}
-use Rattle.sqlite_value.specs.declared.keys.Collation.TheVariants.{Binary}
-use Rattle.sqlite_value.specs.Order.{Row, column}
-use Rattle.sqlite_value.proofs.OrderLemmas.{value_cmp-Int}
-use Rattle.sqlite_trees.specs.Tree.{Trees, rowid, put_row}
-use Rattle.sqlite_trees.specs.View.{is_int}
-use Rattle.sqlite_trees.proofs.ListLemmas.{all-permutation}
-use Rattle.sqlite_sql.specs.declared.ops.BinaryOp.TheVariants.{Compare}
-use Rattle.sqlite_sql.specs.declared.ops.CompareOp.TheVariants.{Ge}
-use Rattle.sqlite_sql.specs.Ops.{binary, is_true}
-use Rattle.sqlite_sql.specs.Term.{holds}
-use Rattle.sqlite_sql.specs.Query.{key_cmp}
-use Rattle.sqlite_sql.proofs.QueryLemmas.{key_cmp_total}
-use Rattle.sqlite_keyed.specs.Lists.{sort_by}
-use Rattle.sqlite_keyed.proofs.ListLemmas.{IsPermutation-filter, filter_all, filter_none, all-append}
-use Rattle.sqlite_keyed.proofs.RuleLemmas.{first_of_both, second_of_both}
-use Rattle.sqlite_keyed.proofs.SortLemmas.{IsPermutation-sort_by}
-use Rattle.sqlite_rules.specs.Lists.{Has}
-use Rattle.sqlite_rules.specs.Calls.{ids_of}
-use Rattle.sqlite_rules.specs.Cast.{cast, cast_row}
-use Rattle.sqlite_rules.specs.Edit.{is_taken, are_fresh, put_all, without_all}
-use Rattle.sqlite_rules.proofs.ListLemmas.{all_has, has_kept}
-use Rattle.sqlite_rules.proofs.ProbeLemmas.{mapped_has}
-use Rattle.sqlite.specs.Kind.TheVariants.{Integer}
-use Rattle.sqlite.specs.Effect.{Database}
-use Rattle.sqlite.specs.State.{State, ExecutesInside, Shown}
-use Rattle.room_acl.specs.Entries.{EntryModel, who_text}
-use Rattle.room_tables.specs.Tables.{Layout, entry_table}
 use Rattle.room_tables.proofs.Texts.{change_entry_text, change_entry_query, drop_behind_text, drop_behind_query}
 use Rattle.room_tables.proofs.Texts.{list_entries_text}
-use Rattle.room_tables.specs.Rows.{has, shown_entry, entry_keys, entries_shown, entry_rows, five_columns, IsEntryRow}
-use Rattle.room_tables.specs.Rows.{HasEntryColumns}
-use Rattle.room_tables.specs.Layout.{IsKeyed, IsRoomDatabase}
-use Rattle.room_tables.specs.Steps.{type_of, IsReadBack, shown_as, placed, Lists}
 use Rattle.room_tables.proofs.Meaning.{change_entry_means, drop_behind_means}
 use Rattle.room_tables.proofs.Sorted.{ascending-sort_by, same_ascending}
 use Rattle.room_tables.proofs.Queries.{and_true}

@@ -1,33 +1,16 @@
 -- What a slot keeps is written: an UPDATE changes its row, or an INSERT adds one.
-use Rattle.std.proofs.Common.{◌≡◌, ◌∙◌, ◌+◌, ℕ, ℤ, pos, Bool, true, false, ◌&&◌, List, [], ◌∷◌, drop}
-use Rattle.std.proofs.Common.{Option, Ok, Equal, inl, inr, refl, sym, ap, ap₂, subst, true≢false, is_eq}
-use Rattle.std.proofs.lemmas.Bool.{not-true, and_from}
-use Rattle.std.proofs.lemmas.Cmp.{tied_itself}
-use Rattle.sqlite_value.specs.declared.value.Value.{Value}
-use Rattle.sqlite_value.specs.declared.value.Value.TheVariants.{Null, Int, Text, Blob}
-use Rattle.sqlite_value.specs.Keys.{plain, first_key}
-use Rattle.sqlite_value.specs.Order.{Row, column, value_cmp}
-use Rattle.sqlite_value.proofs.OrderLemmas.{value_cmp_total}
-use Rattle.sqlite_trees.specs.Tree.{rowid, put_row}
-use Rattle.sqlite_trees.specs.View.{is_int}
-use Rattle.sqlite_schema.specs.Rules.{agree, guards}
-use Rattle.sqlite_schema.specs.declared.schema.Constraint.TheVariants.{Unique}
-use Rattle.sqlite_keyed.proofs.RuleLemmas.{first_of_both, second_of_both}
-use Rattle.sqlite_rules.specs.Lists.{Has}
-use Rattle.sqlite_rules.specs.Cast.{cast, cast_row}
-use Rattle.sqlite_rules.specs.Edit.{is_taken, left_by, next_rowid}
-use Rattle.sqlite_rules.proofs.ListLemmas.{all_has, some_from}
-use Rattle.sqlite_rules.proofs.TableLemmas.{has_put, put_all_adds}
+use Rattle.room_tables.proofs.Common.{◌≡◌, ◌∙◌, ◌+◌, ℕ, ℤ, pos, Bool, true, false, ◌&&◌, List, [], ◌∷◌, drop, Option}
+use Rattle.room_tables.proofs.Common.{Ok, Equal, inl, inr, refl, sym, ap, ap₂, subst, true≢false, is_eq, not-true}
+use Rattle.room_tables.proofs.Common.{and_from, tied_itself, Value, Null, Int, Text, Blob, plain, first_key, Row}
+use Rattle.room_tables.proofs.Common.{column, value_cmp, value_cmp_total, rowid, put_row, is_int, agree, guards, Unique}
+use Rattle.room_tables.proofs.Common.{first_of_both, second_of_both, Has, cast, cast_row, is_taken, left_by, next_rowid}
+use Rattle.room_tables.proofs.Common.{all_has, some_from, has_put, put_all_adds, automatic, Database, IsDatabase, State}
+use Rattle.room_tables.proofs.Common.{Executes, Layout, Fresh, Upgraded, room_schema, slots_table, slots_tree}
+use Rattle.room_tables.proofs.Common.{slots_place, has, has_text, is_slot, IsKeyed, reply_value}
 use Rattle.sqlite.specs.Kind.TheVariants as kind
-use Rattle.sqlite_catalog.specs.Listing.{automatic}
 use Rattle.sqlite_schema.specs.declared.schema.Index.{Index}
-use Rattle.sqlite.specs.Effect.{Database, IsDatabase}
-use Rattle.sqlite.specs.State.{State, Executes}
 use Rattle.room_records.specs.declared.session.SlotRow.{SlotRow}
-use Rattle.room_tables.specs.Tables.{Layout, Fresh, Upgraded, room_schema, slots_table, slots_tree, slots_place}
 use Rattle.room_tables.proofs.Texts.{change_slot_text, change_slot_query, add_slot_text, add_slot_terms}
-use Rattle.room_tables.specs.Rows.{has, has_text, is_slot}
-use Rattle.room_tables.specs.Layout.{IsKeyed, reply_value}
 use Rattle.room_tables.proofs.Each.{rows_pass, once_by, slots_placed, slots_seen}
 use Rattle.room_tables.proofs.Meaning.{change_slot_means, add_slot_means}
 use Rattle.room_tables.proofs.Values.{has_is, has_value, has_equal, has_text_value, text_has, cast_tied}

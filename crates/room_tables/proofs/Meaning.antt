@@ -1,19 +1,11 @@
 -- What statements mean under the schema of a room, by running the resolver on their texts: those whose command a
 -- proof names, or that goes by the layout. Of the others `refl` finds it where they are used. What is said of the first
 -- five tables needs no layout, but for the upsert, which counts the tables.
-use Rattle.std.proofs.Common.{◌≡◌, List, ℕ, [], ◌∷◌, true, false, codes, refl}
-use Rattle.sqlite_tied.specs.Compute.{everything}
-use Rattle.sqlite_sql.specs.Query.{Query}
-use Rattle.sqlite.specs.Source.TheVariants.{Values, Query as From}
-use Rattle.sqlite.specs.Command.{Command}
-use Rattle.sqlite.specs.Command.TheVariants.{InsertOr, Insert, Select, Update, Delete}
+use Rattle.room_tables.proofs.Common.{◌≡◌, List, ℕ, [], ◌∷◌, true, false, codes, refl, everything, Query, Values, From}
+use Rattle.room_tables.proofs.Common.{Command, InsertOr, Insert, Select, Update, Delete, understood, reads_listing}
+use Rattle.room_tables.proofs.Common.{IsPlain, command_of, Schema, same_name, Layout, Fresh, Upgraded, room_schema}
+use Rattle.room_tables.proofs.Common.{first_schema, slots_tree, slots_place, has_room, has_first_room}
 use Rattle.sqlite_schema.specs.declared.command.Conflict.TheVariants.{Abort}
-use Rattle.sqlite.specs.Listing.{understood, reads_listing}
-use Rattle.sqlite.proofs.Callers.{IsPlain, command_of}
-use Rattle.sqlite.specs.Schema.{Schema}
-use Rattle.sqlite_schema.specs.Names.{same_name}
-use Rattle.room_tables.specs.Tables.{Layout, Fresh, Upgraded, room_schema, first_schema, slots_tree}
-use Rattle.room_tables.specs.Tables.{slots_place, has_room, has_first_room}
 use Rattle.room_tables.proofs.Texts as T
 
 -- under the schema the text is this command, and nothing else

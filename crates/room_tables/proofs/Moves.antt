@@ -1,26 +1,13 @@
 -- A room of version 1 becomes one of version 2 that has the same records.
-use Rattle.std.proofs.Common.{◌≡◌, ◌≢◌, ℕ, ℤ, List, [], ◌∷◌, ◌++◌, Option, option_map, Ok, refl, sym, ap, ap₂, subst}
-use Rattle.std.proofs.Common.{◌∙◌, IsPermutation}
-use Rattle.std.proofs.lemmas.List.{append-nil}
-use Rattle.std.proofs.lemmas.List.Sorted.{IsPermutation-refl}
-use Rattle.std.specs.List.{AllByRecursion}
-use Rattle.sqlite_value.specs.declared.value.Value.TheVariants.{Int}
-use Rattle.sqlite_value.specs.Order.{Row}
-use Rattle.sqlite_trees.specs.Tree.{Trees}
-use Rattle.sqlite.specs.Table.{Table}
-use Rattle.sqlite.specs.Effect.{Database, IsDatabase}
-use Rattle.sqlite.specs.Schema.{Schema}
-use Rattle.sqlite.specs.State.{State, ExecutesInside}
+use Rattle.room_tables.proofs.Common.{◌≡◌, ◌≢◌, ℕ, ℤ, List, [], ◌∷◌, ◌++◌, Option, option_map, Ok, refl, sym, ap, ap₂}
+use Rattle.room_tables.proofs.Common.{subst, ◌∙◌, IsPermutation, append-nil, IsPermutation-refl, AllByRecursion, Int}
+use Rattle.room_tables.proofs.Common.{Row, Trees, Table, Database, IsDatabase, Schema, State, ExecutesInside, PutNext}
+use Rattle.room_tables.proofs.Common.{apply_change, Records, Upgraded, room_schema, first_schema, slots_table}
+use Rattle.room_tables.proofs.Common.{kept_text, only, kept_of, records_of, version_rows, IsVersion, IsKeyed}
+use Rattle.room_tables.proofs.Common.{HasNumbers, IsRoomOfVersion1, IsRoomOfVersion2, Steps}
 use Rattle.room_slots.specs.KeptModel.{KeptModel}
-use Rattle.room_records.specs.declared.change.Change.TheVariants.{PutNext}
-use Rattle.room_records.specs.Changes.{apply_change}
-use Rattle.room_records.specs.Records.{Records}
-use Rattle.room_tables.specs.Tables.{Upgraded, room_schema, first_schema, slots_table, kept_text}
 use Rattle.room_tables.proofs.Each.{in_turn}
 use Rattle.room_tables.proofs.Texts.{copy_row_text, take_row_text}
-use Rattle.room_tables.specs.Rows.{only, kept_of, records_of, version_rows, IsVersion}
-use Rattle.room_tables.specs.Layout.{IsKeyed, HasNumbers, IsRoomOfVersion1, IsRoomOfVersion2}
-use Rattle.room_tables.specs.Steps.{Steps}
 use Rattle.room_tables.specs.Upgrade.{shows, others_than, LeavesFewer, IsWidened, IsShared, IsMoving, IsMovedOut}
 use Rattle.room_tables.specs.Upgrade.{CopiesRow, IsMoved, IsUpgraded}
 use Rattle.room_tables.proofs.Making.{kept_beside}

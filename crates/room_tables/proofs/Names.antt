@@ -1,20 +1,12 @@
 -- The names and kinds of a folder's nodes, as the rows show them.
-use Rattle.std.proofs.Common.{◌≡◌, ℕ, pos, List, [], ◌∷◌, map, refl, sym, ap, ◌∙◌, option_map}
-use Rattle.std.specs.List.{filter_map, cons_option}
-use Rattle.std.proofs.lemmas.List.Sorted.{IsPermutation-map}
-use Rattle.sqlite_value.specs.declared.value.Value.TheVariants.{Int}
-use Rattle.sqlite_value.specs.Order.{Row, column}
-use Rattle.sqlite_keyed.proofs.ListLemmas.{ascending-map, map-map}
-use Rattle.sqlite.specs.State.{State, Shown}
-use Rattle.sqlite.specs.Effect.{Database}
+use Rattle.room_tables.proofs.Common.{◌≡◌, ℕ, pos, List, [], ◌∷◌, map, refl, sym, ap, ◌∙◌, option_map, filter_map}
+use Rattle.room_tables.proofs.Common.{cons_option, IsPermutation-map, Int, Row, column, ascending-map, map-map, State}
+use Rattle.room_tables.proofs.Common.{Shown, Database, room_schema, IsRoomDatabase, has, shown_node, name_and_kind}
+use Rattle.room_tables.proofs.Common.{listed_of, node_of, records_of, only, seq_stored, one_column, kept_of, shown_slot}
+use Rattle.room_tables.proofs.Common.{ByName, AreNameRows}
 use Rattle.room_slots.specs.Slots.{kept_seq}
 use Rattle.room_records.specs.Shelf.{AreNames, listed}
-use Rattle.room_tables.specs.Tables.{room_schema}
-use Rattle.room_tables.specs.Layout.{IsRoomDatabase}
 use Rattle.room_tables.proofs.Texts.{list_names_text, list_names_query}
-use Rattle.room_tables.specs.Rows.{has, shown_node, name_and_kind, listed_of, node_of, records_of, only, seq_stored}
-use Rattle.room_tables.specs.Rows.{one_column, kept_of, shown_slot}
-use Rattle.room_tables.specs.Names.{ByName, AreNameRows}
 use Rattle.room_tables.proofs.Children.{are_children}
 use Rattle.room_tables.proofs.Meaning.{list_names_means}
 use Rattle.room_tables.proofs.Queries.{and_true, picked, arranged}

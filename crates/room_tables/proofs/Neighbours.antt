@@ -1,51 +1,20 @@
 -- Neighbouring entries that are written over where they stand, by one statement.
-use Rattle.std.proofs.Common.{◌≡◌, ◌≤◌, ◌<◌, ◌+◌, ℕ, suc, pos, Bool, true, false, not, ◌&&◌, cond, List, []}
-use Rattle.std.proofs.Common.{◌∷◌, ◌++◌, length, map, filter, drop, take, Ok, Greater, inl, inr, is_eq}
-use Rattle.std.proofs.Common.{int_cmp, codes, refl, sym, subst₂}
-use Rattle.std.proofs.Common.{ap, ap₂, subst, ◌∙◌, arith, IsPermutation}
-use Rattle.std.specs.List.{AllByRecursion, list_all}
-use Rattle.std.specs.Ordering.{is_le}
-use Rattle.std.proofs.lemmas.Int.{ints}
-use Rattle.std.proofs.lemmas.Bool.{cases_Bool, not-true}
-use Rattle.std.proofs.lemmas.Bool.Decides.{nat_tests}
-use Rattle.std.proofs.lemmas.List.{append_assoc, append-nil, map-append, length-take-le, take-append-drop}
+use Rattle.room_tables.proofs.Common.{◌≡◌, ◌≤◌, ◌<◌, ◌+◌, ℕ, suc, pos, Bool, true, false, not, ◌&&◌, cond, List, []}
+use Rattle.room_tables.proofs.Common.{◌∷◌, ◌++◌, length, map, filter, drop, take, Ok, Greater, inl, inr, is_eq, int_cmp}
+use Rattle.room_tables.proofs.Common.{codes, refl, sym, subst₂, ap, ap₂, subst, ◌∙◌, arith, IsPermutation}
+use Rattle.room_tables.proofs.Common.{AllByRecursion, list_all, is_le, ints, cases_Bool, not-true, nat_tests}
+use Rattle.room_tables.proofs.Common.{append_assoc, append-nil, map-append, length-take-le, take-append-drop}
+use Rattle.room_tables.proofs.Common.{IsPermutation-map, IsPermutation-trans, IsPermutation-refl, IsPermutation-sym}
+use Rattle.room_tables.proofs.Common.{IsPermutation-middle, IsPermutation-append, IsPermutation-append_comm, Value, Int}
+use Rattle.room_tables.proofs.Common.{Text, Binary, Row, column, value_cmp-Int, rowid, put_row, is_int, all-permutation}
+use Rattle.room_tables.proofs.Common.{Term, col, op2, case, Query, binary, is_true, Compare, Ge, Le, everything}
+use Rattle.room_tables.proofs.Common.{IsPermutation-filter, filter_all, filter_none, all-append, map-map, all-filter}
+use Rattle.room_tables.proofs.Common.{all_from_test, first_of_both, second_of_both, ids_of, cast, cast_row, are_fresh}
+use Rattle.room_tables.proofs.Common.{put_all, without_all, numbered, all_has, all_from, int_is, Integer, TextKind}
+use Rattle.room_tables.proofs.Common.{Given, understood, Update, Database, State, ExecutesInside, EntryModel, who_text}
+use Rattle.room_tables.proofs.Common.{Layout, entry_table, room_schema, has, shown_entry, entries_shown, IsKeyed}
+use Rattle.room_tables.proofs.Common.{type_of, IsReadBack, shown_as, placed, Lists}
 use Rattle.std.proofs.lemmas.List.Elements.{filter-append}
-use Rattle.std.proofs.lemmas.List.Sorted.{IsPermutation-map, IsPermutation-trans, IsPermutation-refl}
-use Rattle.std.proofs.lemmas.List.Sorted.{IsPermutation-sym, IsPermutation-middle, IsPermutation-append}
-use Rattle.std.proofs.lemmas.List.Sorted.{IsPermutation-append_comm}
-use Rattle.sqlite_value.specs.declared.value.Value.{Value}
-use Rattle.sqlite_value.specs.declared.value.Value.TheVariants.{Int, Text}
-use Rattle.sqlite_value.specs.declared.keys.Collation.TheVariants.{Binary}
-use Rattle.sqlite_value.specs.Order.{Row, column}
-use Rattle.sqlite_value.proofs.OrderLemmas.{value_cmp-Int}
-use Rattle.sqlite_trees.specs.Tree.{rowid, put_row}
-use Rattle.sqlite_trees.specs.View.{is_int}
-use Rattle.sqlite_trees.proofs.ListLemmas.{all-permutation}
-use Rattle.sqlite_sql.specs.Term.{Term, col, op2, case}
-use Rattle.sqlite_sql.specs.Query.{Query}
-use Rattle.sqlite_sql.specs.Ops.{binary, is_true}
-use Rattle.sqlite_sql.specs.declared.ops.BinaryOp.TheVariants.{Compare}
-use Rattle.sqlite_sql.specs.declared.ops.CompareOp.TheVariants.{Ge, Le}
-use Rattle.sqlite_tied.specs.Compute.{everything}
-use Rattle.sqlite_keyed.proofs.ListLemmas.{IsPermutation-filter, filter_all, filter_none, all-append, map-map}
-use Rattle.sqlite_keyed.proofs.ListLemmas.{all-filter, all_from_test}
-use Rattle.sqlite_keyed.proofs.RuleLemmas.{first_of_both, second_of_both}
-use Rattle.sqlite_rules.specs.Calls.{ids_of}
-use Rattle.sqlite_rules.specs.Cast.{cast, cast_row}
-use Rattle.sqlite_rules.specs.Edit.{are_fresh, put_all, without_all, numbered}
-use Rattle.sqlite_rules.proofs.ListLemmas.{all_has, all_from}
-use Rattle.sqlite_rules.proofs.TableLemmas.{int_is}
-use Rattle.sqlite.specs.Kind.TheVariants.{Integer, Text as TextKind}
-use Rattle.sqlite.specs.Rowids.TheVariants.{Given}
-use Rattle.sqlite.specs.Listing.{understood}
-use Rattle.sqlite.specs.Command.TheVariants.{Update}
-use Rattle.sqlite.specs.Effect.{Database}
-use Rattle.sqlite.specs.State.{State, ExecutesInside}
-use Rattle.room_acl.specs.Entries.{EntryModel, who_text}
-use Rattle.room_tables.specs.Tables.{Layout, entry_table, room_schema}
-use Rattle.room_tables.specs.Rows.{has, shown_entry, entries_shown}
-use Rattle.room_tables.specs.Layout.{IsKeyed}
-use Rattle.room_tables.specs.Steps.{type_of, IsReadBack, shown_as, placed, Lists}
 use Rattle.room_tables.proofs.Texts.{equals, over_table}
 use Rattle.room_tables.proofs.Meaning.{Means}
 use Rattle.room_tables.proofs.Queries.{and_true}

@@ -1,19 +1,11 @@
 -- A query whose rows are read one at a time: each call finds the connection as the first one did.
-use Rattle.std.proofs.Common.{◌≡◌, ℕ, true, List, [], None, Result, Ok, Err, inl, inr, sym, subst}
-use Rattle.sqlite_value.specs.Order.{Row}
-use Rattle.sqlite_trees.specs.Tree.{Trees}
+use Rattle.room_tables.proofs.Common.{◌≡◌, ℕ, true, List, [], None, Result, Ok, Err, inl, inr, sym, subst, Row, Trees}
+use Rattle.room_tables.proofs.Common.{first, Compiled, CompileError, timed, Database, RefusesToRead, understood}
+use Rattle.room_tables.proofs.Common.{reads_listing, IsSourceOf, State, Survives, FailsToQuery, FailsToShow}
+use Rattle.room_tables.proofs.Common.{IsStatement, IsNotRun, IsUnchanged, Error, unchanged_then}
 use Rattle.sqlite_trees.specs.declared.store.Store.{Ghosts}
-use Rattle.sqlite_resolve.specs.Compile.{first}
-use Rattle.sqlite_resolve.specs.declared.compiled.Compiled.{Compiled}
-use Rattle.sqlite_resolve.specs.declared.error.CompileError.{CompileError}
-use Rattle.sqlite.specs.Clock.{timed}
-use Rattle.sqlite.specs.Effect.{Database, RefusesToRead}
-use Rattle.sqlite.specs.Listing.{understood, reads_listing, IsSourceOf}
-use Rattle.sqlite.specs.State.{State, Survives, FailsToQuery, FailsToShow, IsStatement, IsNotRun, IsUnchanged}
-use Rattle.sqlite.specs.declared.error.Error.{Error}
 use Rattle.sqlite.specs.Held.{Held, state}
 use Rattle.sqlite.specs.Given.{HasGiven, HasBegun, Returns}
-use Rattle.sqlite.proofs.Callers.{unchanged_then}
 use Rattle.sqlite.proofs.StreamLemmas.{fails_since}
 use Rattle.room_tables.proofs.Queries.{is_query_text, unreturned, IsUnreturned}
 

@@ -1,20 +1,11 @@
 -- Tables of ours behind others.
-use Rattle.std.proofs.Common.{◌≡◌, ◌≢◌, ◌+◌, ◌&&◌, ◌||◌, not, ℕ, zero, suc, Bool, true, false, cond, is_some}
-use Rattle.std.proofs.Common.{List, [], ◌∷◌, ◌++◌, slice_get, Option, None, Some, inl, inr, refl, sym, ap, subst, ◌∙◌}
-use Rattle.std.proofs.Common.{true≢false, option_and_then, eq-eqb, codes, arith}
-use Rattle.std.proofs.lemmas.Bool.{cases_Bool, ne_eqb}
+use Rattle.room_tables.proofs.Common.{◌≡◌, ◌≢◌, ◌+◌, ◌&&◌, ◌||◌, not, ℕ, zero, suc, Bool, true, false, cond, is_some}
+use Rattle.room_tables.proofs.Common.{List, [], ◌∷◌, ◌++◌, slice_get, Option, None, Some, inl, inr, refl, sym, ap}
+use Rattle.room_tables.proofs.Common.{subst, ◌∙◌, true≢false, option_and_then, eq-eqb, codes, arith, cases_Bool, ne_eqb}
+use Rattle.room_tables.proofs.Common.{AllByRecursion, position_from, list_any, find, Has, all_has, same_name, Trees}
+use Rattle.room_tables.proofs.Common.{Row, Database, sequence, Schema, Table, IsApart, IsBeside, HasItsSequence}
+use Rattle.room_tables.proofs.Common.{AreOurs, with_rows}
 use Rattle.std.proofs.lemmas.List.Folds.{find-append}
-use Rattle.std.specs.List.{AllByRecursion, position_from, list_any, find}
-use Rattle.sqlite_rules.specs.Lists.{Has}
-use Rattle.sqlite_rules.proofs.ListLemmas.{all_has}
-use Rattle.sqlite_schema.specs.Names.{same_name}
-use Rattle.sqlite_trees.specs.Tree.{Trees}
-use Rattle.sqlite_value.specs.Order.{Row}
-use Rattle.sqlite.specs.Effect.{Database}
-use Rattle.sqlite.specs.Rows.{sequence}
-use Rattle.sqlite.specs.Schema.{Schema}
-use Rattle.sqlite.specs.Table.{Table}
-use Rattle.room_tables.specs.Beside.{IsApart, IsBeside, HasItsSequence, AreOurs, with_rows}
 
 -- ---- lists
 

@@ -1,34 +1,17 @@
 -- Entries in their order, and entries that are put in one after another.
-use Rattle.std.proofs.Common.{◌≡◌, ◌≢◌, ℕ, suc, ℤ, ◌+◌, ◌<◌, pos, not, Bool, List, [], ◌∷◌, ◌++◌, length, map}
-use Rattle.std.proofs.Common.{filter, Ok, refl, sym, ap, ap₂, subst, ◌∙◌, arith, true, false, ◌==◌, Less}
-use Rattle.std.proofs.Common.{cond, inl, inr, eq-eqb, int_cmp, IsPermutation, Equal}
-use Rattle.std.specs.List.{AllByRecursion}
-use Rattle.std.proofs.lemmas.Int.{ints}
-use Rattle.std.proofs.lemmas.List.{append-nil, append_assoc, length-append}
-use Rattle.std.proofs.lemmas.Bool.{cases_eq, ne_eqb}
-use Rattle.std.proofs.lemmas.Bool.Decides.{nat_tests}
-use Rattle.std.proofs.lemmas.Map.Lookups.{exact_signed, exact_bytes}
-use Rattle.std.proofs.lemmas.List.Sorted.{IsPermutation-map, IsPermutation-trans, IsPermutation-cons}
-use Rattle.std.proofs.lemmas.List.Sorted.{IsPermutation-sym, IsPermutation-to_front}
-use Rattle.sqlite_value.specs.declared.value.Value.TheVariants.{Int, Text}
-use Rattle.sqlite_value.specs.Order.{Row, value_cmp}
-use Rattle.sqlite_value.proofs.OrderLemmas.{value_cmp-Int, value_cmp-Text}
-use Rattle.sqlite_trees.specs.Tree.{IsAscending, put_row}
-use Rattle.sqlite_sql.specs.Query.{key_cmp}
-use Rattle.sqlite_sql.proofs.QueryLemmas.{key_cmp_total}
-use Rattle.sqlite_keyed.specs.Lists.{sort_by}
-use Rattle.sqlite_keyed.proofs.ListLemmas.{IsPermutation-filter, all-append}
-use Rattle.sqlite_keyed.proofs.SortLemmas.{IsPermutation-sort_by}
-use Rattle.sqlite_rules.specs.Edit.{is_taken}
-use Rattle.sqlite.specs.Effect.{Database, IsDatabase}
-use Rattle.sqlite.specs.State.{State, ExecutesInside}
-use Rattle.room_acl.specs.Entries.{EntryModel, who_text}
-use Rattle.room_tables.specs.Tables.{Layout, room_schema}
+use Rattle.room_tables.proofs.Common.{◌≡◌, ◌≢◌, ℕ, suc, ℤ, ◌+◌, ◌<◌, pos, not, Bool, List, [], ◌∷◌, ◌++◌, length, map}
+use Rattle.room_tables.proofs.Common.{filter, Ok, refl, sym, ap, ap₂, subst, ◌∙◌, arith, true, false, ◌==◌, Less, cond}
+use Rattle.room_tables.proofs.Common.{inl, inr, eq-eqb, int_cmp, IsPermutation, Equal, AllByRecursion, ints, append-nil}
+use Rattle.room_tables.proofs.Common.{append_assoc, length-append, cases_eq, ne_eqb, nat_tests, exact_signed}
+use Rattle.room_tables.proofs.Common.{exact_bytes, IsPermutation-map, IsPermutation-trans, IsPermutation-cons}
+use Rattle.room_tables.proofs.Common.{IsPermutation-sym, IsPermutation-to_front, Int, Text, Row, value_cmp}
+use Rattle.room_tables.proofs.Common.{value_cmp-Int, value_cmp-Text, IsAscending, put_row, key_cmp, key_cmp_total}
+use Rattle.room_tables.proofs.Common.{sort_by, IsPermutation-filter, all-append, IsPermutation-sort_by, is_taken}
+use Rattle.room_tables.proofs.Common.{Database, IsDatabase, State, ExecutesInside, EntryModel, who_text, Layout}
+use Rattle.room_tables.proofs.Common.{room_schema, has, shown_entry, entry_of, entry_keys, entries_shown, nodes_in}
+use Rattle.room_tables.proofs.Common.{documents_in, next_in, sessions_in, slots_in, records_of, versions_in, entry_rows}
+use Rattle.room_tables.proofs.Common.{IsEntryRow, IsKeyed, IsRoomDatabase, type_of, IsReadBack, shown_as, placed, Lists}
 use Rattle.room_tables.proofs.Texts.{drop_entries_text}
-use Rattle.room_tables.specs.Rows.{has, shown_entry, entry_of, entry_keys, entries_shown, nodes_in, documents_in}
-use Rattle.room_tables.specs.Rows.{next_in, sessions_in, slots_in, records_of, versions_in, entry_rows, IsEntryRow}
-use Rattle.room_tables.specs.Layout.{IsKeyed, IsRoomDatabase}
-use Rattle.room_tables.specs.Steps.{type_of, IsReadBack, shown_as, placed, Lists}
 use Rattle.room_tables.proofs.Sorted.{AtMost, ascending-sort_by, same_ascending}
 use Rattle.room_tables.proofs.Queries.{first_tie}
 use Rattle.room_tables.proofs.Values.{int_has}

@@ -1,32 +1,13 @@
 -- What puts a row: an upsert of a session, and an UPDATE and an INSERT of a row of node, doc and room.
-use Rattle.std.proofs.Common.{◌≡◌, ◌==◌, ℕ, ℤ, pos, true, false, List, [], ◌∷◌, length, drop, Option, None}
-use Rattle.std.proofs.Common.{Some, Ok, refl, sym, ap, ap₂, subst, arith, ◌∙◌}
-use Rattle.std.proofs.lemmas.Bool.Decides.{nat_tests}
-use Rattle.sqlite_value.specs.declared.value.Value.TheVariants.{Null, Int, Text, Blob}
-use Rattle.sqlite_value.specs.Order.{Row, column}
-use Rattle.sqlite_value.specs.Keys.{first_key}
-use Rattle.sqlite_trees.specs.Tree.{Trees, rowid}
-use Rattle.std.specs.List.{list_all}
-use Rattle.sqlite_sql.specs.Term.{Term, eval_all, holds}
-use Rattle.sqlite_sql.specs.Program.{overlay}
-use Rattle.sqlite_tied.specs.Compute.{everything}
-use Rattle.sqlite.specs.Listing.{understood}
-use Rattle.sqlite.specs.Table.{Table}
-use Rattle.sqlite_rules.specs.Action.{works, pairs}
-use Rattle.sqlite_rules.specs.Edit.{next_rowid, numbered}
-use Rattle.sqlite.specs.Rowids.TheVariants.{Chosen}
-use Rattle.sqlite_trees.specs.View.{is_int}
+use Rattle.room_tables.proofs.Common.{◌≡◌, ◌==◌, ℕ, ℤ, pos, true, false, List, [], ◌∷◌, length, drop, Option, None}
+use Rattle.room_tables.proofs.Common.{Some, Ok, refl, sym, ap, ap₂, subst, arith, ◌∙◌, nat_tests, Null, Int, Text, Blob}
+use Rattle.room_tables.proofs.Common.{Row, column, first_key, Trees, rowid, list_all, Term, eval_all, holds, overlay}
+use Rattle.room_tables.proofs.Common.{everything, understood, Table, works, pairs, next_rowid, numbered, Chosen, is_int}
+use Rattle.room_tables.proofs.Common.{cast, cast_row, Enforced, Integer, Database, State, Executes, Layout, Fresh}
+use Rattle.room_tables.proofs.Common.{Upgraded, room_schema, room_table, node_table, doc_table, session_table, has}
+use Rattle.room_tables.proofs.Common.{has_text, IsKeyed, parent_value}
 use Rattle.sqlite_rules.specs.Keys.{conflicts}
-use Rattle.sqlite_rules.specs.Cast.{cast, cast_row}
-use Rattle.sqlite_schema.specs.declared.schema.Keys.TheVariants.{Enforced}
-use Rattle.sqlite.specs.Kind.TheVariants.{Integer}
-use Rattle.sqlite.specs.Effect.{Database}
-use Rattle.sqlite.specs.State.{State, Executes}
 use Rattle.room_tables.proofs.Texts as T
-use Rattle.room_tables.specs.Tables.{Layout, Fresh, Upgraded, room_schema, room_table, node_table, doc_table}
-use Rattle.room_tables.specs.Tables.{session_table}
-use Rattle.room_tables.specs.Rows.{has, has_text}
-use Rattle.room_tables.specs.Layout.{IsKeyed, parent_value}
 use Rattle.room_tables.proofs.Meaning.{change_next_means, put_session_means}
 use Rattle.room_tables.proofs.Queries.{and_true, tidy}
 use Rattle.room_tables.proofs.Takes.{set_off, quiet}

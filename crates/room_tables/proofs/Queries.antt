@@ -1,50 +1,29 @@
 -- What a query over one table answers, and that it changes nothing.
-use Rattle.std.proofs.Common.{◌≡◌, ℕ, ◌+◌, ◌<◌, arith, length, is_gt, Bool, true, false, ◌&&◌, ◌||◌, cond, List, []}
-use Rattle.std.proofs.Common.{◌∷◌}
-use Rattle.std.proofs.Common.{◌++◌, map, filter, flat_map, Option, None, Some, Ok, Err, Result, IfOk, IfErr, OnOk, ◌⊎◌}
-use Rattle.std.proofs.Common.{inl, inr, refl, Ordering, Equal, sym, ap, subst, ◌∙◌}
-use Rattle.std.proofs.Common.{IsPermutation, IsSorted, negsuc}
-use Rattle.std.specs.List.{list_all, swap, AllByRecursion}
+use Rattle.room_tables.proofs.Common.{◌≡◌, ℕ, ◌+◌, ◌<◌, arith, length, is_gt, Bool, true, false, ◌&&◌, ◌||◌, cond, List}
+use Rattle.room_tables.proofs.Common.{[], ◌∷◌, ◌++◌, map, filter, flat_map, Option, None, Some, Ok, Err, Result, IfOk}
+use Rattle.room_tables.proofs.Common.{IfErr, OnOk, ◌⊎◌, inl, inr, refl, Ordering, Equal, sym, ap, subst, ◌∙◌}
+use Rattle.room_tables.proofs.Common.{IsPermutation, IsSorted, negsuc, list_all, swap, AllByRecursion, length-map}
+use Rattle.room_tables.proofs.Common.{map-set, common_steps, IsPermutation-refl, IsPermutation-trans}
+use Rattle.room_tables.proofs.Common.{IsPermutation-swap, IsPermutation-keeps, IsPermutation-map, length_permutation}
+use Rattle.room_tables.proofs.Common.{Null, Int, Key, Row, Trees, IsAscending, Term, lit, holds, eval_all, Query}
+use Rattle.room_tables.proofs.Common.{IsAnswer, Output, output, output_cmp, key_cmp, overlay, map-map, map_same}
+use Rattle.room_tables.proofs.Common.{filter_same, ascending-map, ascending_from_map, sort_by, ordering_then}
+use Rattle.room_tables.proofs.Common.{key_cmp_total, output_cmp_total, State, Shown, ShowsRows, Survives}
+use Rattle.room_tables.proofs.Common.{CommitsShowing, IsUnchanged, IsRolledBack, FailsToQuery, FailsToShow, IsNotRun}
+use Rattle.room_tables.proofs.Common.{Error, timed, understood, reads_listing, if_select, listing_schema, reads_as}
+use Rattle.room_tables.proofs.Common.{one_permutation, Compiled, CompileError, NoSuchTable, compiled, first, command}
+use Rattle.room_tables.proofs.Common.{returning, meaning, planned, with_command, small, timed_formats, and_then}
+use Rattle.room_tables.proofs.Common.{Statement, only}
 use Rattle.std.proofs.Math.ListN.{set, get_or, get_or-map}
-use Rattle.std.proofs.lemmas.List.{length-map, map-set}
-use Rattle.std.proofs.lemmas.Grind.{common_steps}
-use Rattle.std.proofs.lemmas.List.Sorted.{IsPermutation-refl, IsPermutation-trans, IsPermutation-swap}
-use Rattle.std.proofs.lemmas.List.Sorted.{IsPermutation-keeps}
-use Rattle.std.proofs.lemmas.List.Sorted.{IsPermutation-map, length_permutation}
-use Rattle.sqlite_value.specs.declared.value.Value.TheVariants.{Null, Int}
-use Rattle.sqlite_value.specs.declared.keys.Key.{Key}
 use Rattle.sqlite_value.specs.declared.keys.Collation.{Collation}
-use Rattle.sqlite_value.specs.Order.{Row}
-use Rattle.sqlite_trees.specs.Tree.{Trees, IsAscending}
-use Rattle.sqlite_sql.specs.Term.{Term, lit, holds, eval_all}
-use Rattle.sqlite_sql.specs.Query.{Query, IsAnswer, Output, output, output_cmp, key_cmp}
-use Rattle.sqlite_sql.specs.Program.{overlay}
-use Rattle.sqlite_keyed.proofs.ListLemmas.{map-map, map_same, filter_same, ascending-map, ascending_from_map}
-use Rattle.sqlite_keyed.specs.Lists.{sort_by}
-use Rattle.std.specs.Ordering.{ordering_then}
-use Rattle.sqlite_sql.proofs.QueryLemmas.{key_cmp_total, output_cmp_total}
-use Rattle.sqlite.specs.State.{State, Shown, ShowsRows, Survives, CommitsShowing, IsUnchanged, IsRolledBack}
-use Rattle.sqlite.specs.State.{FailsToQuery, FailsToShow, IsNotRun}
-use Rattle.sqlite.specs.declared.error.Error.{Error}
 use Rattle.sqlite_schema.specs.declared.command.Returning.{Returning}
-use Rattle.sqlite.specs.Clock.{timed}
-use Rattle.sqlite.specs.Listing.{understood, reads_listing, if_select, listing_schema}
 use Rattle.sqlite.proofs.StateLemmas.{survives_weaker, unchanged}
-use Rattle.sqlite.proofs.Callers.{reads_as, one_permutation}
-use Rattle.sqlite_resolve.specs.declared.compiled.Compiled.{Compiled}
-use Rattle.sqlite_resolve.specs.declared.error.CompileError.{CompileError}
-use Rattle.sqlite_resolve.specs.declared.error.CompileError.TheVariants.{NoSuchTable}
-use Rattle.sqlite_resolve.specs.Compile.{compiled, first, command, returning, meaning, planned, with_command}
-use Rattle.sqlite_resolve.specs.Compile.{small, timed as timed_formats}
-use Rattle.sqlite_resolve.specs.Lowering.{and_then}
 use Rattle.sqlite_schema.specs.declared.command.Command.{Command}
 use Rattle.sqlite_syntax.specs.declared.statement.Parsed.{Parsed}
-use Rattle.sqlite_ast.specs.declared.Statement.{Statement}
 use Rattle.sqlite_ast.specs.declared.Statement.TheVariants as written
 use Rattle.sqlite.specs.Listing as listing
 use Rattle.sqlite_schema.specs.declared.schema.Schema.{Schema}
 use Rattle.room_tables.proofs.Texts.{over_table}
-use Rattle.room_tables.specs.Rows.{only}
 use Rattle.room_tables.proofs.Meaning.{IsQuery}
 use Rattle.room_tables.proofs.Sorted.{AtMost, ascending_from_sorted, sorted_answer}
 

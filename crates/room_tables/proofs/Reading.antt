@@ -1,38 +1,15 @@
 -- The rows of an object's entries that are read in order of place are the first of its entries.
-use Rattle.std.proofs.Common.{◌≡◌, ℕ, pos, Bool, true, false, not, ◌||◌, cond, List, [], ◌∷◌, ◌++◌, map, filter}
-use Rattle.std.proofs.Common.{inl, inr, refl, sym, ap, subst, subst₂, ◌∙◌, true≢false, IsPermutation}
-use Rattle.std.proofs.Common.{Equal, Less, Greater, Ordering, is_eq, Some}
-use Rattle.std.specs.Ordering.{ordering_then, is_gt}
-use Rattle.std.specs.List.{AllByRecursion}
-use Rattle.std.proofs.lemmas.Bool.{not-true}
-use Rattle.std.proofs.lemmas.Cmp.{tied_itself}
-use Rattle.std.proofs.lemmas.List.Sorted.{IsPermutation-map}
-use Rattle.sqlite_trees.specs.Tree.{IsAscending, rowid}
-use Rattle.sqlite_keyed.proofs.ListLemmas.{ascending-map}
-use Rattle.sqlite_keyed.proofs.RuleLemmas.{first_of_both, second_of_both}
-use Rattle.sqlite_value.specs.declared.value.Value.{Value}
-use Rattle.sqlite_value.specs.declared.value.Value.TheVariants.{Null, Int}
-use Rattle.sqlite_value.specs.declared.keys.Key.{Key}
-use Rattle.sqlite_value.specs.declared.keys.Collation.TheVariants.{Binary}
-use Rattle.sqlite_value.specs.Keys.{ascending, plain, first_key}
-use Rattle.sqlite_value.specs.Order.{Row, column, value_cmp}
-use Rattle.sqlite_sql.specs.Ops.{binary, is_null, is_true, from_truth}
-use Rattle.sqlite_sql.specs.Query.{key_cmp, IsAnswer}
-use Rattle.sqlite_sql.specs.Program.{overlay}
-use Rattle.sqlite_sql.proofs.QueryLemmas.{key_cmp_total}
-use Rattle.sqlite_schema.specs.Rules.{passes, agree, equal}
-use Rattle.sqlite_schema.specs.declared.schema.Constraint.TheVariants.{Unique, NotNull}
-use Rattle.sqlite_rules.specs.Lists.{Has}
-use Rattle.sqlite_rules.proofs.ListLemmas.{all_has, all_from, has_filtered}
-use Rattle.sqlite_rules.proofs.PlaceLemmas.{tied_same}
-use Rattle.sqlite_rules.proofs.ProbeLemmas.{has_mapped}
-use Rattle.sqlite.specs.State.{State, Shown, Begins}
-use Rattle.sqlite_catalog.specs.Listing.{automatic}
-use Rattle.sqlite.specs.Effect.{Database, IsDatabase}
-use Rattle.sqlite.proofs.Callers.{reads_as, begins_as}
-use Rattle.room_tables.specs.Tables.{Layout, room_schema, entry_table}
-use Rattle.room_tables.specs.Rows.{has, shown_entry, entry_keys, entry_rows}
-use Rattle.room_tables.specs.Layout.{IsKeyed, IsRoomDatabase}
+use Rattle.room_tables.proofs.Common.{◌≡◌, ℕ, pos, Bool, true, false, not, ◌||◌, cond, List, [], ◌∷◌, ◌++◌, map, filter}
+use Rattle.room_tables.proofs.Common.{inl, inr, refl, sym, ap, subst, subst₂, ◌∙◌, true≢false, IsPermutation, Equal}
+use Rattle.room_tables.proofs.Common.{Less, Greater, Ordering, is_eq, Some, ordering_then, AllByRecursion, not-true}
+use Rattle.room_tables.proofs.Common.{tied_itself, IsPermutation-map, IsAscending, rowid, ascending-map, first_of_both}
+use Rattle.room_tables.proofs.Common.{second_of_both, Value, Null, Int, Key, Binary, ascending, plain, first_key, Row}
+use Rattle.room_tables.proofs.Common.{column, value_cmp, binary, is_null, is_true, from_truth, key_cmp, IsAnswer}
+use Rattle.room_tables.proofs.Common.{overlay, key_cmp_total, passes, agree, equal, Unique, NotNull, Has, all_has}
+use Rattle.room_tables.proofs.Common.{all_from, has_filtered, tied_same, has_mapped, State, Shown, Begins, automatic}
+use Rattle.room_tables.proofs.Common.{Database, IsDatabase, reads_as, begins_as, Layout, room_schema, entry_table, has}
+use Rattle.room_tables.proofs.Common.{shown_entry, entry_keys, entry_rows, IsKeyed, IsRoomDatabase}
+use Rattle.std.specs.Ordering.{is_gt}
 use Rattle.room_tables.proofs.Texts.{read_entries_text, read_entries_query}
 use Rattle.room_tables.proofs.Meaning.{read_entries_means}
 use Rattle.room_tables.proofs.Queries.{and_true, answer_is, arranged, first_tie}

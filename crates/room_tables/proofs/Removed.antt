@@ -1,26 +1,13 @@
 -- What a DELETE by a test leaves of a table.
-use Rattle.std.proofs.Common.{◌≡◌, ℤ, Bool, true, not, ◌||◌, cond, List, [], ◌∷◌, map, filter, inl, inr, refl}
-use Rattle.std.proofs.Common.{sym, ap, subst, ◌∙◌, true≢false, Less, Equal, is_eq, IsPermutation}
-use Rattle.std.specs.List.{list_any}
-use Rattle.std.proofs.lemmas.Bool.{cases_Bool, false_from_ne_true}
-use Rattle.std.proofs.lemmas.Cmp.{tied_itself}
-use Rattle.sqlite_value.specs.declared.value.Value.TheVariants.{Int}
-use Rattle.sqlite_value.specs.Order.{Row, value_cmp}
-use Rattle.sqlite_value.proofs.OrderLemmas.{value_cmp_total}
-use Rattle.sqlite_trees.specs.Tree.{rowid, has_rowid, without_rowid, IsTable}
-use Rattle.sqlite_trees.specs.View.{is_int}
-use Rattle.sqlite_rules.specs.Lists.{Has}
-use Rattle.sqlite_rules.specs.Edit.{id_in, without_all}
-use Rattle.sqlite_rules.specs.Calls.{ids_of}
-use Rattle.sqlite_rules.proofs.ListLemmas.{all_has, all_from, some_has, some_from, has_filtered, has_kept}
-use Rattle.sqlite_rules.proofs.ProbeLemmas.{has_mapped, mapped_has}
-use Rattle.sqlite_rules.proofs.PlaceLemmas.{tied_same}
-use Rattle.sqlite_rules.proofs.TableLemmas.{int_is}
-use Rattle.std.proofs.lemmas.List.Sorted.{IsPermutation-sym}
-use Rattle.sqlite_keyed.proofs.ListLemmas.{ascending-filter, filter_all}
-use Rattle.sqlite_keyed.proofs.RuleLemmas.{each_true}
+use Rattle.room_tables.proofs.Common.{◌≡◌, ℤ, Bool, true, not, ◌||◌, cond, List, [], ◌∷◌, map, filter, inl, inr, refl}
+use Rattle.room_tables.proofs.Common.{sym, ap, subst, ◌∙◌, true≢false, Less, Equal, is_eq, IsPermutation, list_any}
+use Rattle.room_tables.proofs.Common.{cases_Bool, false_from_ne_true, tied_itself, Int, Row, value_cmp, value_cmp_total}
+use Rattle.room_tables.proofs.Common.{rowid, has_rowid, without_rowid, IsTable, is_int, Has, id_in, without_all, ids_of}
+use Rattle.room_tables.proofs.Common.{all_has, all_from, some_has, some_from, has_filtered, has_kept, has_mapped}
+use Rattle.room_tables.proofs.Common.{mapped_has, tied_same, int_is, IsPermutation-sym, ascending-filter, filter_all}
+use Rattle.room_tables.proofs.Common.{each_true, all-permutation}
 pub use Rattle.room_tables.specs.Layout.{IsKeyed}
-use Rattle.sqlite_trees.proofs.ListLemmas.{all-permutation, filter_same}
+use Rattle.sqlite_trees.proofs.ListLemmas.{filter_same}
 use Rattle.room_tables.proofs.Values.{eq_is}
 
 abbrev among : List ℤ → Row → Bool

@@ -1,7 +1,5 @@
 -- The queries' texts are SELECTs, whatever the schema.
-use Rattle.std.proofs.Common.{◌≡◌, true, refl}
-use Rattle.sqlite_tied.specs.Compute.{everything}
-use Rattle.sqlite_resolve.specs.Compile.{first}
+use Rattle.room_tables.proofs.Common.{◌≡◌, true, refl, everything, first}
 use Rattle.room_tables.specs.Versions.{find_version_text}
 use Rattle.room_tables.proofs.Texts as T
 use Rattle.room_tables.proofs.Queries.{is_query_text}

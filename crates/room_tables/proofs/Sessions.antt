@@ -1,27 +1,14 @@
 -- A session that is put: its name stands once, by the rule UNIQUE.
-use Rattle.std.proofs.Common.{◌≡◌, ℕ, ℤ, pos, Bool, true, false, ◌==◌, cond, List, [], ◌∷◌, map, filter, Some}
-use Rattle.std.proofs.Common.{option_map, Ok, inl, inr, refl, sym, ap, ◌∙◌, true≢false, arith, bytes_eq, Equal}
-use Rattle.std.proofs.lemmas.Bool.{cases_Bool, false_from_ne_true}
+use Rattle.room_tables.proofs.Common.{◌≡◌, ℕ, ℤ, pos, Bool, true, false, ◌==◌, cond, List, [], ◌∷◌, map, filter, Some}
+use Rattle.room_tables.proofs.Common.{option_map, Ok, inl, inr, refl, sym, ap, ◌∙◌, true≢false, arith, bytes_eq, Equal}
+use Rattle.room_tables.proofs.Common.{cases_Bool, false_from_ne_true, Int, Text, plain, first_key, Row, column}
+use Rattle.room_tables.proofs.Common.{value_cmp, rowid, agree, Unique, Has, all_has, automatic, Database, IsDatabase}
+use Rattle.room_tables.proofs.Common.{State, ExecutesInside, PutSession, apply_change, Layout, room_schema}
+use Rattle.room_tables.proofs.Common.{session_table, has_text, only, shown_session, session_stored, sessions_in}
+use Rattle.room_tables.proofs.Common.{IsKeyed, IsRoomDatabase, Steps, flag_of}
 use Rattle.std.proofs.lemmas.Slice.Eq.{bytes_eq-Decides}
-use Rattle.sqlite_value.specs.declared.value.Value.TheVariants.{Int, Text}
-use Rattle.sqlite_value.specs.Keys.{plain, first_key}
-use Rattle.sqlite_value.specs.Order.{Row, column, value_cmp}
-use Rattle.sqlite_trees.specs.Tree.{rowid}
-use Rattle.sqlite_schema.specs.Rules.{agree}
-use Rattle.sqlite_schema.specs.declared.schema.Constraint.TheVariants.{Unique}
-use Rattle.sqlite_rules.specs.Lists.{Has}
-use Rattle.sqlite_rules.proofs.ListLemmas.{all_has}
-use Rattle.sqlite_catalog.specs.Listing.{automatic}
-use Rattle.sqlite.specs.Effect.{Database, IsDatabase}
-use Rattle.sqlite.specs.State.{State, ExecutesInside}
 use Rattle.room_records.specs.declared.session.SessionRow.{SessionRow}
-use Rattle.room_records.specs.declared.change.Change.TheVariants.{PutSession}
-use Rattle.room_records.specs.Changes.{apply_change}
-use Rattle.room_tables.specs.Tables.{Layout, room_schema, session_table}
 use Rattle.room_tables.proofs.Texts.{put_session_text}
-use Rattle.room_tables.specs.Rows.{has_text, only, shown_session, session_stored, sessions_in}
-use Rattle.room_tables.specs.Layout.{IsKeyed, IsRoomDatabase}
-use Rattle.room_tables.specs.Steps.{Steps, flag_of}
 use Rattle.room_tables.proofs.Each.{rows_pass, once_by}
 use Rattle.room_tables.proofs.Values.{has_text_value, has_text_one, text_has}
 use Rattle.room_tables.proofs.Removed.{one_row}

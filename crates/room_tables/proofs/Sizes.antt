@@ -1,21 +1,11 @@
 -- How long a document is: a column of a STRICT table that is a BLOB holds one, or NULL.
-use Rattle.std.proofs.Common.{◌≡◌, ℕ, true, true≢false, List, [], ◌∷◌, length, filter, map, option_map, unwrap_or}
-use Rattle.std.proofs.Common.{refl, sym}
-use Rattle.std.specs.List.{AllByRecursion}
-use Rattle.sqlite_value.specs.declared.value.Value.{Value}
-use Rattle.sqlite_value.specs.declared.value.Value.TheVariants.{Null, Int, Real, Text, Blob}
-use Rattle.sqlite_value.specs.Order.{Row, column}
+use Rattle.room_tables.proofs.Common.{◌≡◌, ℕ, true, true≢false, List, [], ◌∷◌, length, filter, map, option_map}
+use Rattle.room_tables.proofs.Common.{unwrap_or, refl, sym, AllByRecursion, Value, Null, Int, Real, Text, Blob, Row}
+use Rattle.room_tables.proofs.Common.{column, is_of, passes, Datatype, all-filter, first_of_both, second_of_both}
+use Rattle.room_tables.proofs.Common.{Database, IsDatabase, Layout, room_schema, doc_table, number_in, blob_in, has}
+use Rattle.room_tables.proofs.Common.{only, one_column, shown_size, size_rows, size_in, records_of, IsRoomDatabase}
 use Rattle.sqlite_sql.specs.Text.{length_of}
-use Rattle.sqlite_schema.specs.Rules.{is_of, passes}
-use Rattle.sqlite_schema.specs.declared.schema.Constraint.TheVariants.{Datatype}
 use Rattle.sqlite_schema.specs.declared.schema.Kind.TheVariants as kind
-use Rattle.sqlite_keyed.proofs.ListLemmas.{all-filter}
-use Rattle.sqlite_keyed.proofs.RuleLemmas.{first_of_both, second_of_both}
-use Rattle.sqlite.specs.Effect.{Database, IsDatabase}
-use Rattle.room_tables.specs.Tables.{Layout, room_schema, doc_table}
-use Rattle.room_tables.specs.Rows.{number_in, blob_in, has, only, one_column, shown_size, size_rows, size_in}
-use Rattle.room_tables.specs.Rows.{records_of}
-use Rattle.room_tables.specs.Layout.{IsRoomDatabase}
 use Rattle.room_tables.proofs.Each.{rows_pass}
 
 sized : (v : Value) → is_of kind.Blob v ≡ true → number_in (length_of v) ≡ length (blob_in v)

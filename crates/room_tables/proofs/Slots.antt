@@ -1,27 +1,17 @@
 -- What slots keep, after rows were taken out or one was put.
-use Rattle.std.proofs.Common.{◌≡◌, ◌≢◌, ◌≤◌, ℕ, suc, true, false, not, ◌&&◌, ◌==◌, cond, List, [], ◌∷◌, map, filter}
-use Rattle.std.proofs.Common.{Option, None, Some, option_map, Ok, inl, inr, refl, sym, ap, ap₂, subst, ◌∙◌, true≢false}
-use Rattle.std.proofs.Common.{arith, bytes_eq, eq-eqb}
-use Rattle.std.specs.List.{AllByRecursion}
-use Rattle.std.proofs.lemmas.Bool.{cases_Bool, and_from, eqb-true, false_from_ne_true}
+use Rattle.room_tables.proofs.Common.{◌≡◌, ◌≢◌, ◌≤◌, ℕ, suc, true, false, not, ◌&&◌, ◌==◌, cond, List, [], ◌∷◌, map}
+use Rattle.room_tables.proofs.Common.{filter, Option, None, Some, option_map, Ok, inl, inr, refl, sym, ap, ap₂, subst}
+use Rattle.room_tables.proofs.Common.{◌∙◌, true≢false, arith, bytes_eq, eq-eqb, AllByRecursion, cases_Bool, and_from}
+use Rattle.room_tables.proofs.Common.{eqb-true, false_from_ne_true, Text, Row, all_has, Database, IsDatabase}
+use Rattle.room_tables.proofs.Common.{first_of_both, second_of_both, State, ExecutesInside, PutSlot, DropSlots}
+use Rattle.room_tables.proofs.Common.{apply_change, Records, Layout, room_schema, slots_tree, has_text, is_slot, only}
+use Rattle.room_tables.proofs.Common.{shown_slot, kept_of, slots_in, nodes_in, entries_in, documents_in, next_in}
+use Rattle.room_tables.proofs.Common.{sessions_in, kept_rows, reply_in, records_of, IsKeyed, HasNumbers, IsRoomDatabase}
+use Rattle.room_tables.proofs.Common.{reply_value, Steps}
 use Rattle.std.proofs.lemmas.Slice.Eq.{bytes_eq-Decides}
-use Rattle.sqlite_value.specs.declared.value.Value.TheVariants.{Text}
-use Rattle.sqlite_value.specs.Order.{Row}
-use Rattle.sqlite_rules.proofs.ListLemmas.{all_has}
-use Rattle.sqlite.specs.Effect.{Database, IsDatabase}
-use Rattle.sqlite_keyed.proofs.RuleLemmas.{first_of_both, second_of_both}
-use Rattle.sqlite.specs.State.{State, ExecutesInside}
 use Rattle.room_slots.specs.KeptModel.{KeptModel}
 use Rattle.room_records.specs.declared.session.SlotRow.{SlotRow}
-use Rattle.room_records.specs.declared.change.Change.TheVariants.{PutSlot, DropSlots}
-use Rattle.room_records.specs.Changes.{apply_change}
-use Rattle.room_records.specs.Records.{Records}
-use Rattle.room_tables.specs.Tables.{Layout, room_schema, slots_tree}
 use Rattle.room_tables.proofs.Texts.{drop_slots_text, change_slot_text, add_slot_text}
-use Rattle.room_tables.specs.Rows.{has_text, is_slot, only, shown_slot, kept_of, slots_in, nodes_in, entries_in}
-use Rattle.room_tables.specs.Rows.{documents_in, next_in, sessions_in, kept_rows, reply_in, records_of}
-use Rattle.room_tables.specs.Layout.{IsKeyed, HasNumbers, IsRoomDatabase, reply_value}
-use Rattle.room_tables.specs.Steps.{Steps}
 use Rattle.room_tables.proofs.Each.{above}
 use Rattle.room_tables.proofs.TreeNames.{slots_listed}
 use Rattle.room_tables.proofs.Values.{has_one, has_text_one}

@@ -1,32 +1,13 @@
 -- A fresh room in tables of ours, beside what was there.
-use Rattle.std.specs.declared.alloc.Global.{Global}
-use Rattle.std.proofs.Common.{Vec, ◌≡◌, ◌==◌, ℕ, pos, Bool, true, false, cond, length, List, [], ◌∷◌, ◌++◌}
-use Rattle.std.proofs.Common.{map, is_some, Option, None, Some, Ok, inl, inr, refl, sym, ap, subst, ◌∙◌}
-use Rattle.std.proofs.Common.{option_map, unwrap_or, true≢false, codes, eq-eqb}
-use Rattle.std.proofs.lemmas.Bool.{or_parts, cases_eq, ne_eqb}
-use Rattle.std.specs.List.{AllByRecursion}
-use Rattle.sqlite_tied.specs.Compute.{everything}
-use Rattle.sqlite_keyed.proofs.ListLemmas.{all-append}
-use Rattle.sqlite_rules.specs.Edit.{numbered, put_all}
-use Rattle.sqlite_schema.specs.Names.{same_name, table_named}
-use Rattle.sqlite_trees.specs.Tree.{Trees, no_trees}
-use Rattle.sqlite_trees.specs.View.{is_int}
-use Rattle.sqlite_value.specs.declared.value.Value.TheVariants.{Int}
-use Rattle.sqlite_value.specs.Order.{Row, column}
-use Rattle.sqlite.specs.Rowids.TheVariants.{Chosen}
-use Rattle.sqlite.specs.Effect.{Database, IsDatabase}
-use Rattle.sqlite.specs.Schema.{Schema}
-use Rattle.sqlite.specs.State.{State, ExecutesInside}
-use Rattle.sqlite.specs.Table.{Table}
-use Rattle.room_acl.specs.Entries.{EntryModel}
-use Rattle.room_records.specs.declared.node.Node.{Node}
-use Rattle.room_records.specs.Records.{Records}
-use Rattle.room_tables.specs.Tables.{has_a_table, room_table, node_table, entry_table, Fresh}
-use Rattle.room_tables.specs.Rows.{one_column, number_in, entry_of, records_of}
-use Rattle.room_tables.specs.Rows.{has, only, shown_node, node_of, entries_shown, name_of_text}
-use Rattle.room_tables.specs.Layout.{IsKeyed}
-use Rattle.room_tables.specs.Steps.{IsReadBack, kind_number}
-use Rattle.room_tables.specs.Beside.{IsBeside, Fills, six, with_rows}
+use Rattle.room_tables.proofs.Common.{Global, Vec, ◌≡◌, ◌==◌, ℕ, pos, Bool, true, false, cond, length, List, [], ◌∷◌}
+use Rattle.room_tables.proofs.Common.{◌++◌, map, is_some, Option, None, Some, Ok, inl, inr, refl, sym, ap, subst, ◌∙◌}
+use Rattle.room_tables.proofs.Common.{option_map, unwrap_or, true≢false, codes, eq-eqb, or_parts, cases_eq, ne_eqb}
+use Rattle.room_tables.proofs.Common.{AllByRecursion, everything, all-append, numbered, put_all, same_name, table_named}
+use Rattle.room_tables.proofs.Common.{Trees, no_trees, is_int, Int, Row, column, Chosen, Database, IsDatabase, Schema}
+use Rattle.room_tables.proofs.Common.{State, ExecutesInside, Table, EntryModel, Node, Records, has_a_table, room_table}
+use Rattle.room_tables.proofs.Common.{node_table, entry_table, Fresh, one_column, number_in, entry_of, records_of, has}
+use Rattle.room_tables.proofs.Common.{only, shown_node, node_of, entries_shown, name_of_text, IsKeyed, IsReadBack}
+use Rattle.room_tables.proofs.Common.{kind_number, IsBeside, Fills, six, with_rows}
 use Rattle.room_tables.specs.Fresh.{filled, StandForNode, StandForNext, StandForEntries, StandsBeside, MayStandBeside}
 use Rattle.room_tables.proofs.Changes.{unnumbered, all_chosen}
 use Rattle.room_tables.proofs.Effects.{same_records, row_of_node, node_back, params_of_node}

@@ -1,29 +1,13 @@
 -- The deletes that set nothing off, and the inserts.
-use Rattle.std.proofs.Common.{◌≡◌, ◌==◌, ℕ, suc, Bool, true, false, length, pos, List, [], ◌∷◌, ◌++◌}
-use Rattle.std.proofs.Common.{map, drop, Ok, refl, ap, ap₂, ◌∙◌, ◌/◌}
-use Rattle.std.specs.List.{flat_map, filter_map}
-use Rattle.sqlite_value.specs.declared.value.Value.TheVariants.{Null, Int, Text}
-use Rattle.sqlite_value.specs.Order.{Row}
-use Rattle.sqlite_tied.specs.Compute.{everything}
-use Rattle.sqlite_rules.specs.Action.{Work, work_by, deed_for, pairs, works}
-use Rattle.sqlite_schema.specs.Rules.{parent_key}
-use Rattle.sqlite_rules.specs.Cast.{cast_row}
-use Rattle.sqlite_schema.specs.declared.schema.Keys.TheVariants.{Enforced}
-use Rattle.sqlite_sql.specs.Term.{Term}
-use Rattle.sqlite.specs.Listing.{understood}
-use Rattle.sqlite.specs.Command.TheVariants.{Insert}
-use Rattle.sqlite.specs.Source.TheVariants.{Values}
-use Rattle.sqlite.specs.Rows.{stamped}
-use Rattle.sqlite.specs.Effect.{value_rows}
-use Rattle.sqlite.specs.State.{State, Executes}
-use Rattle.room_tables.specs.Tables.{Layout, Fresh, Upgraded, room_schema, entry_table, slots_table, slots_tree}
-use Rattle.room_tables.specs.Tables.{slots_place}
+use Rattle.room_tables.proofs.Common.{◌≡◌, ◌==◌, ℕ, suc, Bool, true, false, length, pos, List, [], ◌∷◌, ◌++◌, map, drop}
+use Rattle.room_tables.proofs.Common.{Ok, refl, ap, ap₂, ◌∙◌, ◌/◌, filter_map, Null, Int, Text, Row, everything, Work}
+use Rattle.room_tables.proofs.Common.{work_by, deed_for, pairs, works, parent_key, cast_row, Enforced, Term, understood}
+use Rattle.room_tables.proofs.Common.{Insert, Values, stamped, value_rows, State, Executes, Layout, Fresh, Upgraded}
+use Rattle.room_tables.proofs.Common.{room_schema, entry_table, slots_table, slots_tree, slots_place, has, has_text}
+use Rattle.room_tables.proofs.Common.{EntryModel, type_of, shown_as, IsKeyed}
+use Rattle.std.specs.List.{flat_map}
 use Rattle.room_tables.proofs.Each.{slots_placed, slots_seen}
 use Rattle.room_tables.proofs.Texts as T
-use Rattle.room_tables.specs.Rows.{has, has_text}
-use Rattle.room_acl.specs.Entries.{EntryModel}
-use Rattle.room_tables.specs.Steps.{type_of, shown_as}
-use Rattle.room_tables.specs.Layout.{IsKeyed}
 use Rattle.room_tables.proofs.Meaning.{Means, drop_slots_means}
 use Rattle.room_tables.proofs.Queries.{and_true}
 use Rattle.room_tables.proofs.Changes.{Added, Leaves, without, cleared, unnumbered, inserted_all, cast_null, cast_int}

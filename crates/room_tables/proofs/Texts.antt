@@ -1,14 +1,8 @@
 -- The texts of the statements on the tables, and the queries of those that proofs name by their parts.
 use Rattle.std.specs.Prelude.{ℕ, List, [], ◌∷◌, false, pos, negsuc, codes, Some, None}
-use Rattle.sqlite_value.specs.declared.value.Value.TheVariants.{Null, Int}
-use Rattle.sqlite_value.specs.declared.keys.Collation.TheVariants.{Binary}
-use Rattle.sqlite_value.specs.declared.keys.Key.{Key}
-use Rattle.sqlite_value.specs.Keys.{ascending}
-use Rattle.sqlite_sql.specs.Term.{Term, lit, col, op1, op2}
-use Rattle.sqlite_sql.specs.Query.{Query, inner, end}
+use Rattle.room_tables.proofs.Common.{Null, Int, Binary, Key, ascending, Term, lit, col, op1, op2, Query, inner, end}
+use Rattle.room_tables.proofs.Common.{Compare, Eq, Ge}
 use Rattle.sqlite_sql.specs.declared.ops.UnaryOp.TheVariants.{Length}
-use Rattle.sqlite_sql.specs.declared.ops.BinaryOp.TheVariants.{Compare}
-use Rattle.sqlite_sql.specs.declared.ops.CompareOp.TheVariants.{Eq, Ge}
 use Rattle.sqlite_schema.specs.declared.command.Upsert.{Upsert}
 use Rattle.sqlite_sql.specs.Group.{Aggregate, Grouping}
 use Rattle.sqlite_sql.specs.declared.aggregate.AggregateOp.TheVariants.{CountRows}

@@ -1,19 +1,11 @@
 -- The list of objects names the trees as the schema does.
-use Rattle.std.proofs.Common.{◌≡◌, ℕ, ◌+◌, ◌-◌, Bool, List, [], ◌∷◌, Option, Some, option_map, codes}
-use Rattle.std.proofs.Common.{unwrap_or, refl, ap, ap₂, ◌∙◌, arith, is_eq, inl, inr}
-use Rattle.std.specs.List.{find, AllZip}
+use Rattle.room_tables.proofs.Common.{◌≡◌, ℕ, ◌+◌, ◌-◌, Bool, List, [], ◌∷◌, Option, Some, option_map, codes, unwrap_or}
+use Rattle.room_tables.proofs.Common.{refl, ap, ap₂, ◌∙◌, arith, is_eq, inl, inr, find, AllZip, cases_Bool, Text, Row}
+use Rattle.room_tables.proofs.Common.{column, value_cmp, rowid, IsTableRow, Table, Schema, Database, IsDatabase, Layout}
+use Rattle.room_tables.proofs.Common.{Fresh, Upgraded, room_schema, first_schema, slots_tree, number_in, tree_named}
+use Rattle.room_tables.proofs.Common.{kept_rows}
 use Rattle.std.specs.Option.{option_or}
-use Rattle.std.proofs.lemmas.Bool.{cases_Bool}
-use Rattle.sqlite_value.specs.declared.value.Value.TheVariants.{Text}
-use Rattle.sqlite_value.specs.Order.{Row, column, value_cmp}
-use Rattle.sqlite_trees.specs.Tree.{rowid}
-use Rattle.sqlite_catalog.specs.Listing.{IsTableRow}
-use Rattle.sqlite.specs.Table.{Table}
-use Rattle.sqlite.specs.Schema.{Schema}
-use Rattle.sqlite.specs.Effect.{Database, IsDatabase}
 use lib.Ieee.{is_nan, lt}
-use Rattle.room_tables.specs.Tables.{Layout, Fresh, Upgraded, room_schema, first_schema, slots_tree}
-use Rattle.room_tables.specs.Rows.{number_in, tree_named, kept_rows}
 
 abbrev is_named : List ℕ → Row → Bool
 is_named name row = is_eq (value_cmp (column row 2) (Text name))

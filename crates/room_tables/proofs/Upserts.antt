@@ -1,46 +1,22 @@
 -- What an upsert does: it puts one row in, in the place of the row with its rowid.
-use Rattle.std.proofs.Common.{◌≡◌, ◌≢◌, inl, inr, ℕ, ℤ, true, false, List, [], ◌∷◌, ◌++◌, ◌/◌, length}
-use Rattle.std.proofs.Common.{map, slice_get, filter, Option, None, Some, Ok, refl, sym, ap, ap₂, subst, subst₂, ◌∙◌}
-use Rattle.std.proofs.Common.{IsPermutation, is_eq, cond, true≢false}
-use Rattle.std.specs.List.{AllByRecursion, list_all}
-use Rattle.std.proofs.lemmas.Cmp.{tied_itself, alike_right}
-use Rattle.std.proofs.lemmas.Bool.{not-true}
-use Rattle.sqlite_value.specs.declared.value.Value.{Value}
-use Rattle.sqlite_value.specs.declared.value.Value.TheVariants.{Null, Int}
-use Rattle.sqlite_value.specs.Order.{Row, column, value_cmp}
-use Rattle.sqlite_value.proofs.OrderLemmas.{value_cmp_total}
-use Rattle.sqlite_trees.specs.Tree.{Trees, rowid, put_row, without_rowid, has_rowid}
-use Rattle.sqlite_sql.specs.Term.{Term, col, eval_all, holds}
-use Rattle.sqlite_sql.specs.Query.{Query, Output, output}
-use Rattle.sqlite_sql.specs.Program.{overlay}
-use Rattle.sqlite_keyed.proofs.RuleLemmas.{first_of_both}
-use Rattle.sqlite_keyed.proofs.ListLemmas.{filter_same}
-use Rattle.sqlite_rules.specs.Lists.{Has}
-use Rattle.sqlite_rules.specs.Edit.{with_rowid, edit_of, without_all, is_taken, are_fresh, put_all}
-use Rattle.sqlite_rules.specs.Edit.{Applies, taken_by, id_in}
-use Rattle.sqlite_rules.specs.Calls.{ids_of}
-use Rattle.sqlite_rules.specs.Cast.{cast_row}
+use Rattle.room_tables.proofs.Common.{◌≡◌, ◌≢◌, inl, inr, ℕ, ℤ, true, false, List, [], ◌∷◌, ◌++◌, ◌/◌, length, map}
+use Rattle.room_tables.proofs.Common.{slice_get, filter, Option, None, Some, Ok, refl, sym, ap, ap₂, subst, subst₂, ◌∙◌}
+use Rattle.room_tables.proofs.Common.{IsPermutation, is_eq, cond, true≢false, AllByRecursion, list_all, tied_itself}
+use Rattle.room_tables.proofs.Common.{alike_right, not-true, Value, Null, Int, Row, column, value_cmp, value_cmp_total}
+use Rattle.room_tables.proofs.Common.{Trees, rowid, put_row, without_rowid, has_rowid, Term, col, eval_all, holds}
+use Rattle.room_tables.proofs.Common.{Query, Output, output, overlay, first_of_both, filter_same, Has, with_rowid}
+use Rattle.room_tables.proofs.Common.{edit_of, without_all, is_taken, are_fresh, put_all, Applies, taken_by, id_in}
+use Rattle.room_tables.proofs.Common.{ids_of, cast_row, works, all_has, some_from, tied_same, none_to_drop, int_is}
+use Rattle.room_tables.proofs.Common.{Chosen, Given, Above, Enforced, Values, InsertOr, Database, value_rows}
+use Rattle.room_tables.proofs.Common.{IsDatabase, Then, Written, Task, Puts, Updates, Tries, TriesEach, count_of}
+use Rattle.room_tables.proofs.Common.{nothing, higher, joined, Judged, Meets, Upserts, Clears, stamped, shown}
+use Rattle.room_tables.proofs.Common.{rowids_for, Table, State, Executes, runs_as, one_step, one_permutation, Layout}
+use Rattle.room_tables.proofs.Common.{room_schema, IsKeyed}
 use Rattle.sqlite_rules.specs.Keys.{AreConflicts, conflicts}
 use Rattle.sqlite_rules.specs.declared.error.Refusal.{Refusal}
-use Rattle.sqlite_rules.specs.Action.{works}
-use Rattle.sqlite_rules.proofs.ListLemmas.{all_has, some_from}
-use Rattle.sqlite_rules.proofs.PlaceLemmas.{tied_same}
-use Rattle.sqlite_rules.proofs.TableLemmas.{none_to_drop, int_is}
-use Rattle.sqlite.specs.Rowids.TheVariants.{Chosen, Given, Above}
-use Rattle.sqlite_schema.specs.declared.schema.Keys.TheVariants.{Enforced}
 use Rattle.sqlite_schema.specs.declared.command.Conflict.TheVariants.{Abort}
 use Rattle.sqlite_schema.specs.declared.command.Upsert.{Upsert}
-use Rattle.sqlite.specs.Source.TheVariants.{Values}
-use Rattle.sqlite.specs.Command.TheVariants.{InsertOr}
-use Rattle.sqlite.specs.Effect.{Database, value_rows, IsDatabase}
-use Rattle.sqlite.specs.Rows.{Then, Written, Task, Puts, Updates, Tries, TriesEach, count_of, nothing, higher, joined}
-use Rattle.sqlite.specs.Rows.{Judged, Meets, Upserts, Clears, stamped, shown, rowids_for}
-use Rattle.sqlite.specs.Table.{Table}
-use Rattle.sqlite.specs.State.{State, Executes}
-use Rattle.sqlite.proofs.Callers.{runs_as, one_step, one_permutation}
-use Rattle.room_tables.specs.Tables.{Layout, room_schema}
 use Rattle.room_tables.proofs.Texts.{equals, over_table}
-use Rattle.room_tables.specs.Layout.{IsKeyed}
 use Rattle.room_tables.proofs.Meaning.{Means}
 use Rattle.room_tables.proofs.Queries.{Picks, passing, answer_is, and_true}
 use Rattle.room_tables.proofs.Values.{equal_is, eq_is}

@@ -1,25 +1,13 @@
 -- A column that has a number has no other.
-use Rattle.std.proofs.Common.{◌≡◌, ℕ, List, ℤ, pos, Bool, true, false, ◌||◌, cond, Some, refl, sym, ap}
-use Rattle.std.proofs.Common.{subst, ◌∙◌, Ordering, Equal, is_eq, true≢false, arith, inl, inr}
-use Rattle.std.specs.Ordering.{is_ne}
-use Rattle.std.proofs.lemmas.Bool.{or_parts, cases_Bool}
-use Rattle.std.proofs.lemmas.Grind.{common_steps}
-use Rattle.std.proofs.lemmas.Map.Lookups.{exact_signed, exact_bytes}
-use Rattle.std.proofs.lemmas.Cmp.{alike_right, tied_back, tied_itself}
-use Rattle.sqlite_value.specs.declared.value.Value.{Value}
-use Rattle.sqlite_value.specs.declared.value.Value.TheVariants.{Null, Int, Real, Text}
-use Rattle.sqlite_value.specs.Order.{Row, column, value_cmp}
-use Rattle.sqlite_value.proofs.OrderLemmas.{value_cmp-Int, value_cmp-Text, value_cmp-Null, value_cmp-apart}
-use Rattle.sqlite_value.proofs.OrderLemmas.{value_cmp_total}
+use Rattle.room_tables.proofs.Common.{◌≡◌, ℕ, List, ℤ, pos, Bool, true, false, ◌||◌, cond, Some, refl, sym, ap, subst}
+use Rattle.room_tables.proofs.Common.{◌∙◌, Ordering, Equal, is_eq, true≢false, arith, inl, inr, is_ne, or_parts}
+use Rattle.room_tables.proofs.Common.{cases_Bool, common_steps, exact_signed, exact_bytes, alike_right, tied_back}
+use Rattle.room_tables.proofs.Common.{tied_itself, Value, Null, Int, Real, Text, Row, column, value_cmp, value_cmp-Int}
+use Rattle.room_tables.proofs.Common.{value_cmp-Text, value_cmp-Null, value_cmp-apart, value_cmp_total, unary, binary}
+use Rattle.room_tables.proofs.Common.{is_null, is_true, from_truth, differ, is_int, id_in, cast, as_integer, int_is}
+use Rattle.room_tables.proofs.Common.{has, has_text}
 use Rattle.sqlite_sql.specs.declared.ops.UnaryOp.TheVariants.{ToInt}
-use Rattle.sqlite_sql.specs.Ops.{unary, binary, is_null, is_true, from_truth}
 use Rattle.sqlite_schema.specs.declared.schema.Kind.TheVariants.{Integer}
-use Rattle.sqlite_schema.specs.Rules.{differ}
-use Rattle.sqlite_trees.specs.View.{is_int}
-use Rattle.sqlite_rules.specs.Edit.{id_in}
-use Rattle.sqlite_rules.specs.Cast.{cast, as_integer}
-use Rattle.sqlite_rules.proofs.TableLemmas.{int_is}
-use Rattle.room_tables.specs.Rows.{has, has_text}
 
 pub truth_back : (b : Bool) → is_true (from_truth (Some b)) ≡ b
 truth_back b = grind (arith, common_steps)

@@ -1,35 +1,13 @@
 -- The row that has a number is written: an UPDATE changes it, or an INSERT adds it.
-use Rattle.std.proofs.Common.{◌≡◌, ◌≢◌, ◌∙◌, ◌/◌, ℕ, zero, suc, ℤ, Bool, true, false, List, [], ◌∷◌, map, drop}
-use Rattle.std.proofs.Common.{slice_get}
-use Rattle.std.proofs.Common.{filter, length, Some, Ok, Equal, inl, refl, sym, ap, ap₂, subst, IsPermutation}
-use Rattle.std.specs.List.{AllByRecursion, list_all}
-use Rattle.sqlite_value.specs.declared.value.Value.TheVariants.{Null, Int}
-use Rattle.sqlite_value.specs.Order.{Row, value_cmp}
-use Rattle.sqlite_trees.specs.Tree.{Trees, rowid}
-use Rattle.sqlite_sql.specs.Term.{Term, eval_all, holds}
-use Rattle.sqlite_sql.specs.Query.{Query}
-use Rattle.sqlite_sql.specs.Program.{overlay}
-use Rattle.sqlite_schema.specs.declared.schema.Keys.TheVariants.{Enforced}
-use Rattle.sqlite_rules.specs.Action.{works}
-use Rattle.sqlite_rules.specs.Lists.{Has}
-use Rattle.sqlite_rules.specs.Calls.{ids_of}
-use Rattle.sqlite_rules.specs.Cast.{cast_row}
-use Rattle.sqlite_rules.specs.Edit.{Edit, Applies, edit_of, id_in, are_fresh, taken_by, put_all, numbered}
-use Rattle.sqlite_rules.proofs.ListLemmas.{all_has}
-use Rattle.sqlite_rules.proofs.PlaceLemmas.{tied_same}
-use Rattle.sqlite_rules.proofs.TableLemmas.{int_is}
-use Rattle.sqlite.specs.Command.TheVariants.{Insert, Update}
-use Rattle.sqlite.specs.Rowids.TheVariants.{Chosen, Given}
-use Rattle.sqlite.specs.Source.TheVariants.{Values}
-use Rattle.sqlite.specs.Table.{Table}
-use Rattle.sqlite.specs.Rows.{Written, stamped}
-use Rattle.sqlite.specs.Effect.{Database, IsDatabase, value_rows}
-use Rattle.sqlite.specs.State.{State, Executes}
-use Rattle.sqlite.proofs.Callers.{runs_as, one_step, one_permutation}
-use Rattle.room_tables.specs.Tables.{Layout, room_schema}
+use Rattle.room_tables.proofs.Common.{◌≡◌, ◌≢◌, ◌∙◌, ◌/◌, ℕ, zero, suc, ℤ, Bool, true, false, List, [], ◌∷◌, map, drop}
+use Rattle.room_tables.proofs.Common.{slice_get, filter, length, Some, Ok, Equal, inl, refl, sym, ap, ap₂, subst}
+use Rattle.room_tables.proofs.Common.{IsPermutation, AllByRecursion, list_all, Null, Int, Row, value_cmp, Trees, rowid}
+use Rattle.room_tables.proofs.Common.{Term, eval_all, holds, Query, overlay, Enforced, works, Has, ids_of, cast_row}
+use Rattle.room_tables.proofs.Common.{Edit, Applies, edit_of, id_in, are_fresh, taken_by, put_all, numbered, all_has}
+use Rattle.room_tables.proofs.Common.{tied_same, int_is, Insert, Update, Chosen, Given, Values, Table, Written, stamped}
+use Rattle.room_tables.proofs.Common.{Database, IsDatabase, value_rows, State, Executes, runs_as, one_step}
+use Rattle.room_tables.proofs.Common.{one_permutation, Layout, room_schema, has, IsKeyed}
 use Rattle.room_tables.proofs.Texts.{over_table}
-use Rattle.room_tables.specs.Rows.{has}
-use Rattle.room_tables.specs.Layout.{IsKeyed}
 use Rattle.room_tables.proofs.Values.{has_tied, eq_is}
 use Rattle.room_tables.proofs.Meaning.{Means}
 use Rattle.room_tables.proofs.Removed.{one_row, shown_of}

@@ -1,10 +1,5 @@
 -- Worked examples, computed by the definitions.
-use Rattle.std.proofs.Common.{◌≡◌, refl, [], ◌∷◌}
-use Rattle.std.specs.Prelude.{codes}
-use Rattle.room_acl.specs.declared.subject.Kind.{Kind}
-use Rattle.room_acl.specs.declared.subject.Kind.TheVariants.{File, Folder}
-use Rattle.room_records.specs.Names.{Path}
-use Rattle.room_records.specs.Room.{Object, Room}
+use Rattle.room_tree.proofs.Common.{◌≡◌, refl, [], ◌∷◌, codes, Kind, File, Folder, Path, Object, Room}
 use Rattle.room_commands.specs.CommandModel as C
 use Rattle.room_tree.specs.Asks.{at_or_below, most_asks}
 

@@ -1,27 +1,15 @@
 -- How many objects stand at a path or below it: those at one child of a folder, or below it, are not those at another.
-use Rattle.std.proofs.Common.{◌≡◌, ℕ, ◌+◌, ◌<◌, ◌≤◌, refl, ap, sym, ◌∙◌, subst, arith, Bool, true, false}
-use Rattle.std.proofs.Common.{inl, inr, List, [], ◌∷◌, ◌++◌, take, get_or, length, Option, Some, None}
+use Rattle.room_tree.proofs.Common.{◌≡◌, ℕ, ◌+◌, ◌<◌, ◌≤◌, refl, ap, sym, ◌∙◌, subst, arith, Bool, true, false, inl}
+use Rattle.room_tree.proofs.Common.{inr, List, [], ◌∷◌, ◌++◌, take, get_or, length, Option, Some, None, sum_by}
+use Rattle.room_tree.proofs.Common.{count_by, cases_Bool, and-true, take_more, sum_by-cons, sum_by_push, sum_by-take-le}
+use Rattle.room_tree.proofs.Common.{Node, Name, Path, name_cmp, name_eq, path_eq, ObjectRecords, IsChild, HasPath}
+use Rattle.room_tree.proofs.Common.{RepresentsRoom, Object, Room, View, ShelfRead, AreChildren, InNameOrder, name_of}
+use Rattle.room_tree.proofs.Common.{all_at, object_at_node, same_name, is_at_or_below, OfRoom}
 use Rattle.std.specs.Map.{lookup}
-use Rattle.std.specs.List.{sum_by, count_by}
 use Rattle.std.specs.declared.cmp.Ordering.TheVariants.{Less}
-use Rattle.std.proofs.lemmas.Bool.{cases_Bool}
-use Rattle.std.proofs.Math.Bool.{and-true}
 use Rattle.std.proofs.lemmas.Cmp.{nat_list_cmp_total}
-use Rattle.std.proofs.lemmas.List.{take_more}
-use Rattle.std.proofs.lemmas.List.Sums.{sum_by-cons, sum_by_push, sum_by-take-le}
-use Rattle.room_records.specs.declared.node.Node.{Node}
-use Rattle.room_records.specs.Names.{Name, Path, name_cmp, name_eq, path_eq}
 use Rattle.room_records.specs.declared.shelf.ShelfFault.{ShelfFault}
-use Rattle.room_records.specs.Records.{ObjectRecords, IsChild}
-use Rattle.room_records.specs.Representation.{HasPath, RepresentsRoom}
-use Rattle.room_records.specs.Room.{Object, Room}
-use Rattle.room_records.specs.Shelf.{View, ShelfRead, AreChildren, InNameOrder, name_of}
-use Rattle.room_records.proofs.Lists.{all_at}
-use Rattle.room_records.proofs.Paths.{object_at_node}
-use Rattle.room_records.proofs.RoomsChildren.{same_name}
-use Rattle.room_commands.specs.Checks.{is_at_or_below}
 use Rattle.room_tree.specs.Asks.{at_or_below}
-use Rattle.room_tree.specs.LoadedObjects.{OfRoom}
 use Rattle.room_tree.proofs.Depths.{child_path}
 use Rattle.room_tree.proofs.InTurn.{both_tell}
 use Rattle.room_tree.proofs.Renewed.{one_if, one_or_none}

@@ -1,36 +1,15 @@
 -- One object changed where it stands: what is planned is the effect.
-use Rattle.std.proofs.Common.{◌≡◌, ℕ, refl, ap, sym, ◌∙◌, inl, inr, List, [], Option, None, Some}
-use Rattle.std.proofs.Common.{unwrap_or, reverse}
-use Rattle.std.specs.Prelude.{Vec}
-use Rattle.std.specs.declared.alloc.Global.{Global}
-use Rattle.std.specs.List.{AllByRecursion}
-use Rattle.room_acl.specs.declared.subject.Kind.{Kind}
-use Rattle.room_acl.specs.declared.subject.Kind.TheVariants.{File, Folder}
-use Rattle.room_acl.specs.SubjectModel.{SubjectModel}
-use Rattle.room_records.specs.declared.change.Change.{Change}
-use Rattle.room_records.specs.declared.change.Change.TheVariants.{PutNode, PutDoc}
-use Rattle.room_records.specs.declared.node.Node.{Node}
-use Rattle.room_records.specs.Names.{Path}
-use Rattle.room_records.specs.Records.{ObjectRecords}
-use Rattle.room_records.specs.Changes.{apply_to_objects, apply_all_to_objects, IsOfObjects, ObjectRulesHoldAfterEach}
-use Rattle.room_records.specs.Room.{Object, Room, IsRoom, object_at, list_of}
-use Rattle.room_records.specs.Representation.{RepresentsRoom}
-use Rattle.room_records.proofs.RulesKept.{if_same, if_other, SamePlace, shape_itself, shape_put, names_by_shape}
-use Rattle.room_records.proofs.RulesKept.{rules_put, rules_put_doc}
-use Rattle.room_commands.specs.CommandModel.{CommandModel}
-use Rattle.room_tree.specs.declared.loaded.LoadedObject.{LoadedObject}
-use Rattle.room_tree.specs.declared.planning.Outcome.{Outcome}
-use Rattle.room_commands.specs.declared.reply.RefusalCode.TheVariants.{IsDir}
-use Rattle.room_commands.specs.Checks.{first_refusal, checks, check_file, refuse_if, is_kind}
-use Rattle.room_commands.specs.Effect.{changed, reply, with_object}
-use Rattle.room_tree.specs.LoadedObjects.{IsLoaded, node_of}
-use Rattle.room_tree.specs.Plans.{PlansEffect, most_rows, place_after}
-use Rattle.room_tree.specs.Renewals.{ChangesFewRows}
-use Rattle.room_commands.specs.ReplyModel.{reply_model}
+use Rattle.room_tree.proofs.Common.{◌≡◌, ℕ, refl, ap, sym, ◌∙◌, inl, inr, List, [], Option, None, Some, unwrap_or}
+use Rattle.room_tree.proofs.Common.{reverse, Vec, Global, AllByRecursion, Kind, File, Folder, SubjectModel, Change}
+use Rattle.room_tree.proofs.Common.{PutNode, PutDoc, Node, Path, ObjectRecords, apply_to_objects, apply_all_to_objects}
+use Rattle.room_tree.proofs.Common.{IsOfObjects, ObjectRulesHoldAfterEach, Object, Room, IsRoom, object_at, list_of}
+use Rattle.room_tree.proofs.Common.{RepresentsRoom, if_same, if_other, SamePlace, shape_itself, shape_put}
+use Rattle.room_tree.proofs.Common.{names_by_shape, rules_put, rules_put_doc, CommandModel, LoadedObject, Outcome}
+use Rattle.room_tree.proofs.Common.{IsDir, first_refusal, checks, check_file, refuse_if, is_kind, changed, reply}
+use Rattle.room_tree.proofs.Common.{with_object, IsLoaded, node_of, PlansEffect, most_rows, place_after, ChangesFewRows}
+use Rattle.room_tree.proofs.Common.{reply_model, same_or_other_path, elsewhere_unchanged}
 use Rattle.room_tree.proofs.Checking.{file_check, there}
 use Rattle.room_tree.proofs.Outcomes.{success_plans}
-use Rattle.room_commands.proofs.RoomsNew.{same_or_other_path}
-use Rattle.room_commands.proofs.RoomsObject.{elsewhere_unchanged}
 use Rattle.room_tree.proofs.RowsReplaced.{Replaces, replaced, none_new, changed_at, stood_there}
 use Rattle.room_tree.proofs.StoredLists.{stored_list, list_part, lists_alike, same_parts}
 

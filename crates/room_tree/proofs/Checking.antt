@@ -1,26 +1,12 @@
 -- Checks at a found object.
-use Rattle.std.proofs.lemmas.Grind.{common_steps}
-use Rattle.std.proofs.Common.{◌≡◌, ℕ, false, ◌≤◌, arith, length, refl, ap, sym, ◌∙◌}
-use Rattle.std.proofs.Common.{Option, None, Some, List, [], ◌∷◌, ◌++◌}
-use Rattle.std.specs.Prelude.{not, is_some}
-use Rattle.room_acl.specs.declared.subject.Kind.TheVariants.{Folder}
-use Rattle.room_acl.specs.SubjectModel.{SubjectModel}
-use Rattle.room_acl.specs.Access.{decision}
-use Rattle.room_records.specs.Names.{Path}
-use Rattle.room_records.specs.Records.{ObjectRecords}
-use Rattle.room_records.specs.Limits.{max_document}
-use Rattle.room_records.specs.Representation.{RepresentsRoom}
-use Rattle.room_records.proofs.RoomsMap.{object_there_is_lawful}
-use Rattle.room_records.specs.Room.{Object, Room, object_at, parent_of, standing_of}
-use Rattle.room_tree.specs.declared.loaded.LoadedObject.{LoadedObject}
-use Rattle.room_commands.specs.declared.reply.RefusalCode.TheVariants.{NoEnt, Exist, Inval, IsDir}
-use Rattle.room_commands.specs.ReplyModel.{Refusal}
-use Rattle.room_commands.specs.Checks.{refuse_if, refusal_without_place, is_kind, denied_at, check_exists}
-use Rattle.room_commands.proofs.Shorthands.{right_on}
-use Rattle.room_commands.specs.Checks.{check_absent, check_right, check_folder, check_file, prefix_refusal}
-use Rattle.room_commands.specs.Checks.{first_refusal, is_root, bytes_at, walk, check_removal}
-use Rattle.room_commands.specs.Checks.{check_folder_full, check_room_full}
-use Rattle.room_tree.specs.LoadedObjects.{IsLoaded}
+use Rattle.room_tree.proofs.Common.{common_steps, ◌≡◌, ℕ, false, ◌≤◌, arith, length, refl, ap, sym, ◌∙◌, Option, None}
+use Rattle.room_tree.proofs.Common.{Some, List, [], ◌∷◌, ◌++◌, not, is_some, Folder, SubjectModel, decision, Path}
+use Rattle.room_tree.proofs.Common.{ObjectRecords, max_document, RepresentsRoom, object_there_is_lawful, Object, Room}
+use Rattle.room_tree.proofs.Common.{object_at, parent_of, standing_of, LoadedObject, NoEnt, Exist, Inval, IsDir}
+use Rattle.room_tree.proofs.Common.{Refusal, refuse_if, refusal_without_place, is_kind, denied_at, check_exists}
+use Rattle.room_tree.proofs.Common.{right_on, check_absent, check_right, check_folder, check_file, prefix_refusal}
+use Rattle.room_tree.proofs.Common.{first_refusal, is_root, bytes_at, walk, check_removal, check_folder_full}
+use Rattle.room_tree.proofs.Common.{check_room_full, IsLoaded}
 
 -- the checks that several commands begin with, or end with
 abbrev pub found_checks : Room → SubjectModel → Path → List (Option Refusal)

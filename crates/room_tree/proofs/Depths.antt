@@ -1,30 +1,14 @@
 -- How far down a subtree reaches: by its nodes, and as RENAME checks it.
-use Rattle.std.proofs.lemmas.Grind.{common_steps}
-use Rattle.std.proofs.Common.{◌≡◌, ℕ, ◌+◌, ◌-◌, ◌<◌, ◌≤◌, refl, ap, sym, ◌∙◌, subst, arith, Bool, true, false}
-use Rattle.std.proofs.Common.{inl, inr, List, [], ◌∷◌, ◌++◌, take, drop, length, append-nil, append_assoc}
-use Rattle.std.proofs.Common.{length-append, Option, None, Some}
-use Rattle.std.specs.List.{AllByRecursion}
-use Rattle.std.proofs.lemmas.List.{take-append-drop, length-take}
-use Rattle.std.proofs.lemmas.Bool.{cases_lt, lt-ltb, le-ltb}
-use Rattle.std.specs.Prelude.{unwrap_or}
-use Rattle.room_acl.specs.declared.subject.Kind.TheVariants.{File, Folder}
-use Rattle.room_records.specs.declared.node.Node.{Node}
-use Rattle.room_records.specs.Limits.{max_names}
-use Rattle.room_records.specs.Names.{Name, Path}
-use Rattle.room_records.specs.Records.{ObjectRecords, IsChild}
-use Rattle.room_records.specs.Room.{Object, Room, IsRoom, object_at}
-use Rattle.room_records.specs.Shelf.{AreChildren, name_of}
-use Rattle.room_records.specs.Representation.{HasPath, RepresentsRoom}
-use Rattle.room_records.proofs.Folders.{object_child, child_named}
-use Rattle.room_records.proofs.Lists.{all_at}
-use Rattle.room_records.proofs.Paths.{child_is_at, object_at_node}
-use Rattle.room_records.proofs.RoomsMap.{none_is_some, nothing_below, nothing_in_a_file, StandsIn}
-use Rattle.room_records.proofs.RoomsMap.{found_stands, standing_found}
-use Rattle.room_commands.specs.declared.reply.RefusalCode.TheVariants.{TooDeep}
-use Rattle.room_commands.specs.Checks.{is_at_or_below, refuse_if, check_depth, depth_in}
+use Rattle.room_tree.proofs.Common.{common_steps, ◌≡◌, ℕ, ◌+◌, ◌-◌, ◌<◌, ◌≤◌, refl, ap, sym, ◌∙◌, subst, arith, Bool}
+use Rattle.room_tree.proofs.Common.{true, false, inl, inr, List, [], ◌∷◌, ◌++◌, take, drop, length, append-nil}
+use Rattle.room_tree.proofs.Common.{append_assoc, length-append, Option, None, Some, AllByRecursion, take-append-drop}
+use Rattle.room_tree.proofs.Common.{length-take, cases_lt, lt-ltb, le-ltb, unwrap_or, File, Folder, Node, max_names}
+use Rattle.room_tree.proofs.Common.{Name, Path, ObjectRecords, IsChild, Object, Room, IsRoom, object_at, AreChildren}
+use Rattle.room_tree.proofs.Common.{name_of, HasPath, RepresentsRoom, object_child, child_named, all_at, child_is_at}
+use Rattle.room_tree.proofs.Common.{object_at_node, none_is_some, nothing_below, nothing_in_a_file, StandsIn}
+use Rattle.room_tree.proofs.Common.{found_stands, standing_found, TooDeep, is_at_or_below, refuse_if, check_depth}
+use Rattle.room_tree.proofs.Common.{depth_in, at_behind, rest_below}
 use Rattle.room_tree.specs.Depths.{StandsBelow, TellsBelow}
-use Rattle.room_commands.proofs.Renaming.{at_behind}
-use Rattle.room_commands.proofs.RoomsRenamed.{rest_below}
 use Rattle.room_commands.proofs.DepthTells.{within_depth, no_deeper}
 
 some_there : {X : Type 0} (o : Option X) → (o ≡ None → ⊥) → (x : X) × (o ≡ Some x)

@@ -1,12 +1,6 @@
 -- Changes that go on with some that put entries.
-use Rattle.std.proofs.Common.{◌≡◌, ℕ, refl, ap, sym, ◌∙◌, true, List, [], ◌∷◌, ◌++◌, append-nil, append_assoc}
-use Rattle.std.specs.Prelude.{Vec}
-use Rattle.std.specs.declared.alloc.Global.{Global}
-use Rattle.room_acl.specs.Entries.{EntryModel}
-use Rattle.room_records.specs.declared.change.Change.{Change}
-use Rattle.room_records.specs.declared.change.Change.TheVariants.{PutEntries}
-use Rattle.room_records.proofs.Lists.{all_append}
-use Rattle.room_tree.specs.Renewals.{AddsEntries, puts_entries}
+use Rattle.room_tree.proofs.Common.{◌≡◌, ℕ, refl, ap, sym, ◌∙◌, true, List, [], ◌∷◌, ◌++◌, append-nil, append_assoc}
+use Rattle.room_tree.proofs.Common.{Vec, Global, EntryModel, Change, PutEntries, all_append, AddsEntries, puts_entries}
 
 -- with none
 pub adds_none : (old new : List Change) → new ≡ old → AddsEntries old new

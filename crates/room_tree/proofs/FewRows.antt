@@ -1,15 +1,7 @@
 -- How many rows the changes of a command change.
-use Rattle.std.proofs.lemmas.Grind.{common_steps}
-use Rattle.std.proofs.Common.{◌≡◌, ℕ, arith, true, false, not, [], ◌∷◌, ◌++◌}
-use Rattle.std.proofs.lemmas.List.Sums.{count_by-le-length}
-use Rattle.std.specs.Prelude.{Vec}
-use Rattle.std.specs.declared.alloc.Global.{Global}
-use Rattle.room_acl.specs.Entries.{EntryModel}
-use Rattle.room_records.specs.declared.change.Change.{Change}
-use Rattle.room_records.specs.declared.change.Change.TheVariants.{PutNode, PutDoc, PutNext}
-use Rattle.room_records.specs.declared.node.Node.{Node}
-use Rattle.room_records.specs.Records.{ObjectRecords}
-use Rattle.room_tree.specs.Renewals.{ChangesFewRows, puts_entries, puts_entries_of, puts_new}
+use Rattle.room_tree.proofs.Common.{common_steps, ◌≡◌, ℕ, arith, true, false, not, [], ◌∷◌, ◌++◌, count_by-le-length}
+use Rattle.room_tree.proofs.Common.{Vec, Global, EntryModel, Change, PutNode, PutDoc, PutNext, Node, ObjectRecords}
+use Rattle.room_tree.proofs.Common.{ChangesFewRows, puts_entries, puts_entries_of, puts_new}
 
 off : false ≡ true → ⊥
 off h = cc

@@ -1,11 +1,6 @@
 -- What two reads tell of a room, one after the other.
-use Rattle.std.proofs.lemmas.Grind.{common_steps}
-use Rattle.std.proofs.Common.{arith, Option}
+use Rattle.room_tree.proofs.Common.{common_steps, arith, Option, ObjectRecords, Room, View, ShelfRead, OfRoom}
 use Rattle.room_records.specs.declared.shelf.ShelfFault.{ShelfFault}
-use Rattle.room_records.specs.Records.{ObjectRecords}
-use Rattle.room_records.specs.Room.{Room}
-use Rattle.room_records.specs.Shelf.{View, ShelfRead}
-use Rattle.room_tree.specs.LoadedObjects.{OfRoom}
 
 -- what two reads tell is of the rows before both
 pub both_tell : {a b c : View} {f fault : Option ShelfFault} (P Q : ObjectRecords → Room → Type 0)

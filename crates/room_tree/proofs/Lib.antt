@@ -1,3 +1,4 @@
+mod Common
 pub mod OwnPart
 pub mod LoadedObjects
 pub mod Checking

@@ -1,16 +1,8 @@
 -- The list of an object by its rows, under a list of its folder.
-use Rattle.std.proofs.Common.{◌≡◌, ℕ, refl, ap, sym, ◌∙◌, Bool, true, false, cond, inl, inr, List, [], ◌++◌, append-nil}
-use Rattle.std.proofs.Common.{Some}
-use Rattle.room_acl.specs.declared.subject.Kind.{Kind}
-use Rattle.room_acl.specs.Entries.{EntryModel}
-use Rattle.room_acl.specs.Inheritance.{handed_down, own_part, with_inherited}
-use Rattle.room_records.specs.declared.node.Node.{Node}
-use Rattle.room_records.specs.Names.{Path}
-use Rattle.room_records.specs.Records.{ObjectRecords}
-use Rattle.room_records.specs.Representation.{HasPath, RepresentsRoom}
-use Rattle.room_records.specs.Room.{Object, Room, object_at, list_of, list_under, follows}
-use Rattle.room_records.proofs.Paths.{object_at_node}
-use Rattle.room_records.proofs.RoomsLists.{list_of_child, list_of_root}
+use Rattle.room_tree.proofs.Common.{◌≡◌, ℕ, refl, ap, sym, ◌∙◌, Bool, true, false, cond, inl, inr, List, [], ◌++◌}
+use Rattle.room_tree.proofs.Common.{append-nil, Some, Kind, EntryModel, handed_down, own_part, with_inherited, Node}
+use Rattle.room_tree.proofs.Common.{Path, ObjectRecords, HasPath, RepresentsRoom, Object, Room, object_at, list_of}
+use Rattle.room_tree.proofs.Common.{list_under, follows, object_at_node, list_of_child, list_of_root}
 use Rattle.room_tree.proofs.ListsUpwards.{under}
 use Rattle.room_tree.proofs.OwnPart.{own_part_of_list, root_or_below}
 use Rattle.room_tree.proofs.StoredLists.{stored_list}

@@ -1,14 +1,7 @@
 -- Lists in a room with a subtree moved.
-use Rattle.std.proofs.lemmas.Grind.{common_steps}
-use Rattle.std.proofs.Common.{arith, ◌≡◌, ap, sym, ◌∙◌, false, [], ◌∷◌, ◌++◌, reverse, append-nil, None, Some}
-use Rattle.room_acl.specs.Inheritance.{with_inherited}
-use Rattle.room_records.specs.Names.{Name, Path}
-use Rattle.room_records.specs.Room.{Object, Room, IsRoom, object_at, list_of}
-use Rattle.room_records.proofs.RoomsLists.{list_of_child}
-use Rattle.room_commands.specs.Checks.{is_at_or_below}
-use Rattle.room_commands.specs.Effect.{renamed}
-use Rattle.room_commands.proofs.RoomsRenamed.{at_new_place, away, off_to}
-use Rattle.room_tree.specs.Renewals.{list_below}
+use Rattle.room_tree.proofs.Common.{common_steps, arith, ◌≡◌, ap, sym, ◌∙◌, false, [], ◌∷◌, ◌++◌, reverse, append-nil}
+use Rattle.room_tree.proofs.Common.{None, Some, with_inherited, Name, Path, Object, Room, IsRoom, object_at, list_of}
+use Rattle.room_tree.proofs.Common.{list_of_child, is_at_or_below, renamed, at_new_place, away, off_to, list_below}
 use Rattle.room_tree.proofs.ListsRenewed.{lists_renewed, lists_away_from_both, front_off}
 
 module _ (room : Room) (lawful : IsRoom room) (path to : Path) (o : Object)

@@ -1,13 +1,8 @@
 -- Lists in a room where the list of one object changed, or where it went elsewhere.
-use Rattle.std.proofs.lemmas.Grind.{common_steps}
-use Rattle.std.proofs.Common.{◌≡◌, ◌≢◌, refl, ap, sym, ◌∙◌, arith, false, List, [], ◌∷◌, ◌++◌}
-use Rattle.std.proofs.Common.{length-append, reverse, append-nil, append_assoc}
-use Rattle.std.proofs.lemmas.List.{reverse-append, reverse-reverse}
-use Rattle.room_records.specs.Names.{Name, Path}
-use Rattle.room_records.specs.Room.{Room, object_at, list_of, list_under}
-use Rattle.room_records.proofs.RoomsLists.{list_in_folder, lists_by_objects_above}
-use Rattle.room_commands.specs.Checks.{is_at_or_below}
-use Rattle.room_tree.specs.Renewals.{list_below}
+use Rattle.room_tree.proofs.Common.{common_steps, ◌≡◌, ◌≢◌, refl, ap, sym, ◌∙◌, arith, false, List, [], ◌∷◌, ◌++◌}
+use Rattle.room_tree.proofs.Common.{length-append, reverse, append-nil, append_assoc, reverse-append, reverse-reverse}
+use Rattle.room_tree.proofs.Common.{Name, Path, Room, object_at, list_of, list_under, list_in_folder}
+use Rattle.room_tree.proofs.Common.{lists_by_objects_above, is_at_or_below, list_below}
 
 not_empty_end : (front : Path) (name : Name) → front ++ name ∷ [] ≢ []
 not_empty_end [] name e = cc

@@ -1,19 +1,10 @@
 -- The list of an object by its rows and those of the folders above it.
-use Rattle.std.proofs.Common.{◌≡◌, ℕ, ◌+◌, ◌≤◌, refl, ap, sym, ◌∙◌, arith, Bool, true, false, cond, inl, inr}
-use Rattle.std.proofs.Common.{List, [], ◌∷◌, ◌++◌, length, reverse, append-nil, None, Some}
-use Rattle.std.proofs.lemmas.List.{reverse-append, length_push}
-use Rattle.room_acl.specs.Entries.{EntryModel}
-use Rattle.room_acl.specs.Inheritance.{handed_down, own_part}
-use Rattle.room_records.specs.declared.node.Node.{Node}
-use Rattle.room_records.specs.Names.{Path}
-use Rattle.room_records.specs.Records.{ObjectRecords}
-use Rattle.room_records.specs.Limits.{max_names}
-use Rattle.room_records.specs.Room.{Object, Room, object_at, list_of, follows}
-use Rattle.room_records.specs.Representation.{HasPath, RepresentsRoom}
-use Rattle.room_records.proofs.Paths.{object_at_node, root_only}
-use Rattle.room_records.proofs.RoomsLists.{list_of_child, list_of_root}
-use Rattle.room_records.proofs.RoomsMap.{some_is, none_is_some, Ends, path_of_object}
-use Rattle.room_records.proofs.PathParts.{path_parts}
+use Rattle.room_tree.proofs.Common.{◌≡◌, ℕ, ◌+◌, ◌≤◌, refl, ap, sym, ◌∙◌, arith, Bool, true, false, cond, inl, inr}
+use Rattle.room_tree.proofs.Common.{List, [], ◌∷◌, ◌++◌, length, reverse, append-nil, None, Some, reverse-append}
+use Rattle.room_tree.proofs.Common.{length_push, EntryModel, handed_down, own_part, Node, Path, ObjectRecords}
+use Rattle.room_tree.proofs.Common.{max_names, Object, Room, object_at, list_of, follows, HasPath, RepresentsRoom}
+use Rattle.room_tree.proofs.Common.{object_at_node, root_only, list_of_child, list_of_root, some_is, none_is_some, Ends}
+use Rattle.room_tree.proofs.Common.{path_of_object, path_parts}
 use Rattle.room_tree.proofs.OwnPart.{root_or_below, own_part_of_list}
 use Rattle.room_tree.proofs.StoredLists.{node_at_path}
 

@@ -1,15 +1,7 @@
 -- Found objects: the root, and a child of a found folder.
-use Rattle.std.proofs.lemmas.Grind.{common_steps}
-use Rattle.std.proofs.Common.{arith, ◌≡◌, sym, subst, [], ◌∷◌, ◌++◌, Some}
-use Rattle.room_records.specs.declared.node.Node.{Node}
-use Rattle.room_records.specs.Names.{Name, Path}
-use Rattle.room_records.specs.Records.{ObjectRecords}
-use Rattle.room_records.specs.Shelf.{IsChildNamed}
-use Rattle.room_records.specs.Room.{Room}
-use Rattle.room_records.specs.Representation.{HasPath, NodeIsObject, RepresentsRoom}
-use Rattle.room_records.proofs.Paths.{object_at_node, child_is_at}
-use Rattle.room_tree.specs.declared.loaded.LoadedObject.{LoadedObject}
-use Rattle.room_tree.specs.LoadedObjects.{IsLoaded, node_of}
+use Rattle.room_tree.proofs.Common.{common_steps, arith, ◌≡◌, sym, subst, [], ◌∷◌, ◌++◌, Some, Node, Name, Path}
+use Rattle.room_tree.proofs.Common.{ObjectRecords, IsChildNamed, Room, HasPath, NodeIsObject, RepresentsRoom}
+use Rattle.room_tree.proofs.Common.{object_at_node, child_is_at, LoadedObject, IsLoaded, node_of}
 
 module _ {t : ObjectRecords} {room : Room} (stand : RepresentsRoom t room) where
   -- a node with a path

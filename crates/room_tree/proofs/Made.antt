@@ -1,49 +1,26 @@
 -- A new object: what is planned is the effect.
-use Rattle.std.proofs.lemmas.Grind.{common_steps}
-use Rattle.std.proofs.Common.{◌≡◌, ◌≢◌, ℕ, ◌+◌, ◌<◌, ◌≤◌, refl, ap, sym, ◌∙◌, subst, arith, cond, false, List}
-use Rattle.std.proofs.Common.{[], ◌∷◌, ◌++◌, length, reverse, Option, None, Some, IsSome, IsNone, unwrap_or, inl, inr}
-use Rattle.std.proofs.lemmas.List.{reverse-append}
-use Rattle.std.specs.Prelude.{nat_lt, nat_le, ◌==◌, Vec}
-use Rattle.std.specs.declared.alloc.Global.{Global}
+use Rattle.room_tree.proofs.Common.{common_steps, ◌≡◌, ◌≢◌, ℕ, ◌+◌, ◌<◌, ◌≤◌, refl, ap, sym, ◌∙◌, subst, arith, cond}
+use Rattle.room_tree.proofs.Common.{false, List, [], ◌∷◌, ◌++◌, length, reverse, Option, None, Some, IsSome, IsNone}
+use Rattle.room_tree.proofs.Common.{unwrap_or, inl, inr, reverse-append, nat_lt, nat_le, ◌==◌, Vec, Global, Kind, File}
+use Rattle.room_tree.proofs.Common.{Folder, SubjectModel, PutNext, PutNode, PutDoc, Node, max_objects, Name, Path}
+use Rattle.room_tree.proofs.Common.{IsPath, ObjectRecords, ObjectRules, apply_to_objects, apply_all_to_objects}
+use Rattle.room_tree.proofs.Common.{IsOfObjects, Object, Room, IsRoom, object_at, parent_of, list_of, follows}
+use Rattle.room_tree.proofs.Common.{RepresentsRoom, NodeIsObject, HasPath, NamesUpwards, all_append, some_is}
+use Rattle.room_tree.proofs.Common.{none_is_some, Ends, parent_of_end, nothing_below, list_of_child}
+use Rattle.room_tree.proofs.Common.{lists_by_objects_above, same_or_other, if_same, if_other, rules_put_next}
+use Rattle.room_tree.proofs.Common.{rules_put_doc, path_parts, LoadedObject, Outcome, Exist, RoomFull, first_refusal}
+use Rattle.room_tree.proofs.Common.{checks, is_root, check_size, check_room_full, object_or_default, EntryModel}
+use Rattle.room_tree.proofs.Common.{handed_down, with_new, new_object, IsLoaded, IsNewNode, node_of, PlansEffect}
+use Rattle.room_tree.proofs.Common.{puts_new, Done, Size, reply_model, not_refused, none_there, changed_is_room}
+use Rattle.room_tree.proofs.Common.{created_is_room, not_root_ends, all_none, new_there, elsewhere_as_before, old_stays}
+use Rattle.room_tree.proofs.Common.{new_or_old}
 use Rattle.std.proofs.lemmas.Bool.Decides.{nat_tests}
-use Rattle.room_acl.specs.declared.subject.Kind.{Kind}
-use Rattle.room_acl.specs.declared.subject.Kind.TheVariants.{File, Folder}
-use Rattle.room_acl.specs.SubjectModel.{SubjectModel}
-use Rattle.room_records.specs.declared.change.Change.TheVariants.{PutNext, PutNode, PutDoc}
-use Rattle.room_records.specs.declared.node.Node.{Node}
-use Rattle.room_records.specs.Limits.{max_objects}
-use Rattle.room_records.specs.Names.{Name, Path, IsPath}
-use Rattle.room_records.specs.Records.{ObjectRecords}
-use Rattle.room_records.specs.Rules.{ObjectRules}
-use Rattle.room_records.specs.Changes.{apply_to_objects, apply_all_to_objects, IsOfObjects}
-use Rattle.room_records.specs.Room.{Object, Room, IsRoom, object_at, parent_of, list_of, follows}
-use Rattle.room_records.specs.Representation.{RepresentsRoom, NodeIsObject, HasPath, NamesUpwards}
-use Rattle.room_records.proofs.Lists.{all_append}
-use Rattle.room_records.proofs.RoomsMap.{some_is, none_is_some, Ends, parent_of_end, nothing_below}
-use Rattle.room_records.proofs.RoomsLists.{list_of_child, lists_by_objects_above}
-use Rattle.room_records.proofs.RulesKept.{same_or_other, if_same, if_other, rules_put_next, rules_put_doc}
-use Rattle.room_records.proofs.PathParts.{path_parts}
 use Rattle.room_commands.specs.CommandModel as C
-use Rattle.room_tree.specs.declared.loaded.LoadedObject.{LoadedObject}
-use Rattle.room_tree.specs.declared.planning.Outcome.{Outcome}
-use Rattle.room_commands.specs.declared.reply.RefusalCode.TheVariants.{Exist, RoomFull}
-use Rattle.room_commands.specs.Checks.{first_refusal, checks, is_root, check_size, check_room_full, object_or_default}
-use Rattle.room_acl.specs.Entries.{EntryModel}
-use Rattle.room_acl.specs.Inheritance.{handed_down}
-use Rattle.room_commands.specs.Effect.{with_new, new_object}
-use Rattle.room_tree.specs.LoadedObjects.{IsLoaded, IsNewNode, node_of}
-use Rattle.room_tree.specs.Plans.{PlansEffect}
-use Rattle.room_tree.specs.Renewals.{puts_new}
-use Rattle.room_commands.specs.ReplyModel.{Done, Size, reply_model}
 use Rattle.room_tree.proofs.Checking.{none_passes, limit_checks, new_checks}
-use Rattle.room_commands.proofs.ChecksTell.{not_refused, none_there}
-use Rattle.room_commands.proofs.EffectIsRoom.{changed_is_room, created_is_room, not_root_ends}
 use Rattle.room_tree.proofs.FewRows.{few_for_folder, few_for_document}
 use Rattle.room_tree.proofs.NewLists.{apply_append, rules_append, gives_list}
 use Rattle.room_tree.proofs.Outcomes.{success_plans}
 use Rattle.room_tree.proofs.Replies.{object_is}
-use Rattle.room_commands.proofs.Rights.{all_none}
-use Rattle.room_commands.proofs.RoomsNew.{new_there, elsewhere_as_before, old_stays, new_or_old}
 use Rattle.room_tree.proofs.RowsPut.{IsFree, no_child, rules_put_free, last_is_name}
 use Rattle.room_tree.proofs.RowsReplaced.{still_shows}
 use Rattle.room_tree.proofs.StoredLists.{stored_list, is_present}

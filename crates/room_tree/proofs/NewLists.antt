@@ -1,19 +1,9 @@
 -- The rows after the entries of a new object were put, where it has any.
-use Rattle.std.proofs.Common.{◌≡◌, ◌≢◌, ℕ, refl, sym, ◌∙◌, arith, Bool, true, false, cond, eqb, List, [], ◌∷◌, ◌++◌}
-use Rattle.std.proofs.Common.{length, Some}
-use Rattle.std.specs.Prelude.{Vec}
-use Rattle.std.specs.declared.alloc.Global.{Global}
-use Rattle.std.specs.List.{AllByRecursion}
-use Rattle.std.proofs.lemmas.Bool.{eqb-true}
-use Rattle.room_acl.specs.Entries.{EntryModel}
-use Rattle.room_records.specs.declared.change.Change.{Change}
-use Rattle.room_records.specs.declared.change.Change.TheVariants.{PutEntries}
-use Rattle.room_records.specs.declared.node.Node.{Node}
-use Rattle.room_records.specs.Records.{ObjectRecords}
-use Rattle.room_records.specs.Rules.{ObjectRules}
-use Rattle.room_records.specs.Changes.{apply_to_objects, apply_all_to_objects, IsOfObjects, ObjectRulesHoldAfterEach}
-use Rattle.room_records.proofs.RulesKept.{if_same, if_other, rules_put_entries}
-use Rattle.room_tree.specs.Renewals.{puts_new}
+use Rattle.room_tree.proofs.Common.{◌≡◌, ◌≢◌, ℕ, refl, sym, ◌∙◌, arith, Bool, true, false, cond, eqb, List, [], ◌∷◌}
+use Rattle.room_tree.proofs.Common.{◌++◌, length, Some, Vec, Global, AllByRecursion, eqb-true, EntryModel, Change}
+use Rattle.room_tree.proofs.Common.{PutEntries, Node, ObjectRecords, ObjectRules, apply_to_objects}
+use Rattle.room_tree.proofs.Common.{apply_all_to_objects, IsOfObjects, ObjectRulesHoldAfterEach, if_same, if_other}
+use Rattle.room_tree.proofs.Common.{rules_put_entries, puts_new}
 
 -- changes after others
 pub apply_append : (changes more : List Change) (t : ObjectRecords)

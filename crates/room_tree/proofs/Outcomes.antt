@@ -1,22 +1,10 @@
 -- Outcomes that plan the effect of a command.
-use Rattle.std.proofs.lemmas.Grind.{common_steps}
-use Rattle.std.proofs.Common.{arith, ◌≡◌, ℕ, ap, sym, ◌∙◌, subst, List, [], Option, None, Some, IsSome, IsNone}
-use Rattle.std.specs.List.{AllByRecursion}
-use Rattle.room_acl.specs.SubjectModel.{SubjectModel}
-use Rattle.room_records.specs.declared.change.Change.{Change}
-use Rattle.room_records.specs.Names.{Path}
-use Rattle.room_records.specs.Records.{ObjectRecords}
-use Rattle.room_records.specs.Changes.{apply_all_to_objects, IsOfObjects, ObjectRulesHoldAfterEach}
-use Rattle.room_records.specs.Room.{Room, object_at}
-use Rattle.room_records.specs.Representation.{RepresentsRoom, HasPath}
-use Rattle.room_commands.specs.CommandModel.{CommandModel}
-use Rattle.room_tree.specs.declared.planning.Outcome.{Outcome}
-use Rattle.room_commands.specs.Checks.{first_refusal, checks}
-use Rattle.room_commands.specs.ReplyModel.{NotDone, reply_model, IsNotDone, Refusal}
-use Rattle.room_commands.specs.Effect.{effect_by, changed, reply}
-use Rattle.room_tree.specs.Plans.{PlansEffect, most_rows, place_after}
-use Rattle.room_tree.specs.Renewals.{ChangesFewRows}
-use Rattle.room_commands.proofs.Rights.{rights_of_success}
+use Rattle.room_tree.proofs.Common.{common_steps, arith, ◌≡◌, ℕ, ap, sym, ◌∙◌, subst, List, [], Option, None, Some}
+use Rattle.room_tree.proofs.Common.{IsSome, IsNone, AllByRecursion, SubjectModel, Change, Path, ObjectRecords}
+use Rattle.room_tree.proofs.Common.{apply_all_to_objects, IsOfObjects, ObjectRulesHoldAfterEach, Room, object_at}
+use Rattle.room_tree.proofs.Common.{RepresentsRoom, HasPath, CommandModel, Outcome, first_refusal, checks, NotDone}
+use Rattle.room_tree.proofs.Common.{reply_model, IsNotDone, Refusal, effect_by, changed, reply, PlansEffect, most_rows}
+use Rattle.room_tree.proofs.Common.{place_after, ChangesFewRows, rights_of_success}
 use Rattle.room_tree.proofs.FewRows.{few_none}
 
 pub none_and_some : {X : Type 0} (o : Option X) → IsNone o → IsSome o → ⊥

@@ -1,18 +1,10 @@
 -- The own entries of a whole list: those without the mark.
-use Rattle.std.proofs.Common.{◌≡◌, ℕ, refl, ap, sym, ◌∙◌, Bool, true, false, not, cond, ◌⊎◌, inl, inr, List}
-use Rattle.std.proofs.Common.{[], ◌∷◌, ◌++◌, append-nil, Some}
-use Rattle.std.specs.List.{list_all}
-use Rattle.std.proofs.lemmas.Bool.{and_parts}
+use Rattle.room_tree.proofs.Common.{◌≡◌, ℕ, refl, ap, sym, ◌∙◌, Bool, true, false, not, cond, ◌⊎◌, inl, inr, List, []}
+use Rattle.room_tree.proofs.Common.{◌∷◌, ◌++◌, append-nil, Some, list_all, and_parts, Kind, is_inherited, EntryModel}
+use Rattle.room_tree.proofs.Common.{handed_down, own_part, with_inherited, Path, Object, Room, IsRoom, object_at}
+use Rattle.room_tree.proofs.Common.{list_of, follows, list_of_child, list_of_root, Ends, ends, object_there_is_lawful}
 use Rattle.std.proofs.lemmas.List.Elements.{filter-append}
-use Rattle.room_acl.specs.declared.subject.Kind.{Kind}
-use Rattle.room_acl.specs.Bits.{is_inherited}
-use Rattle.room_acl.specs.Entries.{EntryModel}
-use Rattle.room_acl.specs.Inheritance.{handed_down, own_part, with_inherited}
 use Rattle.room_acl.proofs.Travelling.{hands_down_marked}
-use Rattle.room_records.specs.Names.{Path}
-use Rattle.room_records.specs.Room.{Object, Room, IsRoom, object_at, list_of, follows}
-use Rattle.room_records.proofs.RoomsLists.{list_of_child, list_of_root}
-use Rattle.room_records.proofs.RoomsMap.{Ends, ends, object_there_is_lawful}
 
 abbrev pub is_own : EntryModel → Bool
 is_own entry = not (is_inherited entry.flags)

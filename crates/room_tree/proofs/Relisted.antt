@@ -1,39 +1,16 @@
 -- SETLIST: what is planned is the effect.
-use Rattle.std.proofs.lemmas.Grind.{common_steps}
-use Rattle.std.proofs.Common.{arith, ◌≡◌, ℕ, ◌+◌, ◌⊎◌, refl, ap, sym, ◌∙◌, Bool, true, false, inl, inr, List, [], ◌∷◌}
-use Rattle.std.proofs.Common.{◌++◌, map, drop, length, reverse, append-nil, Option, None, Some, unwrap_or}
-use Rattle.std.specs.Prelude.{Vec}
-use Rattle.std.specs.declared.alloc.Global.{Global}
-use Rattle.std.proofs.lemmas.List.{reverse-append, append_cancel_left}
-use Rattle.room_acl.specs.declared.subject.Kind.{Kind}
-use Rattle.room_acl.specs.Entries.{EntryModel}
-use Rattle.room_acl.specs.Inheritance.{with_inherited}
-use Rattle.room_acl.specs.SubjectModel.{SubjectModel}
-use Rattle.room_records.specs.declared.node.Node.{Node}
-use Rattle.room_records.specs.declared.change.Change.TheVariants.{PutNode}
-use Rattle.room_records.specs.Names.{Name, Path}
-use Rattle.room_records.specs.Records.{ObjectRecords}
-use Rattle.room_records.specs.Rules.{ObjectRules}
-use Rattle.room_records.specs.Changes.{apply_to_objects, apply_all_to_objects, ObjectRulesHoldAfterEach}
-use Rattle.room_records.specs.Room.{Object, Room, object_at, list_of}
-use Rattle.room_records.specs.Representation.{RepresentsRoom, HasPath}
-use Rattle.room_records.proofs.RoomsLists.{list_of_child, list_of_root}
-use Rattle.room_records.proofs.RoomsMap.{some_is, Ends}
-use Rattle.room_records.proofs.RulesKept.{if_same, if_other, SamePlace, SameShape, shape_put, rules_put, names_by_shape}
+use Rattle.room_tree.proofs.Common.{common_steps, arith, ◌≡◌, ℕ, ◌+◌, ◌⊎◌, refl, ap, sym, ◌∙◌, Bool, true, false, inl}
+use Rattle.room_tree.proofs.Common.{inr, List, [], ◌∷◌, ◌++◌, map, drop, length, reverse, append-nil, Option, None}
+use Rattle.room_tree.proofs.Common.{Some, unwrap_or, Vec, Global, reverse-append, append_cancel_left, Kind, EntryModel}
+use Rattle.room_tree.proofs.Common.{with_inherited, SubjectModel, Node, PutNode, Name, Path, ObjectRecords, ObjectRules}
+use Rattle.room_tree.proofs.Common.{apply_to_objects, apply_all_to_objects, ObjectRulesHoldAfterEach, Object, Room}
+use Rattle.room_tree.proofs.Common.{object_at, list_of, RepresentsRoom, HasPath, list_of_child, list_of_root, some_is}
+use Rattle.room_tree.proofs.Common.{Ends, if_same, if_other, SamePlace, SameShape, shape_put, rules_put, names_by_shape}
+use Rattle.room_tree.proofs.Common.{first_refusal, checks, is_at_or_below, with_object, Done, reply_model}
+use Rattle.room_tree.proofs.Common.{own_entries_of_setlist, setlist_is_room, at_behind, elsewhere_unchanged, rest_below}
+use Rattle.room_tree.proofs.Common.{not_both, LoadedObject, Outcome, IsLoaded, node_of, PlansEffect, list_below}
+use Rattle.room_tree.proofs.Common.{PutsList, entries_of}
 use Rattle.room_commands.specs.CommandModel as C
-use Rattle.room_commands.specs.Checks.{first_refusal, checks, is_at_or_below}
-use Rattle.room_commands.specs.Effect.{with_object}
-use Rattle.room_commands.specs.ReplyModel.{Done, reply_model}
-use Rattle.room_commands.specs.SetList.{own_entries_of_setlist}
-use Rattle.room_commands.proofs.EffectIsRoom.{setlist_is_room}
-use Rattle.room_commands.proofs.Renaming.{at_behind}
-use Rattle.room_commands.proofs.RoomsObject.{elsewhere_unchanged}
-use Rattle.room_commands.proofs.RoomsRenamed.{rest_below, not_both}
-use Rattle.room_tree.specs.declared.loaded.LoadedObject.{LoadedObject}
-use Rattle.room_tree.specs.declared.planning.Outcome.{Outcome}
-use Rattle.room_tree.specs.LoadedObjects.{IsLoaded, node_of}
-use Rattle.room_tree.specs.Plans.{PlansEffect}
-use Rattle.room_tree.specs.Renewals.{list_below, PutsList, entries_of}
 use Rattle.room_tree.proofs.Changed.{replaced_plans}
 use Rattle.room_tree.proofs.Checking.{there}
 use Rattle.room_tree.proofs.ListsRenewed.{lists_renewed, lists_away, list_above_stays}

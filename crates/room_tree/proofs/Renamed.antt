@@ -1,44 +1,21 @@
 -- RENAME: its checks by what was read, and what it plans.
-use Rattle.std.proofs.lemmas.Grind.{common_steps}
-use Rattle.std.proofs.Common.{arith, ◌≡◌, refl, ap, sym, ◌∙◌, Bool, true, false, not, ◌||◌, [], ◌∷◌, ◌++◌, map}
-use Rattle.std.proofs.Common.{length, Option, None, Some, reverse}
-use Rattle.std.specs.Prelude.{Vec}
-use Rattle.std.specs.declared.alloc.Global.{Global}
-use Rattle.std.proofs.lemmas.Bool.{true_from_ne_false}
-use Rattle.room_acl.specs.Entries.{EntryModel}
-use Rattle.room_acl.specs.Inheritance.{with_inherited}
-use Rattle.room_acl.specs.SubjectModel.{SubjectModel}
-use Rattle.room_records.specs.declared.change.Change.TheVariants.{PutNode}
-use Rattle.room_records.specs.declared.node.Node.{Node}
-use Rattle.room_records.specs.Names.{Name, Path, IsPath, name_eq, path_eq}
-use Rattle.room_records.specs.Records.{ObjectRecords}
-use Rattle.room_records.specs.Changes.{apply_all_to_objects}
-use Rattle.room_records.specs.Room.{Object, Room, object_at, list_of, list_under, parent_of}
-use Rattle.room_records.specs.Representation.{RepresentsRoom, HasPath}
-use Rattle.room_records.proofs.Paths.{reads_one}
-use Rattle.room_records.proofs.RoomsMap.{some_is, path_itself, other_path, parent_of_end}
-use Rattle.room_records.proofs.RoomsChildren.{name_itself, same_name}
-use Rattle.room_records.proofs.PathParts.{path_parts}
+use Rattle.room_tree.proofs.Common.{common_steps, arith, ◌≡◌, refl, ap, sym, ◌∙◌, Bool, true, false, not, ◌||◌, [], ◌∷◌}
+use Rattle.room_tree.proofs.Common.{◌++◌, map, length, Option, None, Some, reverse, Vec, Global, true_from_ne_false}
+use Rattle.room_tree.proofs.Common.{EntryModel, with_inherited, SubjectModel, PutNode, Node, Name, Path, IsPath}
+use Rattle.room_tree.proofs.Common.{name_eq, path_eq, ObjectRecords, apply_all_to_objects, Object, Room, object_at}
+use Rattle.room_tree.proofs.Common.{list_of, list_under, parent_of, RepresentsRoom, HasPath, reads_one, some_is}
+use Rattle.room_tree.proofs.Common.{path_itself, other_path, parent_of_end, name_itself, same_name, path_parts, Outcome}
+use Rattle.room_tree.proofs.Common.{LoadedObject, Inval, first_refusal, checks, refuse_if, is_root, is_at_or_below}
+use Rattle.room_tree.proofs.Common.{renamed, IsLoaded, node_of, PlansEffect, IsMove, PutsList, Done, reply_model}
+use Rattle.room_tree.proofs.Common.{absent_there, walk_ends_in_folder, changed_is_room, not_root_ends, not_in_root}
+use Rattle.room_tree.proofs.Common.{all_none}
 use Rattle.room_commands.specs.CommandModel as C
-use Rattle.room_tree.specs.declared.planning.Outcome.{Outcome}
-use Rattle.room_tree.specs.declared.loaded.LoadedObject.{LoadedObject}
 use Rattle.room_tree.specs.declared.moving.Move.{Move}
-use Rattle.room_commands.specs.declared.reply.RefusalCode.TheVariants.{Inval}
-use Rattle.room_commands.specs.Checks.{first_refusal, checks, refuse_if, is_root, is_at_or_below}
-use Rattle.room_commands.specs.Effect.{renamed}
-use Rattle.room_tree.specs.LoadedObjects.{IsLoaded, node_of}
-use Rattle.room_tree.specs.Plans.{PlansEffect}
-use Rattle.room_tree.specs.Renames.{IsMove}
-use Rattle.room_tree.specs.Renewals.{PutsList}
-use Rattle.room_commands.specs.ReplyModel.{Done, reply_model}
-use Rattle.room_commands.proofs.ChecksTell.{absent_there, walk_ends_in_folder}
-use Rattle.room_commands.proofs.EffectIsRoom.{changed_is_room, not_root_ends, not_in_root}
 use Rattle.room_tree.proofs.ListsMoved.{list_of_moved}
 use Rattle.room_tree.proofs.Outcomes.{success_plans}
 use Rattle.room_tree.proofs.Renewed.{put, IsChangeOf, list_then, list_then_is, changes_list, puts_relist}
 use Rattle.room_tree.proofs.Renewed.{stored_at}
 use Rattle.room_tree.proofs.Renewed.{relisted_of_objects, relisted_few}
-use Rattle.room_commands.proofs.Rights.{all_none}
 use Rattle.room_tree.proofs.RowsPut.{last_is_name}
 use Rattle.room_tree.proofs.RowsMoved.{node_moved, MovesNode, rules_after, moves}
 use Rattle.room_tree.proofs.RowsReplaced.{path_of_node, replaced, none_new}

@@ -1,36 +1,17 @@
 -- Rows after lists were put, that of one object and those below it.
-use Rattle.std.proofs.lemmas.Grind.{common_steps}
-use Rattle.std.proofs.Common.{◌≡◌, ◌≢◌, ℕ, ◌+◌, ◌≤◌, refl, ap, sym, ◌∙◌, arith, Bool, true, false, not, cond}
-use Rattle.std.proofs.Common.{eqb, ◌||◌, ◌⊎◌, inl, inr, List, [], ◌∷◌, ◌++◌, map, reverse, append-nil, Option, None}
-use Rattle.std.proofs.Common.{Some, IsTrue, count_by, MatchOption, eq-eqb}
-use Rattle.std.specs.Prelude.{Vec, is_some}
-use Rattle.std.specs.declared.alloc.Global.{Global}
-use Rattle.std.specs.List.{AllByRecursion, list_any}
-use Rattle.std.proofs.lemmas.Bool.{eqb-true}
-use Rattle.std.proofs.lemmas.List.{map-append, append_cancel_left}
-use Rattle.std.proofs.lemmas.List.Sums.{sum_by-cons}
+use Rattle.room_tree.proofs.Common.{common_steps, ◌≡◌, ◌≢◌, ℕ, ◌+◌, ◌≤◌, refl, ap, sym, ◌∙◌, arith, Bool, true, false}
+use Rattle.room_tree.proofs.Common.{not, cond, eqb, ◌||◌, ◌⊎◌, inl, inr, List, [], ◌∷◌, ◌++◌, map, reverse, append-nil}
+use Rattle.room_tree.proofs.Common.{Option, None, Some, IsTrue, MatchOption, eq-eqb, Vec, is_some, Global}
+use Rattle.room_tree.proofs.Common.{AllByRecursion, list_any, eqb-true, map-append, append_cancel_left, sum_by-cons}
+use Rattle.room_tree.proofs.Common.{or-true, EntryModel, Node, Change, PutNode, DropNode, PutEntries, PutDoc}
+use Rattle.room_tree.proofs.Common.{PutSession, PutSlot, DropSlots, PutNext, Path, ObjectRecords, ObjectRules}
+use Rattle.room_tree.proofs.Common.{apply_to_objects, apply_all_to_objects, IsOfObjects, ObjectRulesHoldAfterEach, Room}
+use Rattle.room_tree.proofs.Common.{list_of, RepresentsRoom, HasPath, reads_one, same_or_other, if_same, if_other}
+use Rattle.room_tree.proofs.Common.{rules_put_entries, is_at_or_below, at_behind, not_both, LoadedObject, IsLoaded}
+use Rattle.room_tree.proofs.Common.{list_below, IsRenewed, IsRenewal, RenewsBelow, PutsList, ChangesFewRows}
+use Rattle.room_tree.proofs.Common.{puts_entries, puts_entries_of}
+use Rattle.std.proofs.Common.{count_by}
 use Rattle.std.proofs.lemmas.List.Folds.{list_any-append}
-use Rattle.std.proofs.Math.Bool.{or-true}
-use Rattle.room_acl.specs.Entries.{EntryModel}
-use Rattle.room_records.specs.declared.node.Node.{Node}
-use Rattle.room_records.specs.declared.change.Change.{Change}
-use Rattle.room_records.specs.declared.change.Change.TheVariants.{PutNode, DropNode, PutEntries, PutDoc, PutSession}
-use Rattle.room_records.specs.declared.change.Change.TheVariants.{PutSlot, DropSlots, PutNext}
-use Rattle.room_records.specs.Names.{Path}
-use Rattle.room_records.specs.Records.{ObjectRecords}
-use Rattle.room_records.specs.Rules.{ObjectRules}
-use Rattle.room_records.specs.Changes.{apply_to_objects, apply_all_to_objects, IsOfObjects, ObjectRulesHoldAfterEach}
-use Rattle.room_records.specs.Room.{Room, list_of}
-use Rattle.room_records.specs.Representation.{RepresentsRoom, HasPath}
-use Rattle.room_records.proofs.Paths.{reads_one}
-use Rattle.room_records.proofs.RulesKept.{same_or_other, if_same, if_other, rules_put_entries}
-use Rattle.room_commands.specs.Checks.{is_at_or_below}
-use Rattle.room_commands.proofs.Renaming.{at_behind}
-use Rattle.room_commands.proofs.RoomsRenamed.{not_both}
-use Rattle.room_tree.specs.declared.loaded.LoadedObject.{LoadedObject}
-use Rattle.room_tree.specs.LoadedObjects.{IsLoaded}
-use Rattle.room_tree.specs.Renewals.{list_below, IsRenewed, IsRenewal, RenewsBelow, PutsList, ChangesFewRows}
-use Rattle.room_tree.specs.Renewals.{puts_entries, puts_entries_of}
 use Rattle.room_tree.proofs.ListsRenewed.{lists_stay}
 use Rattle.room_tree.proofs.RowsReplaced.{path_of_node}
 use Rattle.room_tree.proofs.StoredLists.{node_at_path, stored_list}

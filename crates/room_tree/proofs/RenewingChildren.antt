@@ -1,27 +1,13 @@
 -- Renewal below a folder, one child after the other; and below what has nothing below it.
-use Rattle.std.proofs.lemmas.Grind.{common_steps}
-use Rattle.std.proofs.Common.{◌≡◌, ◌≢◌, ℕ, zero, suc, ◌+◌, ◌<◌, ◌≤◌, refl, ap, sym, ◌∙◌, subst, arith, ◌⊎◌}
-use Rattle.std.proofs.Common.{inl, inr, List, [], ◌∷◌, ◌++◌, take, drop, get_or, length, append-nil, append_assoc}
-use Rattle.std.proofs.Common.{length-append, Option, Some, unwrap_or}
-use Rattle.std.specs.List.{AllByRecursion, slice_index_or}
+use Rattle.room_tree.proofs.Common.{common_steps, ◌≡◌, ◌≢◌, ℕ, zero, suc, ◌+◌, ◌<◌, ◌≤◌, refl, ap, sym, ◌∙◌, subst}
+use Rattle.room_tree.proofs.Common.{arith, ◌⊎◌, inl, inr, List, [], ◌∷◌, ◌++◌, take, drop, get_or, length, append-nil}
+use Rattle.room_tree.proofs.Common.{append_assoc, length-append, Option, Some, unwrap_or, AllByRecursion}
+use Rattle.room_tree.proofs.Common.{slice_index_or, take_more, take_all, take-append-drop, EntryModel, File, Change}
+use Rattle.room_tree.proofs.Common.{Node, max_names, Name, Path, name_cmp, ObjectRecords, Object, Room, object_at}
+use Rattle.room_tree.proofs.Common.{HasPath, RepresentsRoom, AreChildren, InNameOrder, name_of, object_child}
+use Rattle.room_tree.proofs.Common.{object_at_node, path_of_object, path_parts, AddsRenewals, RenewsBelow}
 use Rattle.std.specs.declared.cmp.Ordering.TheVariants.{Less}
 use Rattle.std.proofs.lemmas.Cmp.{nat_list_cmp_total}
-use Rattle.std.proofs.lemmas.List.{take_more, take_all, take-append-drop}
-use Rattle.room_acl.specs.Entries.{EntryModel}
-use Rattle.room_acl.specs.declared.subject.Kind.TheVariants.{File}
-use Rattle.room_records.specs.declared.change.Change.{Change}
-use Rattle.room_records.specs.declared.node.Node.{Node}
-use Rattle.room_records.specs.Limits.{max_names}
-use Rattle.room_records.specs.Names.{Name, Path, name_cmp}
-use Rattle.room_records.specs.Records.{ObjectRecords}
-use Rattle.room_records.specs.Room.{Object, Room, object_at}
-use Rattle.room_records.specs.Representation.{HasPath, RepresentsRoom}
-use Rattle.room_records.specs.Shelf.{AreChildren, InNameOrder, name_of}
-use Rattle.room_records.proofs.Folders.{object_child}
-use Rattle.room_records.proofs.Paths.{object_at_node}
-use Rattle.room_records.proofs.RoomsMap.{path_of_object}
-use Rattle.room_records.proofs.PathParts.{path_parts}
-use Rattle.room_tree.specs.Renewals.{AddsRenewals, RenewsBelow}
 use Rattle.room_tree.proofs.Depths.{on_the_way, none_below_file}
 use Rattle.room_tree.proofs.RenewingParts.{Renews, renews_both, BeginsWith}
 use Rattle.room_tree.proofs.StoredLists.{node_at_path}

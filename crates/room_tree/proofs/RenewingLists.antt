@@ -1,10 +1,6 @@
 -- The lists below an object that gets another list, from one level to the next.
-use Rattle.std.proofs.Common.{◌≡◌, refl, ap, sym, ◌∙◌, List, [], ◌∷◌, ◌++◌, reverse, append_assoc}
-use Rattle.std.proofs.lemmas.List.{reverse-append, reverse-reverse}
-use Rattle.room_acl.specs.Entries.{EntryModel}
-use Rattle.room_records.specs.Names.{Name, Path}
-use Rattle.room_records.specs.Room.{Room, object_at, list_under}
-use Rattle.room_tree.specs.Renewals.{list_below}
+use Rattle.room_tree.proofs.Common.{◌≡◌, refl, ap, sym, ◌∙◌, List, [], ◌∷◌, ◌++◌, reverse, append_assoc, reverse-append}
+use Rattle.room_tree.proofs.Common.{reverse-reverse, EntryModel, Name, Path, Room, object_at, list_under, list_below}
 
 -- the list below a path is the list below a front of what is below, where that has its list below the path
 below_front : (room : Room) (path front : Path) (list : List EntryModel) (names : List Name)

@@ -1,26 +1,13 @@
 -- Renewal below a path, put together from parts: an object and what is below it, and one child after the other.
-use Rattle.std.proofs.Common.{◌≡◌, ◌≢◌, ℕ, ◌+◌, ◌≤◌, refl, ap, sym, ◌∙◌, subst, arith, Bool, true, false, cond, eqb}
-use Rattle.std.proofs.Common.{eq-eqb, ◌||◌, ◌⊎◌, inl, inr, List, [], ◌∷◌, ◌++◌, reverse, append_assoc}
-use Rattle.std.specs.Prelude.{Vec, IsTrue}
-use Rattle.std.specs.List.{AllByRecursion, count_by, list_any}
-use Rattle.std.specs.declared.alloc.Global.{Global}
-use Rattle.std.proofs.lemmas.Bool.{eqb-true}
-use Rattle.std.proofs.lemmas.List.{append_cancel_left}
-use Rattle.std.proofs.lemmas.List.Sums.{sum_by-cons, sum_by-append, count_by-le-length}
+use Rattle.room_tree.proofs.Common.{◌≡◌, ◌≢◌, ℕ, ◌+◌, ◌≤◌, refl, ap, sym, ◌∙◌, subst, arith, Bool, true, false, cond}
+use Rattle.room_tree.proofs.Common.{eqb, eq-eqb, ◌||◌, ◌⊎◌, inl, inr, List, [], ◌∷◌, ◌++◌, reverse, append_assoc, Vec}
+use Rattle.room_tree.proofs.Common.{IsTrue, AllByRecursion, count_by, list_any, Global, eqb-true, append_cancel_left}
+use Rattle.room_tree.proofs.Common.{sum_by-cons, sum_by-append, count_by-le-length, or-true, EntryModel, Change}
+use Rattle.room_tree.proofs.Common.{PutNode, DropNode, PutEntries, PutDoc, PutSession, PutSlot, DropSlots, PutNext}
+use Rattle.room_tree.proofs.Common.{Name, Path, ObjectRecords, ObjectRules, Room, list_of, HasPath, RepresentsRoom}
+use Rattle.room_tree.proofs.Common.{all_append, reads_one, list_below, IsRenewed, IsRenewal, RenewsBelow}
+use Rattle.room_tree.proofs.Common.{puts_entries_of}
 use Rattle.std.proofs.lemmas.List.Folds.{list_any-append}
-use Rattle.std.proofs.Math.Bool.{or-true}
-use Rattle.room_acl.specs.Entries.{EntryModel}
-use Rattle.room_records.specs.declared.change.Change.{Change}
-use Rattle.room_records.specs.declared.change.Change.TheVariants.{PutNode, DropNode, PutEntries, PutDoc, PutSession}
-use Rattle.room_records.specs.declared.change.Change.TheVariants.{PutSlot, DropSlots, PutNext}
-use Rattle.room_records.specs.Names.{Name, Path}
-use Rattle.room_records.specs.Records.{ObjectRecords}
-use Rattle.room_records.specs.Rules.{ObjectRules}
-use Rattle.room_records.specs.Room.{Room, list_of}
-use Rattle.room_records.specs.Representation.{HasPath, RepresentsRoom}
-use Rattle.room_records.proofs.Lists.{all_append}
-use Rattle.room_records.proofs.Paths.{reads_one}
-use Rattle.room_tree.specs.Renewals.{list_below, IsRenewed, IsRenewal, RenewsBelow, puts_entries_of}
 use Rattle.room_tree.proofs.Renewed.{one_if, split_renewals, put_found}
 use Rattle.room_tree.proofs.ListsRenewed.{lists_stay}
 use Rattle.room_tree.proofs.RenewingLists.{list_below_child}

@@ -1,27 +1,11 @@
 -- Replies that tell of a found object.
-use Rattle.std.proofs.lemmas.Grind.{common_steps}
-use Rattle.std.proofs.Common.{arith, ◌≡◌, ℕ, refl, ap, sym, ◌∙◌, List, [], ◌∷◌, map}
-use Rattle.std.specs.Prelude.{bit_and}
-use Rattle.std.specs.List.{AllByRecursion, filter_map, cons_option}
+use Rattle.room_tree.proofs.Common.{common_steps, arith, ◌≡◌, ℕ, refl, ap, sym, ◌∙◌, List, [], ◌∷◌, map, bit_and}
+use Rattle.room_tree.proofs.Common.{AllByRecursion, filter_map, cons_option, IsMask, EntryModel, SubjectModel}
+use Rattle.room_tree.proofs.Common.{allowed_mask, Node, Name, Path, ObjectRecords, IsChild, Room, list_of, standing_of}
+use Rattle.room_tree.proofs.Common.{listed, ObjectRules, pair_of, child_named, LoadedObject, ReplyModel, About, Entries}
+use Rattle.room_tree.proofs.Common.{Allowed, object_or_default, attributes_of, size_of, or_no_object, IsLoaded, node_of}
 use Rattle.std.specs.Option.{option_map}
 use Rattle.std.proofs.lemmas.Nat.{and_assoc, and_comm}
-use Rattle.room_acl.specs.Bits.{IsMask}
-use Rattle.room_acl.specs.Entries.{EntryModel}
-use Rattle.room_acl.specs.SubjectModel.{SubjectModel}
-use Rattle.room_acl.specs.Access.{allowed_mask}
-use Rattle.room_records.specs.declared.node.Node.{Node}
-use Rattle.room_records.specs.Names.{Name, Path}
-use Rattle.room_records.specs.Records.{ObjectRecords, IsChild}
-use Rattle.room_records.specs.Room.{Room, list_of, standing_of}
-use Rattle.room_records.specs.Shelf.{listed}
-use Rattle.room_records.specs.Rules.{ObjectRules}
-use Rattle.room_records.proofs.Folders.{pair_of, child_named}
-use Rattle.room_tree.specs.declared.loaded.LoadedObject.{LoadedObject}
-use Rattle.room_commands.specs.ReplyModel.{ReplyModel, About, Entries, Allowed}
-use Rattle.room_commands.specs.Checks.{object_or_default}
-use Rattle.room_commands.specs.Effect.{attributes_of, size_of}
-use Rattle.room_commands.proofs.Shorthands.{or_no_object}
-use Rattle.room_tree.specs.LoadedObjects.{IsLoaded, node_of}
 use Rattle.room_tree.proofs.Checking.{there}
 
 abbrev pub stat_of : Node → ℕ → ReplyModel

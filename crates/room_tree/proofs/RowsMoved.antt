@@ -1,29 +1,14 @@
 -- Rows where one node has another folder and name stand for the room with its subtree moved.
-use Rattle.std.proofs.lemmas.Grind.{common_steps}
-use Rattle.std.proofs.Common.{◌≡◌, ◌≢◌, ℕ, ◌+◌, refl, ap, sym, ◌∙◌, arith, Bool, true, false, cond, ◌⊎◌, inl}
-use Rattle.std.proofs.Common.{inr, List, [], ◌∷◌, ◌++◌, map, reverse, length, drop, append_assoc, append-nil}
-use Rattle.std.proofs.Common.{Option, None, Some, unwrap_or}
-use Rattle.std.proofs.lemmas.List.{reverse-append, reverse-reverse, drop-append-le, drop_all, same_from_push}
-use Rattle.room_acl.specs.declared.subject.Kind.TheVariants.{Folder}
-use Rattle.room_acl.specs.Entries.{EntryModel}
-use Rattle.room_records.specs.declared.node.Node.{Node}
-use Rattle.room_records.specs.declared.change.Change.TheVariants.{PutNode}
-use Rattle.room_records.specs.Names.{Name, Path, IsFileName}
-use Rattle.room_records.specs.Records.{ObjectRecords}
-use Rattle.room_records.specs.Rules.{ObjectRules}
-use Rattle.room_records.specs.Changes.{apply_to_objects, apply_all_to_objects, ObjectRulesHoldAfterEach}
-use Rattle.room_records.specs.Room.{Object, Room, IsRoom, object_at, list_of}
-use Rattle.room_records.specs.Representation.{RepresentsRoom, NodeIsObject, HasPath, NamesUpwards}
-use Rattle.room_records.proofs.Paths.{reads_one, object_at_node}
-use Rattle.room_records.proofs.RoomsMap.{some_is, ends}
-use Rattle.room_records.proofs.RulesKept.{same_or_other, if_same, if_other, shape_itself, names_by_shape}
-use Rattle.room_commands.specs.Checks.{is_at_or_below}
-use Rattle.room_commands.specs.Effect.{renamed, moved}
-use Rattle.room_commands.proofs.Renaming.{at_behind}
-use Rattle.room_commands.proofs.RoomsNew.{same_or_other_path}
-use Rattle.room_commands.proofs.RoomsRenamed.{rest_below, not_both, at_moved, Stands, Moved}
-use Rattle.room_commands.proofs.RoomsRenamed.{Stayed, stands_after}
-use Rattle.room_tree.specs.Renewals.{list_below}
+use Rattle.room_tree.proofs.Common.{common_steps, ◌≡◌, ◌≢◌, ℕ, ◌+◌, refl, ap, sym, ◌∙◌, arith, Bool, true, false, cond}
+use Rattle.room_tree.proofs.Common.{◌⊎◌, inl, inr, List, [], ◌∷◌, ◌++◌, map, reverse, length, drop, append_assoc}
+use Rattle.room_tree.proofs.Common.{append-nil, Option, None, Some, unwrap_or, reverse-append, reverse-reverse}
+use Rattle.room_tree.proofs.Common.{drop-append-le, drop_all, same_from_push, Folder, EntryModel, Node, PutNode, Name}
+use Rattle.room_tree.proofs.Common.{Path, IsFileName, ObjectRecords, ObjectRules, apply_to_objects}
+use Rattle.room_tree.proofs.Common.{apply_all_to_objects, ObjectRulesHoldAfterEach, Object, Room, IsRoom, object_at}
+use Rattle.room_tree.proofs.Common.{list_of, RepresentsRoom, NodeIsObject, HasPath, NamesUpwards, reads_one}
+use Rattle.room_tree.proofs.Common.{object_at_node, some_is, ends, same_or_other, if_same, if_other, shape_itself}
+use Rattle.room_tree.proofs.Common.{names_by_shape, is_at_or_below, renamed, moved, at_behind, same_or_other_path}
+use Rattle.room_tree.proofs.Common.{rest_below, not_both, at_moved, Stands, Moved, Stayed, stands_after, list_below}
 use Rattle.room_tree.proofs.ListsMoved.{list_of_stayed, lists_of_moved}
 use Rattle.room_tree.proofs.Renewed.{Puts, put, Relists, nodes_stay, documents_stay, next_stays, relisted_at}
 use Rattle.room_tree.proofs.Renewed.{relisted_off, relisted_rules}

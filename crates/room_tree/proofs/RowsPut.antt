@@ -1,20 +1,9 @@
 -- A row put where its place is free.
-use Rattle.std.proofs.lemmas.Grind.{common_steps}
-use Rattle.std.proofs.Common.{◌≡◌, ◌≢◌, ℕ, ◌<◌, ◌≤◌, refl, ap, sym, ◌∙◌, arith, ◌⊎◌, inl, inr, []}
-use Rattle.std.proofs.Common.{◌∷◌, ◌++◌, None, Some}
-use Rattle.std.specs.List.{AllByRecursion}
-use Rattle.room_acl.specs.declared.subject.Kind.TheVariants.{Folder}
-use Rattle.room_records.specs.declared.node.Node.{Node}
-use Rattle.room_records.specs.declared.change.Change.TheVariants.{PutNode}
-use Rattle.room_records.specs.Names.{Name, Path, IsFileName}
-use Rattle.room_records.specs.Records.{ObjectRecords, IsChild}
-use Rattle.room_records.specs.Rules.{NodeRules, ObjectRules}
-use Rattle.room_records.specs.Changes.{apply_to_objects}
-use Rattle.room_records.specs.Room.{Room, object_at}
-use Rattle.room_records.specs.Representation.{RepresentsRoom, HasPath}
-use Rattle.room_records.proofs.Paths.{child_is_at, object_at_node}
-use Rattle.room_records.proofs.RoomsMap.{none_is_some}
-use Rattle.room_records.proofs.RulesKept.{same_or_other, if_same, if_other}
+use Rattle.room_tree.proofs.Common.{common_steps, ◌≡◌, ◌≢◌, ℕ, ◌<◌, ◌≤◌, refl, ap, sym, ◌∙◌, arith, ◌⊎◌, inl, inr, []}
+use Rattle.room_tree.proofs.Common.{◌∷◌, ◌++◌, None, Some, AllByRecursion, Folder, Node, PutNode, Name, Path}
+use Rattle.room_tree.proofs.Common.{IsFileName, ObjectRecords, IsChild, NodeRules, ObjectRules, apply_to_objects, Room}
+use Rattle.room_tree.proofs.Common.{object_at, RepresentsRoom, HasPath, child_is_at, object_at_node, none_is_some}
+use Rattle.room_tree.proofs.Common.{same_or_other, if_same, if_other}
 
 -- a row in a folder that has not its name, of a number that is free, or whose object keeps its kind
 pub record IsFree (t : ObjectRecords) (node : Node) (above : ℕ) (name : Name) : Type 0 where

@@ -1,33 +1,16 @@
 -- Rows without one node stand for the room without its object.
-use Rattle.std.proofs.lemmas.Grind.{common_steps}
-use Rattle.std.proofs.Common.{arith, ◌≡◌, ◌≢◌, ℕ, refl, ap, sym, ◌∙◌, inl, inr, List, [], ◌∷◌, ◌++◌, reverse, length}
-use Rattle.std.proofs.Common.{None, Some, IsSome, IsNone, false, append-nil, append_assoc}
-use Rattle.room_records.specs.declared.node.Node.{Node}
-use Rattle.room_records.specs.declared.change.Change.TheVariants.{DropNode}
-use Rattle.room_records.specs.Names.{Name, Path, IsPath}
-use Rattle.room_records.specs.Records.{ObjectRecords, IsChild}
-use Rattle.room_records.specs.Rules.{NodeRules, ObjectRules}
-use Rattle.room_records.specs.Changes.{apply_to_objects}
-use Rattle.room_records.specs.Shelf.{name_of}
-use Rattle.room_records.specs.Room.{Object, Room, IsRoom, object_at, children, list_of}
-use Rattle.room_records.specs.Representation.{RepresentsRoom, NodeIsObject, HasPath, NamesUpwards}
-use Rattle.room_records.proofs.Folders.{child_named}
-use Rattle.room_records.proofs.Paths.{reads_one, child_is_at, object_at_node}
-use Rattle.room_records.proofs.RoomsMap.{none_is_some, Ends, nothing_below}
-use Rattle.room_records.proofs.RoomsLists.{lists_by_objects_above}
-use Rattle.room_records.proofs.RoomsChildren.{nothing_in_empty}
-use Rattle.room_records.proofs.RulesKept.{same_or_other, if_same, if_other, some_or_none}
+use Rattle.room_tree.proofs.Common.{common_steps, arith, ◌≡◌, ◌≢◌, ℕ, refl, ap, sym, ◌∙◌, inl, inr, List, [], ◌∷◌, ◌++◌}
+use Rattle.room_tree.proofs.Common.{reverse, length, None, Some, IsSome, IsNone, false, append-nil, append_assoc, Node}
+use Rattle.room_tree.proofs.Common.{DropNode, Name, Path, IsPath, ObjectRecords, IsChild, NodeRules, ObjectRules}
+use Rattle.room_tree.proofs.Common.{apply_to_objects, name_of, Object, Room, IsRoom, object_at, children, list_of}
+use Rattle.room_tree.proofs.Common.{RepresentsRoom, NodeIsObject, HasPath, NamesUpwards, child_named, reads_one}
+use Rattle.room_tree.proofs.Common.{child_is_at, object_at_node, none_is_some, Ends, nothing_below}
+use Rattle.room_tree.proofs.Common.{lists_by_objects_above, nothing_in_empty, same_or_other, if_same, if_other}
+use Rattle.room_tree.proofs.Common.{some_or_none, LoadedObject, Outcome, first_refusal, checks, is_root, without}
+use Rattle.room_tree.proofs.Common.{IsLoaded, node_of, PlansEffect, Done, reply_model, SubjectModel, changed_is_room}
+use Rattle.room_tree.proofs.Common.{not_root_ends}
 use Rattle.room_commands.specs.CommandModel as C
-use Rattle.room_tree.specs.declared.loaded.LoadedObject.{LoadedObject}
-use Rattle.room_tree.specs.declared.planning.Outcome.{Outcome}
-use Rattle.room_commands.specs.Checks.{first_refusal, checks, is_root}
-use Rattle.room_commands.specs.Effect.{without}
-use Rattle.room_tree.specs.LoadedObjects.{IsLoaded, node_of}
-use Rattle.room_tree.specs.Plans.{PlansEffect}
-use Rattle.room_commands.specs.ReplyModel.{Done, reply_model}
-use Rattle.room_acl.specs.SubjectModel.{SubjectModel}
 use Rattle.room_tree.proofs.FewRows.{few_one}
-use Rattle.room_commands.proofs.EffectIsRoom.{changed_is_room, not_root_ends}
 use Rattle.room_tree.proofs.Outcomes.{success_plans, none_and_some}
 use Rattle.room_commands.proofs.RoomsWithout.{at_removed, elsewhere_left, left_was_there}
 use Rattle.room_tree.proofs.RowsReplaced.{path_of_node, still_shows}

@@ -1,21 +1,9 @@
 -- Rows where one node changed stand for the room where its object did, and each object is where it went.
-use Rattle.std.proofs.lemmas.Grind.{common_steps}
-use Rattle.std.proofs.Common.{arith, ◌≡◌, ◌≢◌, ℕ, ◌+◌, refl, ap, sym, ◌∙◌, ◌⊎◌, inl, inr}
-use Rattle.std.proofs.Common.{reverse, Some, IsSome, IsNone, option_map, true, false}
-use Rattle.std.proofs.lemmas.List.{reverse-reverse}
-use Rattle.room_records.specs.declared.node.Node.{Node}
-use Rattle.room_records.specs.Limits.{max_objects}
-use Rattle.room_records.specs.Names.{Path}
-use Rattle.room_records.specs.Records.{ObjectRecords}
-use Rattle.room_records.specs.Rules.{ObjectRules}
-use Rattle.room_records.specs.Room.{Object, Room, IsRoom, object_at, list_of}
-use Rattle.room_records.specs.Representation.{RepresentsRoom, NodeIsObject, RowsShowObject, HasPath}
-use Rattle.room_records.proofs.Paths.{reads_one, one_path}
-use Rattle.room_records.proofs.RoomsMap.{some_is}
-use Rattle.room_records.proofs.RulesKept.{same_or_other}
-use Rattle.room_commands.specs.Effect.{with_object}
-use Rattle.room_commands.proofs.RoomsNew.{same_or_other_path}
-use Rattle.room_commands.proofs.RoomsObject.{at_changed, elsewhere_unchanged}
+use Rattle.room_tree.proofs.Common.{common_steps, arith, ◌≡◌, ◌≢◌, ℕ, ◌+◌, refl, ap, sym, ◌∙◌, ◌⊎◌, inl, inr, reverse}
+use Rattle.room_tree.proofs.Common.{Some, IsSome, IsNone, option_map, true, false, reverse-reverse, Node, max_objects}
+use Rattle.room_tree.proofs.Common.{Path, ObjectRecords, ObjectRules, Object, Room, IsRoom, object_at, list_of}
+use Rattle.room_tree.proofs.Common.{RepresentsRoom, NodeIsObject, RowsShowObject, HasPath, reads_one, one_path, some_is}
+use Rattle.room_tree.proofs.Common.{same_or_other, with_object, same_or_other_path, at_changed, elsewhere_unchanged}
 
 -- a node has one path
 pub path_of_node : (t : ObjectRecords) → ObjectRules t → (a b : Path) (id : ℕ) → HasPath t a id → HasPath t b id → a ≡ b

@@ -1,8 +1,7 @@
 -- Stops handed on.
-use Rattle.std.proofs.Common.{◌≡◌, sym, ◌∙◌, subst, Result, Ok, Err, List, ◌∷◌, ◌++◌, Option, None, Some}
+use Rattle.room_tree.proofs.Common.{◌≡◌, sym, ◌∙◌, subst, Result, Ok, Err, List, ◌∷◌, ◌++◌, Option, None, Some, Refusal}
+use Rattle.room_tree.proofs.Common.{first_refusal}
 use Rattle.std.specs.Result.{IsErrAnd}
-use Rattle.room_commands.specs.ReplyModel.{Refusal}
-use Rattle.room_commands.specs.Checks.{first_refusal}
 use Rattle.room_tree.specs.declared.refusal.Stop.{Stop}
 use Rattle.room_tree.specs.declared.refusal.Stop.TheVariants.{Refused, Shelf}
 use Rattle.room_tree.specs.Stops.{Stopped, OrStopped, Passes}

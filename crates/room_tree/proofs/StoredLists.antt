@@ -1,17 +1,8 @@
 -- The rows of entries of a node hold its list; and what a list does not depend on.
-use Rattle.std.proofs.lemmas.Grind.{common_steps}
-use Rattle.std.proofs.Common.{arith, ◌≡◌, ℕ, refl, ap, sym, ◌∙◌, inl, inr, List, [], ◌∷◌, reverse}
-use Rattle.std.proofs.Common.{Option, None, Some, IsSome, option_map}
-use Rattle.std.proofs.lemmas.List.{reverse-append}
-use Rattle.room_acl.specs.declared.subject.Kind.{Kind}
-use Rattle.room_acl.specs.Entries.{EntryModel}
-use Rattle.room_acl.specs.Inheritance.{with_inherited}
-use Rattle.room_records.specs.declared.node.Node.{Node}
-use Rattle.room_records.specs.Names.{Name, Path}
-use Rattle.room_records.specs.Records.{ObjectRecords}
-use Rattle.room_records.specs.Room.{Object, Room, object_at, list_of, list_upwards, list_under, root_list}
-use Rattle.room_records.specs.Representation.{HasPath, RepresentsRoom}
-use Rattle.room_records.proofs.Paths.{object_at_node}
+use Rattle.room_tree.proofs.Common.{common_steps, arith, ◌≡◌, ℕ, refl, ap, sym, ◌∙◌, inl, inr, List, [], ◌∷◌, reverse}
+use Rattle.room_tree.proofs.Common.{Option, None, Some, IsSome, option_map, reverse-append, Kind, EntryModel}
+use Rattle.room_tree.proofs.Common.{with_inherited, Node, Name, Path, ObjectRecords, Object, Room, object_at, list_of}
+use Rattle.room_tree.proofs.Common.{list_upwards, list_under, root_list, HasPath, RepresentsRoom, object_at_node}
 use Rattle.room_tree.proofs.OwnPart.{root_or_below}
 
 pub is_present : {X : Type 0} (o : Option X) → IsSome o → (x : X) × (o ≡ Some x)

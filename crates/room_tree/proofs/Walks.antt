@@ -1,19 +1,13 @@
 -- The walk of a path, one folder after another.
-use Rattle.std.proofs.lemmas.Grind.{common_steps}
-use Rattle.std.proofs.Common.{◌≡◌, ℕ, ◌+◌, ◌<◌, ◌≤◌, refl, ap, sym, ◌∙◌, subst, List, [], ◌∷◌, ◌++◌, map, take, drop}
-use Rattle.std.proofs.Common.{length, get_or, append_assoc, arith, Option, None, Some}
-use Rattle.std.specs.Prelude.{not, is_some}
-use Rattle.std.proofs.lemmas.List.{take_more, drop_more, drop_all, take_all, append-nil}
-use Rattle.room_acl.specs.SubjectModel.{SubjectModel}
-use Rattle.room_records.specs.Names.{Name, Path}
-use Rattle.room_records.specs.Room.{Object, Room, object_at, parent_of}
-use Rattle.room_commands.specs.declared.reply.RefusalCode.TheVariants.{NoEnt}
-use Rattle.room_commands.specs.ReplyModel.{Refusal}
+use Rattle.room_tree.proofs.Common.{common_steps, ◌≡◌, ℕ, ◌+◌, ◌<◌, ◌≤◌, refl, ap, sym, ◌∙◌, subst, List, [], ◌∷◌, ◌++◌}
+use Rattle.room_tree.proofs.Common.{map, take, drop, length, get_or, append_assoc, arith, Option, None, Some, not}
+use Rattle.room_tree.proofs.Common.{is_some, take_more, drop_more, drop_all, take_all, append-nil, SubjectModel, Name}
+use Rattle.room_tree.proofs.Common.{Path, Object, Room, object_at, parent_of, NoEnt, Refusal, refuse_if}
+use Rattle.room_tree.proofs.Common.{refusal_without_place, first_refusal, check_folder, check_right, prefix_refusal}
+use Rattle.room_tree.proofs.Common.{proper_prefixes, walk}
 use Rattle.room_tree.specs.declared.refusal.Stop.{Stop}
 use Rattle.room_tree.specs.declared.refusal.Stop.TheVariants.{Refused, Shelf}
 use Rattle.room_tree.specs.Stops.{Stopped}
-use Rattle.room_commands.specs.Checks.{refuse_if, refusal_without_place, first_refusal, check_folder, check_right}
-use Rattle.room_commands.specs.Checks.{prefix_refusal, proper_prefixes, walk}
 use Rattle.room_tree.proofs.Checking.{skip}
 
 -- the first fault from this front on

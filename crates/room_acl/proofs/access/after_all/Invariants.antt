@@ -1,4 +1,4 @@
-use Rattle.std.proofs.Common.{drop}
+use Rattle.room_acl.proofs.Common.{drop}
 use Rattle.room_acl.proofs.Steps.{Walked}
 use Rattle.room_acl.proofs.access.after_all.Given as goal
 

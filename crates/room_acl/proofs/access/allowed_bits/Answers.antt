@@ -1,6 +1,4 @@
-use Rattle.std.proofs.Common.{subst, sym, ◌∙◌}
-use Rattle.room_acl.specs.Bits.{IsMask}
-use Rattle.room_acl.specs.Access.{allows_bit}
+use Rattle.room_acl.proofs.Common.{subst, sym, ◌∙◌, IsMask, allows_bit}
 use Rattle.room_acl.proofs.BitTests.{rights_but_refused, IsMask-mask_of}
 use Rattle.room_acl.proofs.Decisions.{rights_in_words}
 use Rattle.room_acl.proofs.access.allowed_bits.Goals as goal

@@ -1,4 +1,4 @@
-use Rattle.std.proofs.Common.{◌∙◌}
+use Rattle.room_acl.proofs.Common.{◌∙◌}
 use Rattle.room_acl.proofs.Decisions.{allowed_in_words, denied_in_words}
 use Rattle.room_acl.proofs.access.decide.Goals as goal
 

@@ -1,6 +1,4 @@
-use Rattle.std.proofs.Common.{ap, sym, ◌∙◌}
-use Rattle.std.specs.Prelude.{◌&&◌, not}
-use Rattle.room_acl.specs.Bits.{has_bit, owner_rights}
+use Rattle.room_acl.proofs.Common.{ap, sym, ◌∙◌, ◌&&◌, not, has_bit, owner_rights}
 use Rattle.room_acl.proofs.BitTests.{has_bit-without}
 use Rattle.room_acl.proofs.Steps.{IsMask-without}
 use Rattle.room_acl.proofs.access.left_to_entries.Goals as goal

@@ -1,4 +1,4 @@
-use Rattle.std.proofs.Common.{◌≡◌, take}
+use Rattle.room_acl.proofs.Common.{◌≡◌, take}
 use Rattle.room_acl.proofs.entry.copy_entries.Given as goal
 
 -- the entries copied so far

@@ -1,4 +1,4 @@
-use Rattle.std.proofs.Common.{◌≡◌, take}
+use Rattle.room_acl.proofs.Common.{◌≡◌, take}
 use Rattle.room_acl.proofs.entry.same_entries.Given as goal
 
 -- the entries so far are the same

@@ -1,5 +1,4 @@
-use Rattle.std.proofs.Common.{ap, sym, ◌∙◌}
-use Rattle.room_acl.specs.Bits.{identifier_group}
+use Rattle.room_acl.proofs.Common.{ap, sym, ◌∙◌, identifier_group}
 use Rattle.room_acl.proofs.Travelling.{row_is_given}
 use Rattle.room_acl.proofs.inheritance.given_flags.Goals as goal
 

@@ -1,5 +1,4 @@
-use Rattle.std.proofs.Common.{◌≡◌, ◌++◌, drop}
-use Rattle.room_acl.specs.Inheritance.{handed_down}
+use Rattle.room_acl.proofs.Common.{◌≡◌, ◌++◌, drop, handed_down}
 use Rattle.room_acl.proofs.inheritance.hand_down.Given as goal
 
 -- what was given so far, and what the rest gives, is what the whole list gives

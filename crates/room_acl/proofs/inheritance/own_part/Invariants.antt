@@ -1,5 +1,4 @@
-use Rattle.std.proofs.Common.{◌≡◌, ◌++◌, drop}
-use Rattle.room_acl.specs.Inheritance.{own_part}
+use Rattle.room_acl.proofs.Common.{◌≡◌, ◌++◌, drop, own_part}
 use Rattle.room_acl.proofs.inheritance.own_part.Given as goal
 
 -- what was kept so far, and what is kept of the rest

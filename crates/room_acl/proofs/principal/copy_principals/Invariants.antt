@@ -1,4 +1,4 @@
-use Rattle.std.proofs.Common.{◌≡◌, take}
+use Rattle.room_acl.proofs.Common.{◌≡◌, take}
 use Rattle.room_acl.proofs.principal.copy_principals.Given as goal
 
 -- the names copied so far

@@ -1,4 +1,4 @@
-use Rattle.room_records.proofs.RoomsChildren.{listed_is_there, there_is_listed, children_rise}
+use Rattle.room_commands.proofs.Common.{listed_is_there, there_is_listed, children_rise}
 use Rattle.room_commands.proofs.laws.a_folder_names_what_is_in_it.Goals as goal
 
 pub returns-clause-names : goal.returns-clause-names

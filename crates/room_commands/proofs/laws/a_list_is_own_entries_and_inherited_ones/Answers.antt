@@ -1,4 +1,4 @@
-use Rattle.room_records.proofs.RoomsLists.{list_of_root, list_of_child, lists_by_objects_above}
+use Rattle.room_commands.proofs.Common.{list_of_root, list_of_child, lists_by_objects_above}
 use Rattle.room_commands.proofs.laws.a_list_is_own_entries_and_inherited_ones.Goals as goal
 
 pub returns-clause-root : goal.returns-clause-root

@@ -1,4 +1,4 @@
-use Rattle.room_commands.specs.Checks.{first_refusal, checks}
+use Rattle.room_commands.proofs.Common.{first_refusal, checks}
 use Rattle.room_commands.specs.CommandModel as C
 use Rattle.room_commands.proofs.ListsUnseen.{unseen_setlist, unseen_chown}
 use Rattle.room_commands.proofs.laws.a_list_unseen_does_not_show.Goals as goal

@@ -1,8 +1,5 @@
-use Rattle.std.proofs.Common.{sym}
-use Rattle.std.proofs.lemmas.Bool.{or_left, or_right}
+use Rattle.room_commands.proofs.Common.{sym, or_left, or_right, paths_of, effect}
 use Rattle.room_commands.proofs.NamesUnseen.{NameUnseen, shown_unlisted, shown_unnamed, answered_unnamed}
-use Rattle.room_commands.specs.CommandModel.{paths_of}
-use Rattle.room_commands.specs.Effect.{effect}
 use Rattle.room_commands.proofs.laws.names_unseen_do_not_show.Goals as goal
 
 pub returns-clause-unlisted : goal.returns-clause-unlisted

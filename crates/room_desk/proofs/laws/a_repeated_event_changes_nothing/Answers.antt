@@ -1,7 +1,7 @@
 use Rattle.room_desk.proofs.Idle.{state_after_idle}
 use Rattle.room_desk.proofs.Alike.{stand_after_idle}
 use Rattle.room_desk.proofs.Repeats.{again_is_idle, same_answer_again, uncached_again}
-use Rattle.std.proofs.Common.{◌∷◌}
+use Rattle.room_desk.proofs.Common.{◌∷◌}
 use Rattle.room_desk.proofs.laws.a_repeated_event_changes_nothing.Goals as goal
 
 pub returns-clause-answer : goal.returns-clause-answer

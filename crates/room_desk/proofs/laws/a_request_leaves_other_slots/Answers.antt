@@ -1,5 +1,5 @@
 use Rattle.room_desk.proofs.Numbers.{other_slots_stay}
-use Rattle.room_wire.specs.Asks.EventModel.{Slot}
+use Rattle.room_desk.proofs.Common.{Slot}
 use Rattle.room_desk.proofs.Idle.{accepted_after_idle}
 use Rattle.room_desk.proofs.laws.a_request_leaves_other_slots.Goals as goal
 

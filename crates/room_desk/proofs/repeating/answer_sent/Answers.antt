@@ -1,8 +1,5 @@
-use Rattle.std.proofs.Common.{Some, sym, subst}
+use Rattle.room_desk.proofs.Common.{Some, sym, subst, event_asked, sent_event, Refused, Answered}
 use Rattle.room_wire.specs.declared.answers.code.Code.{Code}
-use Rattle.room_wire.specs.Asks.AskOf.{event_asked, sent_event}
-use Rattle.room_desk.specs.AnswerModel.{Refused}
-use Rattle.room_desk.specs.Serving.{Answered}
 use Rattle.room_desk.proofs.Sent.{answered_by_kept, delayed_by_read, refused_after_read, tried_by_found}
 use Rattle.room_desk.proofs.Trying.{answered_ok}
 use Rattle.room_desk.proofs.repeating.answer_sent.Goals as goal

@@ -1,6 +1,4 @@
-use Rattle.std.proofs.Common.{◌∙◌, sym, subst}
-use Rattle.room_wire.specs.Asks.EventModel.{Slot}
-use Rattle.room_desk.specs.History.{state_after}
+use Rattle.room_desk.proofs.Common.{◌∙◌, sym, subst, Slot, state_after}
 use Rattle.room_desk.proofs.Acceptance.{stand_after_run}
 use Rattle.room_desk.proofs.Found.{Says, said}
 use Rattle.room_desk.proofs.Idle.{refused_is_idle}

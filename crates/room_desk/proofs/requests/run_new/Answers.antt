@@ -1,4 +1,4 @@
-use Rattle.std.proofs.Common.{◌∙◌}
+use Rattle.room_desk.proofs.Common.{◌∙◌}
 use Rattle.room_desk.proofs.Crashes.{leaves_either}
 use Rattle.room_desk.proofs.Faults.{memory_after, passed_on}
 use Rattle.room_desk.proofs.Running.{commits}

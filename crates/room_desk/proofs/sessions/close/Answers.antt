@@ -1,7 +1,5 @@
-use Rattle.std.proofs.Common.{◌≡◌, ◌∙◌, refl, sym, inl, inr, Some}
-use Rattle.std.proofs.lemmas.Bool.{both_ways, cases_Bool}
-use Rattle.room_records.specs.Shelf.{ShelfRead, fault_in}
-use Rattle.room_wire.specs.Asks.EventModel.{Close}
+use Rattle.room_desk.proofs.Common.{◌≡◌, ◌∙◌, refl, sym, inl, inr, Some, both_ways, cases_Bool, ShelfRead, fault_in}
+use Rattle.room_desk.proofs.Common.{Close}
 use Rattle.room_desk.proofs.Answers.{close_owned, close_refused}
 use Rattle.room_desk.proofs.Closing.{put_rules, all_rules, changes_if_open, close_stands}
 use Rattle.room_desk.proofs.Crashes.{leaves_either}

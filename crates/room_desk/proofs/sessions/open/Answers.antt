@@ -1,4 +1,4 @@
-use Rattle.std.proofs.Common.{◌≡◌, ◌∙◌, refl, sym, None}
+use Rattle.room_desk.proofs.Common.{◌≡◌, ◌∙◌, refl, sym, None}
 use Rattle.room_desk.proofs.Opening.{open_answer, open_rules, open_stands}
 use Rattle.room_desk.proofs.Results.{if_ok_then, if_ok_both}
 use Rattle.room_desk.proofs.Trying.{tried_after_read, joins_by_commit}

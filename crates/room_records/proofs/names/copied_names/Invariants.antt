@@ -1,4 +1,4 @@
-use Rattle.std.proofs.Common.{◌≡◌, take}
+use Rattle.room_records.proofs.Common.{◌≡◌, take}
 use Rattle.room_records.proofs.names.copied_names.Given as goal
 
 abbrev pub invariant-loop-name : goal.invariant-loop-name

@@ -1,7 +1,6 @@
-use Rattle.std.proofs.Common.{arith}
+use Rattle.room_records.proofs.Common.{arith, is_file_name}
 use Rattle.std.proofs.lemmas.Bool.Decides.{nat_tests}
 use Rattle.std.proofs.lemmas.Str.{is_utf8-from_IsUtf8}
-use Rattle.room_records.specs.Names.{is_file_name}
 use Rattle.room_records.proofs.names.is_file_name.Goals as goal
 
 pub returns-then-ne : goal.returns-then-ne

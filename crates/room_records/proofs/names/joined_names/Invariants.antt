@@ -1,6 +1,4 @@
-use Rattle.std.proofs.Common.{◌≡◌, ◌∷◌, take}
-use Rattle.std.specs.Prelude.{string_bytes}
-use Rattle.std.specs.List.{flat_map}
+use Rattle.room_records.proofs.Common.{◌≡◌, ◌∷◌, take, string_bytes, flat_map}
 use Rattle.room_records.proofs.names.joined_names.Given as goal
 
 abbrev pub invariant-loop-name : goal.invariant-loop-name

@@ -1,7 +1,5 @@
-use Rattle.std.proofs.Common.{ℕ, List, ◌∷◌, [], map, get_or, length, ◌<◌, Bor, suc, zero, arith, refl, ap, subst, ◌∙◌}
-use Rattle.std.proofs.lemmas.List.{length-map, take_all}
-use Rattle.std.specs.List.{AllByRecursion}
-use Rattle.room_records.specs.Names.{IsFileName}
+use Rattle.room_records.proofs.Common.{ℕ, List, ◌∷◌, [], map, get_or, length, ◌<◌, Bor, suc, zero, arith, refl, ap}
+use Rattle.room_records.proofs.Common.{subst, ◌∙◌, length-map, take_all, AllByRecursion, IsFileName}
 use Rattle.room_records.proofs.Options.{none_is_not_some}
 use Rattle.room_records.proofs.PathParts.{path_parts, path_of_names}
 use Rattle.room_records.proofs.names.read_names.Goals as goal

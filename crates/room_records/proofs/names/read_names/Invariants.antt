@@ -1,6 +1,4 @@
-use Rattle.std.proofs.Common.{◌≡◌, take, map}
-use Rattle.std.specs.List.{AllByRecursion}
-use Rattle.room_records.specs.Names.{IsFileName}
+use Rattle.room_records.proofs.Common.{◌≡◌, take, map, AllByRecursion, IsFileName}
 use Rattle.room_records.proofs.names.read_names.Given as goal
 
 abbrev pub invariant-loop-part : goal.invariant-loop-part

@@ -1,4 +1,4 @@
-use Rattle.std.proofs.Common.{◌≡◌, take}
+use Rattle.room_records.proofs.Common.{◌≡◌, take}
 use Rattle.room_records.proofs.node.copy_names.Given as goal
 
 -- the names so far

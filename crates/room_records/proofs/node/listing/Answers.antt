@@ -1,11 +1,6 @@
-use Rattle.std.proofs.Common.{◌≡◌, refl, sym, ◌∙◌, Option, Some, None, List, [], ◌∷◌, ◌++◌, append-nil}
-use Rattle.std.specs.List.{filter_map, cons_option}
-use Rattle.std.specs.Option.{option_map}
+use Rattle.room_records.proofs.Common.{◌≡◌, refl, sym, ◌∙◌, Option, Some, None, List, [], ◌∷◌, ◌++◌, append-nil}
+use Rattle.room_records.proofs.Common.{filter_map, cons_option, option_map, Kind, Node, Name, listed}
 use Rattle.std.proofs.lemmas.List.Elements.{filter_map-append}
-use Rattle.room_acl.specs.declared.subject.Kind.{Kind}
-use Rattle.room_records.specs.declared.node.Node.{Node}
-use Rattle.room_records.specs.Names.{Name}
-use Rattle.room_records.specs.Shelf.{listed}
 use Rattle.room_records.proofs.node.listing.Goals as goal
 use Rattle.room_records.proofs.node.listing.Goals.{in-Some-name+in_ok-push, in_default}
 

@@ -1,9 +1,5 @@
-use Rattle.std.proofs.Common.{◌≡◌, ◌<◌, ℕ, List, refl, sym, take, drop, get_or, suc, ◌∷◌, drop-cons, length}
-use Rattle.std.proofs.Common.{length-take, arith}
-use Rattle.std.specs.declared.cmp.Ordering.TheVariants.{Less, Equal}
-use Rattle.std.proofs.lemmas.List.{take-append-drop}
-use Rattle.room_acl.specs.SubjectModel.{SubjectModel}
-use Rattle.room_records.specs.Names.{name_cmp}
+use Rattle.room_records.proofs.Common.{◌≡◌, ◌<◌, ℕ, List, refl, sym, take, drop, get_or, suc, ◌∷◌, drop-cons, length}
+use Rattle.room_records.proofs.Common.{length-take, arith, Less, Equal, take-append-drop, SubjectModel, name_cmp}
 use Rattle.room_records.proofs.roster.index_of.Goals as goal
 
 from_place : (users : List SubjectModel) (place : ℕ) (user : SubjectModel) → user ≡ get_or users place user

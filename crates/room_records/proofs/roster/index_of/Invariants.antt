@@ -1,4 +1,4 @@
-use Rattle.std.proofs.Common.{take}
+use Rattle.room_records.proofs.Common.{take}
 use Rattle.room_records.specs.Roster.{AreBefore}
 use Rattle.room_records.proofs.roster.index_of.Given as goal
 

@@ -1,5 +1,4 @@
-use Rattle.std.proofs.Common.{arith}
-use Rattle.std.proofs.lemmas.List.{take_rest, length-drop}
+use Rattle.room_records.proofs.Common.{arith, take_rest, length-drop}
 use Rattle.room_records.proofs.Writers.{front_kept, front_some, front_more}
 use Rattle.room_records.proofs.writing.write_whole.Goals as goal
 

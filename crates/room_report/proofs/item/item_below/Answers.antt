@@ -1,6 +1,4 @@
-use Rattle.std.proofs.Common.{refl, ap, ◌∙◌, List, ℕ, ◌∷◌, ◌++◌}
-use Rattle.room_records.specs.Records.{ObjectRecords}
-use Rattle.room_records.specs.Shelf.{name_of}
+use Rattle.room_report.proofs.Common.{refl, ap, ◌∙◌, List, ℕ, ◌∷◌, ◌++◌, ObjectRecords, name_of}
 use Rattle.room_report.proofs.Items.{child_is_item}
 use Rattle.room_report.proofs.item.item_below.Goals as goal
 

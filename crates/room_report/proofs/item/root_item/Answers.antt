@@ -1,5 +1,4 @@
-use Rattle.std.proofs.Common.{refl, ap, sym, ◌∙◌}
-use Rattle.room_records.specs.Records.{Records, ObjectRecords}
+use Rattle.room_report.proofs.Common.{refl, ap, sym, ◌∙◌, Records, ObjectRecords}
 use Rattle.room_report.proofs.Items.{root_is_item}
 use Rattle.room_report.proofs.item.root_item.Goals as goal
 

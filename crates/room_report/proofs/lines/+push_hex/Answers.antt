@@ -1,7 +1,6 @@
-use Rattle.std.proofs.Common.{◌≡◌, false, ◌+◌, ◌-◌, ◌/◌, ◌%◌, ap, sym, ◌∙◌, arith, [], ◌∷◌, ◌++◌, append_assoc}
-use Rattle.std.proofs.Common.{append-nil}
+use Rattle.room_report.proofs.Common.{◌≡◌, false, ◌+◌, ◌-◌, ◌/◌, ◌%◌, ap, sym, ◌∙◌, arith, [], ◌∷◌, ◌++◌, append_assoc}
+use Rattle.room_report.proofs.Common.{append-nil, hex}
 use Rattle.std.specs.Fmt.{digit_glyph}
-use Rattle.room_report.specs.Lines.{hex}
 use Rattle.room_report.proofs.Hex.{hex_none, hex_more}
 use Rattle.room_report.proofs.lines.+push_hex.Goals as goal
 

@@ -1,9 +1,5 @@
-use Rattle.std.proofs.Common.{◌≡◌, take}
-use Rattle.std.specs.List.{flat_map}
-use Rattle.room_acl.specs.SubjectModel.{SubjectModel}
+use Rattle.room_report.proofs.Common.{◌≡◌, take, flat_map, SubjectModel, mask_line, shown_path}
 use Rattle.room_acl.specs.Access.{allowed_mask}
-use Rattle.room_report.specs.Lines.{mask_line}
-use Rattle.room_report.specs.Walk.{shown_path}
 use Rattle.room_report.proofs.lines.access_lines.Given as goal
 
 -- the lines of the users so far

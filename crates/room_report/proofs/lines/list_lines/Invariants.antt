@@ -1,7 +1,4 @@
-use Rattle.std.proofs.Common.{◌≡◌, ◌++◌, take}
-use Rattle.std.specs.List.{flat_map}
-use Rattle.room_report.specs.Lines.{head_line, entry_line}
-use Rattle.room_report.specs.Walk.{shown_path}
+use Rattle.room_report.proofs.Common.{◌≡◌, ◌++◌, take, flat_map, head_line, entry_line, shown_path}
 use Rattle.room_report.proofs.lines.list_lines.Given as goal
 
 -- the object's line, and those of the entries so far

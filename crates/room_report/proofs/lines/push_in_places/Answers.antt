@@ -1,4 +1,4 @@
-use Rattle.std.proofs.Common.{ℕ, ◌+◌, refl, ap, sym, ◌∙◌, List, [], ◌∷◌, ◌++◌, append_assoc, replicate}
+use Rattle.room_report.proofs.Common.{ℕ, ◌+◌, refl, ap, sym, ◌∙◌, List, [], ◌∷◌, ◌++◌, append_assoc, replicate}
 use Rattle.room_report.proofs.Padding.{spaces_more}
 use Rattle.room_report.proofs.lines.push_in_places.Goals as goal
 

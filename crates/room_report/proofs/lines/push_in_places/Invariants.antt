@@ -1,4 +1,4 @@
-use Rattle.std.proofs.Common.{◌≡◌, ◌++◌, replicate}
+use Rattle.room_report.proofs.Common.{◌≡◌, ◌++◌, replicate}
 use Rattle.room_report.proofs.lines.push_in_places.Given as goal
 
 -- the text, and the spaces so far

@@ -1,8 +1,4 @@
-use Rattle.std.proofs.Common.{ap}
-use Rattle.std.specs.List.{flat_map}
-use Rattle.room_report.specs.declared.lines.Report.TheVariants.{Lists}
-use Rattle.room_report.specs.Lines.{list_text}
-use Rattle.room_report.specs.Walk.{lines_of}
+use Rattle.room_report.proofs.Common.{ap, flat_map, Lists, list_text, lines_of}
 use Rattle.room_report.proofs.Below.{all_below_root}
 use Rattle.room_report.proofs.Sent.{reported}
 use Rattle.room_report.proofs.reports.list_report.Goals as goal

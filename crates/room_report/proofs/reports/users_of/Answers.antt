@@ -1,6 +1,4 @@
-use Rattle.std.proofs.Common.{◌≡◌, ◌+◌, refl, sym, ◌∙◌, rules, [], ◌∷◌, ◌++◌, Some}
-use Rattle.std.specs.List.{slice_get}
-use Rattle.room_acl.specs.SubjectModel.{SubjectModel}
+use Rattle.room_report.proofs.Common.{◌≡◌, ◌+◌, refl, sym, ◌∙◌, rules, [], ◌∷◌, ◌++◌, Some, slice_get, SubjectModel}
 use Rattle.room_report.proofs.Users.{one_more}
 use Rattle.room_report.proofs.reports.users_of.Goals as goal
 

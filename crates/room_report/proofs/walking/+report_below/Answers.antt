@@ -1,12 +1,7 @@
-use Rattle.std.proofs.Common.{ℕ, ◌+◌, ap, sym, ◌∙◌, arith, List, [], ◌∷◌, ◌++◌, drop, append-nil}
-use Rattle.std.specs.List.{flat_map}
-use Rattle.std.proofs.lemmas.List.{length_push}
+use Rattle.room_report.proofs.Common.{ℕ, ◌+◌, ap, sym, ◌∙◌, arith, List, [], ◌∷◌, ◌++◌, drop, append-nil, flat_map}
+use Rattle.room_report.proofs.Common.{length_push, Node, Records, name_of, item_lines, text_below}
 use Rattle.std.proofs.KnownBytes.{Appends-trans}
-use Rattle.room_records.specs.declared.node.Node.{Node}
-use Rattle.room_records.specs.Records.{Records}
-use Rattle.room_records.specs.Shelf.{name_of}
 use Rattle.room_records.proofs.Shelves.{read_then}
-use Rattle.room_report.specs.Walk.{item_lines, text_below}
 use Rattle.room_records.proofs.Writers.{front_of_more, front_then}
 use Rattle.room_report.proofs.Sent.{front_is, appends_is, sent_front}
 use Rattle.room_report.proofs.Written.{err_writes, so_far, cut, next, done, child_at, begins, text_of_item}

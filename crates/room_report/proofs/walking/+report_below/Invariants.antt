@@ -1,11 +1,7 @@
-use Rattle.std.proofs.Common.{◌≡◌, ◌+◌, None, [], ◌∷◌, ◌++◌, take, length}
-use Rattle.std.specs.List.{flat_map}
+use Rattle.room_report.proofs.Common.{◌≡◌, ◌+◌, None, [], ◌∷◌, ◌++◌, take, length, flat_map, Node, Path, ShelfRead}
+use Rattle.room_report.proofs.Common.{AreChildren, name_of, OfIntactRoom, IsItem, item_lines, text_below}
 use Rattle.std.specs.Io.KnownBytes.{Appends}
-use Rattle.room_records.specs.declared.node.Node.{Node}
 use Rattle.room_records.specs.Limits.{max_names}
-use Rattle.room_records.specs.Names.{Path}
-use Rattle.room_records.specs.Shelf.{ShelfRead, AreChildren, name_of}
-use Rattle.room_report.specs.Walk.{OfIntactRoom, IsItem, item_lines, text_below}
 use Rattle.room_report.proofs.walking.+report_below.Given as goal
 
 abbrev pub decreases-report_below : goal.decreases-report_below

@@ -1,4 +1,4 @@
-use Rattle.std.proofs.Common.{sym, ◌∙◌, arith}
+use Rattle.room_report.proofs.Common.{sym, ◌∙◌, arith}
 use Rattle.room_report.proofs.Below.{none_in_a_file, none_below_the_longest}
 use Rattle.room_report.proofs.walking.is_leaf.Goals as goal
 

@@ -1,5 +1,4 @@
-use Rattle.std.proofs.Common.{refl, ap, ◌∙◌, []}
-use Rattle.room_records.specs.Records.{Records}
+use Rattle.room_report.proofs.Common.{refl, ap, ◌∙◌, [], Records}
 use Rattle.room_report.proofs.walking.report_room.Goals as goal
 
 pub returns-in_default-clause-value : goal.returns-in_default-clause-value

@@ -1,5 +1,4 @@
-use Rattle.std.proofs.Common.{◌∙◌}
-use Rattle.room_report.specs.Walk.{item_lines}
+use Rattle.room_report.proofs.Common.{◌∙◌, item_lines}
 use Rattle.room_report.proofs.Sent.{front_is, appends_is}
 use Rattle.room_report.proofs.Written.{err_writes}
 use Rattle.room_report.proofs.walking.write_item.Goals as goal

@@ -1,8 +1,5 @@
-use Rattle.std.proofs.Common.{◌≡◌, ◌∙◌, ◌++◌, ◌<◌, [], ◌∷◌, ◌+◌, length, take, drop, refl, sym, ap, subst, arith}
-use Rattle.std.proofs.lemmas.List.{take_more, length-drop, nil_from_length}
-use Rattle.sqlite.specs.Held.{state}
-use Rattle.room_tables.proofs.Effects.{steps_more}
-use Rattle.room_sql.specs.NodeRows.{AfterAll}
+use Rattle.room_sql.proofs.Common.{◌≡◌, ◌∙◌, ◌++◌, ◌<◌, [], ◌∷◌, ◌+◌, length, take, drop, refl, sym, ap, subst, arith}
+use Rattle.room_sql.proofs.Common.{take_more, length-drop, nil_from_length, state, steps_more, AfterAll}
 use Rattle.room_sql.proofs.Frames.{was_clean, inside_then, inside_err}
 use Rattle.room_sql.proofs.NodeRows.{next_change}
 use Rattle.room_sql.proofs.commits.apply_all.Goals as goal

@@ -1,15 +1,7 @@
-use Rattle.std.proofs.Common.{List, take, drop, Ok}
-use Rattle.sqlite_value.specs.Order.{Row}
-use Rattle.sqlite.specs.State.{HasCleanDisk}
-use Rattle.sqlite.specs.Held.{state}
+use Rattle.room_sql.proofs.Common.{List, take, drop, Ok, Row, HasCleanDisk, state, IsRoomDatabase, Steps, Unknown}
+use Rattle.room_sql.proofs.Common.{InsideFrame, AfterAll, AreStored}
 use Rattle.room_records.specs.Changes.{apply_changes}
-use Rattle.room_tables.specs.Layout.{IsRoomDatabase}
-use Rattle.room_tables.specs.Steps.{Steps}
-use Rattle.room_sql.specs.declared.new_object.NewObject.TheVariants.{Unknown}
 use Rattle.room_sql.specs.NewObject.{NoEntriesIfKnown}
-use Rattle.room_sql.specs.Frames.{InsideFrame}
-use Rattle.room_sql.specs.NodeRows.{AfterAll}
-use Rattle.room_sql.specs.ReadLists.{AreStored}
 use Rattle.room_sql.proofs.commits.apply_all.Given as goal
 
 abbrev pub invariant-loop-change : goal.invariant-loop-change

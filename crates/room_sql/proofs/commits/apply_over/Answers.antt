@@ -1,6 +1,4 @@
-use Rattle.std.proofs.Common.{sym, subst}
-use Rattle.sqlite.specs.Held.{state}
-use Rattle.room_sql.specs.ReadLists.{IsStored}
+use Rattle.room_sql.proofs.Common.{sym, subst, state, IsStored}
 use Rattle.room_sql.proofs.NewObjects.{no_entries_after_entries}
 use Rattle.room_sql.proofs.Frames.{ok_then}
 use Rattle.room_sql.proofs.commits.apply_over.Goals as goal

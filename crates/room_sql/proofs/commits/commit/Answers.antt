@@ -1,17 +1,6 @@
-use Rattle.std.proofs.Common.{◌≡◌, refl, ◌∙◌, rules, true, sym, ap, subst}
-use Rattle.sqlite.specs.State.{HasCleanDisk}
-use Rattle.sqlite.specs.Held.{state}
-use Rattle.sqlite.proofs.StateLemmas.{survives_then}
-use Rattle.sqlite.proofs.Callers.{survives_begin}
-use Rattle.sqlite.specs.Effect.{Database}
-use Rattle.room_tables.specs.Rows.{records_of, version_rows, IsVersion}
-use Rattle.room_tables.specs.Layout.{IsRoomDatabase}
-use Rattle.room_tables.specs.Steps.{MayBecome, StaysRoom}
-use Rattle.room_tables.proofs.Changes.{fails_back, on_err}
-use Rattle.room_tables.proofs.Moves.{stays}
-use Rattle.room_sql.specs.ReadLists.{AreStored}
-use Rattle.room_sql.specs.NodeRows.{AfterAll}
-use Rattle.room_sql.specs.declared.new_object.NewObject.TheVariants.{Unknown}
+use Rattle.room_sql.proofs.Common.{◌≡◌, refl, ◌∙◌, rules, true, sym, ap, subst, HasCleanDisk, state, survives_then}
+use Rattle.room_sql.proofs.Common.{survives_begin, Database, records_of, version_rows, IsVersion, IsRoomDatabase}
+use Rattle.room_sql.proofs.Common.{MayBecome, StaysRoom, fails_back, on_err, stays, AreStored, AfterAll, Unknown}
 use Rattle.room_sql.proofs.Frames.{was_clean, ok_then}
 use Rattle.room_sql.proofs.commits.commit.Goals as goal
 

@@ -1,13 +1,7 @@
-use Rattle.std.proofs.Common.{◌<◌, ◌≤◌, ◌-◌, ◌^◌, ℕ}
-use Rattle.std.proofs.Common.{◌≡◌, rules, refl, sym, ◌∙◌, pos, [], ◌∷◌, ◌++◌, length-append, arith}
-use Rattle.sqlite_value.specs.declared.value.Value.TheVariants.{Int}
-use Rattle.sqlite.specs.State.{HasCleanDisk, IsUnchanged}
+use Rattle.room_sql.proofs.Common.{◌<◌, ◌≤◌, ◌-◌, ◌^◌, ℕ, ◌≡◌, rules, refl, sym, ◌∙◌, pos, [], ◌∷◌, ◌++◌, length-append}
+use Rattle.room_sql.proofs.Common.{arith, Int, HasCleanDisk, IsUnchanged, state, unchanged_then, given_begin}
+use Rattle.room_sql.proofs.Common.{read_entries_text, query_keeps, fails_leaves, read_entries_selects}
 use Rattle.sqlite.specs.Given.{HasGiven}
-use Rattle.sqlite.specs.Held.{state}
-use Rattle.sqlite.proofs.Callers.{unchanged_then, given_begin}
-use Rattle.room_tables.proofs.Texts.{read_entries_text}
-use Rattle.room_tables.proofs.Queries.{query_keeps, fails_leaves}
-use Rattle.room_tables.proofs.Selects.{read_entries_selects}
 use Rattle.room_tables.proofs.Onward.{query_begins, fails_on}
 use Rattle.room_sql.specs.Faults.{FailsToReadEntries}
 use Rattle.room_sql.proofs.Decisions.{frame_same, frame_failed, survives_on, taken, stopped, ended, given_few}

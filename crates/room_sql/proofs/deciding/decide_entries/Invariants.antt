@@ -1,10 +1,6 @@
-use Rattle.std.proofs.Common.{◌≡◌, false, pos, List, [], ◌∷◌, length}
-use Rattle.sqlite_value.specs.declared.value.Value.TheVariants.{Int}
-use Rattle.sqlite_value.specs.Order.{Row}
-use Rattle.sqlite.specs.State.{HasCleanDisk, IsUnchanged, Survives}
-use Rattle.sqlite.specs.Held.{state}
+use Rattle.room_sql.proofs.Common.{◌≡◌, false, pos, List, [], ◌∷◌, length, Int, Row, HasCleanDisk, IsUnchanged}
+use Rattle.room_sql.proofs.Common.{Survives, state, read_entries_text}
 use Rattle.sqlite.specs.Given.{HasGiven}
-use Rattle.room_tables.proofs.Texts.{read_entries_text}
 use Rattle.room_sql.proofs.Decisions.{IsAfter}
 use Rattle.room_sql.proofs.deciding.decide_entries.Given as goal
 

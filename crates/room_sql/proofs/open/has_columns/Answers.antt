@@ -1,9 +1,6 @@
-use Rattle.std.proofs.Common.{◌∙◌, ◌+◌, refl, sym, ap, map, ◌&&◌, List, ℕ, Bor, arith}
-use Rattle.std.specs.Prelude.{drop, Bool}
-use Rattle.std.specs.List.{list_all}
-use Rattle.std.proofs.lemmas.List.{at_drop_more, at_drop_all}
+use Rattle.room_sql.proofs.Common.{◌∙◌, ◌+◌, refl, sym, ap, map, ◌&&◌, List, ℕ, Bor, arith, drop, Bool, list_all}
+use Rattle.room_sql.proofs.Common.{at_drop_more, at_drop_all, has_column}
 use Rattle.sqlite.specs.Schema.{Schema}
-use Rattle.room_tables.specs.Tables.{has_column}
 use Rattle.room_sql.proofs.open.has_columns.Goals as goal
 
 -- what is to be said of the columns from a place on

@@ -1,7 +1,4 @@
-use Rattle.std.proofs.Common.{◌≡◌, map}
-use Rattle.std.specs.Prelude.{drop}
-use Rattle.std.specs.List.{list_all}
-use Rattle.room_tables.specs.Tables.{has_column}
+use Rattle.room_sql.proofs.Common.{◌≡◌, map, drop, list_all, has_column}
 use Rattle.room_sql.proofs.open.has_columns.Given as goal
 
 -- the columns passed so far are there

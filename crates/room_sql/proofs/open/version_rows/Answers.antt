@@ -1,6 +1,4 @@
-use Rattle.std.proofs.lemmas.Result.{IfOk-weaker}
-use Rattle.room_tables.proofs.Selects.{find_version_selects}
-use Rattle.room_tables.proofs.Asks.{asks_version}
+use Rattle.room_sql.proofs.Common.{IfOk-weaker, find_version_selects, asks_version}
 use Rattle.room_sql.proofs.Frames.{asked}
 use Rattle.room_sql.proofs.open.version_rows.Goals as goal
 

@@ -1,6 +1,4 @@
-use Rattle.std.proofs.lemmas.Result.{IfOk-weaker}
-use Rattle.room_tables.proofs.Selects.{list_children_selects}
-use Rattle.room_tables.proofs.Asks.{asks_children}
+use Rattle.room_sql.proofs.Common.{IfOk-weaker, list_children_selects, asks_children}
 use Rattle.room_sql.proofs.Frames.{asked}
 use Rattle.room_sql.proofs.reads.child_rows.Goals as goal
 

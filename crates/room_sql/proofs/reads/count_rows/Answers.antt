@@ -1,6 +1,4 @@
-use Rattle.std.proofs.lemmas.Result.{IfOk-weaker}
-use Rattle.room_tables.proofs.Selects.{count_children_selects}
-use Rattle.room_tables.proofs.Asks.{asks_count}
+use Rattle.room_sql.proofs.Common.{IfOk-weaker, count_children_selects, asks_count}
 use Rattle.room_sql.proofs.Frames.{asked}
 use Rattle.room_sql.proofs.reads.count_rows.Goals as goal
 

@@ -1,6 +1,4 @@
-use Rattle.std.proofs.lemmas.Result.{IfOk-weaker}
-use Rattle.room_tables.proofs.Selects.{find_doc_selects}
-use Rattle.room_tables.proofs.Asks.{asks_doc}
+use Rattle.room_sql.proofs.Common.{IfOk-weaker, find_doc_selects, asks_doc}
 use Rattle.room_sql.proofs.Frames.{asked}
 use Rattle.room_sql.proofs.reads.doc_rows.Goals as goal
 

@@ -1,6 +1,4 @@
-use Rattle.std.proofs.lemmas.Result.{IfOk-weaker}
-use Rattle.room_tables.proofs.Selects.{list_entries_selects}
-use Rattle.room_tables.proofs.Asks.{asks_entries}
+use Rattle.room_sql.proofs.Common.{IfOk-weaker, list_entries_selects, asks_entries}
 use Rattle.room_sql.proofs.Frames.{asked}
 use Rattle.room_sql.proofs.reads.entry_rows.Goals as goal
 

@@ -1,6 +1,4 @@
-use Rattle.std.proofs.lemmas.Result.{IfOk-weaker}
-use Rattle.room_tables.proofs.Selects.{list_names_selects}
-use Rattle.room_tables.proofs.Names.{asks_names}
+use Rattle.room_sql.proofs.Common.{IfOk-weaker, list_names_selects, asks_names}
 use Rattle.room_sql.proofs.Frames.{asked}
 use Rattle.room_sql.proofs.reads.name_rows.Goals as goal
 

@@ -1,6 +1,4 @@
-use Rattle.std.proofs.lemmas.Result.{IfOk-weaker}
-use Rattle.room_tables.proofs.Selects.{find_child_selects}
-use Rattle.room_tables.proofs.Asks.{asks_child}
+use Rattle.room_sql.proofs.Common.{IfOk-weaker, find_child_selects, asks_child}
 use Rattle.room_sql.proofs.Frames.{asked}
 use Rattle.room_sql.proofs.reads.named_rows.Goals as goal
 

@@ -1,6 +1,4 @@
-use Rattle.std.proofs.lemmas.Result.{IfOk-weaker}
-use Rattle.room_tables.proofs.Selects.{find_next_selects}
-use Rattle.room_tables.proofs.Asks.{asks_next}
+use Rattle.room_sql.proofs.Common.{IfOk-weaker, find_next_selects, asks_next}
 use Rattle.room_sql.proofs.Frames.{asked}
 use Rattle.room_sql.proofs.reads.next_rows.Goals as goal
 

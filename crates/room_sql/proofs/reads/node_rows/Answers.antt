@@ -1,6 +1,4 @@
-use Rattle.std.proofs.lemmas.Result.{IfOk-weaker}
-use Rattle.room_tables.proofs.Selects.{find_node_selects}
-use Rattle.room_tables.proofs.Asks.{asks_node}
+use Rattle.room_sql.proofs.Common.{IfOk-weaker, find_node_selects, asks_node}
 use Rattle.room_sql.proofs.Frames.{asked}
 use Rattle.room_sql.proofs.reads.node_rows.Goals as goal
 

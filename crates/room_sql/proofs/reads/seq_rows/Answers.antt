@@ -1,6 +1,4 @@
-use Rattle.std.proofs.lemmas.Result.{IfOk-weaker}
-use Rattle.room_tables.proofs.Selects.{find_seq_selects}
-use Rattle.room_tables.proofs.Asks.{asks_seq}
+use Rattle.room_sql.proofs.Common.{IfOk-weaker, find_seq_selects, asks_seq}
 use Rattle.room_sql.proofs.Frames.{asked}
 use Rattle.room_sql.proofs.reads.seq_rows.Goals as goal
 

@@ -1,6 +1,4 @@
-use Rattle.std.proofs.lemmas.Result.{IfOk-weaker}
-use Rattle.room_tables.proofs.Selects.{find_session_selects}
-use Rattle.room_tables.proofs.Asks.{asks_session}
+use Rattle.room_sql.proofs.Common.{IfOk-weaker, find_session_selects, asks_session}
 use Rattle.room_sql.proofs.Frames.{asked}
 use Rattle.room_sql.proofs.reads.session_rows.Goals as goal
 

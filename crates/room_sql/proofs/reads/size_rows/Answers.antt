@@ -1,6 +1,4 @@
-use Rattle.std.proofs.lemmas.Result.{IfOk-weaker}
-use Rattle.room_tables.proofs.Selects.{find_size_selects}
-use Rattle.room_tables.proofs.Asks.{asks_size}
+use Rattle.room_sql.proofs.Common.{IfOk-weaker, find_size_selects, asks_size}
 use Rattle.room_sql.proofs.Frames.{asked}
 use Rattle.room_sql.proofs.reads.size_rows.Goals as goal
 

@@ -1,6 +1,4 @@
-use Rattle.std.proofs.lemmas.Result.{IfOk-weaker}
-use Rattle.room_tables.proofs.Selects.{find_slot_selects}
-use Rattle.room_tables.proofs.Asks.{asks_slot}
+use Rattle.room_sql.proofs.Common.{IfOk-weaker, find_slot_selects, asks_slot}
 use Rattle.room_sql.proofs.Frames.{asked}
 use Rattle.room_sql.proofs.reads.slot_rows.Goals as goal
 

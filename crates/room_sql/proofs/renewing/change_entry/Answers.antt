@@ -1,8 +1,4 @@
-use Rattle.std.proofs.Common.{◌≡◌, pos, [], ◌∷◌, sym, ap₂}
-use Rattle.sqlite_value.specs.declared.value.Value.TheVariants.{Int}
-use Rattle.sqlite.specs.Values.{bound, bound_value}
-use Rattle.room_tables.specs.Steps.{shown_as}
-use Rattle.room_tables.proofs.InPlace.{lists_changed}
+use Rattle.room_sql.proofs.Common.{◌≡◌, pos, [], ◌∷◌, sym, ap₂, Int, bound, bound_value, shown_as, lists_changed}
 use Rattle.room_sql.proofs.Bound.{columns}
 use Rattle.room_sql.proofs.Frames.{ok_then}
 use Rattle.room_sql.proofs.renewing.change_entry.Given.{Over}

@@ -1,5 +1,4 @@
-use Rattle.std.proofs.Common.{◌≡◌, ◌+◌, ◌-◌, [], ◌∷◌, refl, sym, ap₂, arith}
-use Rattle.sqlite.specs.Values.{bound, bound_value}
+use Rattle.room_sql.proofs.Common.{◌≡◌, ◌+◌, ◌-◌, [], ◌∷◌, refl, sym, ap₂, arith, bound, bound_value}
 use Rattle.room_tables.proofs.Neighbours.{four_params, lists_renewed}
 use Rattle.room_sql.proofs.Bound.{columns, entry_then}
 use Rattle.room_sql.proofs.Frames.{ok_then}

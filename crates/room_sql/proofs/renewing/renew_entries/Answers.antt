@@ -1,4 +1,4 @@
-use Rattle.std.proofs.Common.{refl}
+use Rattle.room_sql.proofs.Common.{refl}
 use Rattle.room_sql.proofs.Frames.{was_clean, inside_ok, inside_then, inside_err}
 use Rattle.room_sql.proofs.renewing.renew_entries.Goals as goal
 

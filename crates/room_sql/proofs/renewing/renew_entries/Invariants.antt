@@ -1,9 +1,4 @@
-use Rattle.std.proofs.Common.{◌≤◌, ◌-◌, ◌++◌, take, drop, Ok}
-use Rattle.sqlite.specs.State.{HasCleanDisk}
-use Rattle.sqlite.specs.Held.{state}
-use Rattle.sqlite.specs.Effect.{Database}
-use Rattle.room_tables.specs.Steps.{Lists}
-use Rattle.room_sql.specs.Frames.{InsideFrame}
+use Rattle.room_sql.proofs.Common.{◌≤◌, ◌-◌, ◌++◌, take, drop, Ok, HasCleanDisk, state, Database, Lists, InsideFrame}
 use Rattle.room_sql.proofs.renewing.renew_entries.Given as goal
 
 abbrev pub invariant-loop-place : goal.invariant-loop-place

@@ -1,5 +1,4 @@
-use Rattle.std.proofs.Common.{◌≡◌, ◌≤◌, ◌+◌, ◌-◌, length, take, drop, arith}
-use Rattle.std.proofs.lemmas.List.{length-take-le, length-drop}
+use Rattle.room_sql.proofs.Common.{◌≡◌, ◌≤◌, ◌+◌, ◌-◌, length, take, drop, arith, length-take-le, length-drop}
 use Rattle.room_sql.proofs.Bound.{next_few}
 use Rattle.room_sql.proofs.renewing.renew_from.Goals as goal
 

@@ -1,9 +1,7 @@
-use Rattle.std.proofs.Common.{◌≡◌, ◌∙◌, ◌++◌, ◌<◌, ◌+◌, [], ◌∷◌, length, map, take, sym, ap, ap₂, arith, rules}
-use Rattle.std.proofs.lemmas.List.{take_more, map-append}
+use Rattle.room_sql.proofs.Common.{◌≡◌, ◌∙◌, ◌++◌, ◌<◌, ◌+◌, [], ◌∷◌, length, map, take, sym, ap, ap₂, arith, rules}
+use Rattle.room_sql.proofs.Common.{take_more, map-append, entry_of, five_columns, number_in, HasEntryColumns, shown_as}
+use Rattle.room_sql.proofs.Common.{IsReadBack, placed_push}
 use Rattle.sqlite_keyed.proofs.ListLemmas.{all-append}
-use Rattle.room_tables.specs.Rows.{entry_of, five_columns, number_in, HasEntryColumns}
-use Rattle.room_tables.specs.Steps.{shown_as, IsReadBack}
-use Rattle.room_tables.proofs.Placed.{placed_push}
 use Rattle.room_sql.proofs.rows.all_entries.Goals as goal
 
 pub loop-row-preserved : goal.loop-row-preserved

@@ -1,7 +1,5 @@
-use Rattle.std.proofs.Common.{◌≡◌, take, map, true}
-use Rattle.std.specs.List.{AllByRecursion}
-use Rattle.room_tables.specs.Rows.{entry_of, five_columns, HasEntryColumns}
-use Rattle.room_tables.specs.Steps.{placed, IsReadBack}
+use Rattle.room_sql.proofs.Common.{◌≡◌, take, map, true, AllByRecursion, entry_of, five_columns, HasEntryColumns}
+use Rattle.room_sql.proofs.Common.{placed, IsReadBack}
 use Rattle.room_sql.proofs.rows.all_entries.Given as goal
 
 abbrev pub invariant-loop-row : goal.invariant-loop-row

@@ -1,12 +1,8 @@
-use Rattle.std.proofs.Common.{◌≡◌, ℕ, ◌+◌, ◌<◌, length, List, [], ◌∷◌, ◌++◌, Option, None, Some, take, get_or}
-use Rattle.std.proofs.Common.{sym, ap, ◌∙◌, append-nil, arith}
-use Rattle.std.specs.List.{filter_map, cons_option}
-use Rattle.std.proofs.lemmas.List.{take_more}
+use Rattle.room_sql.proofs.Common.{◌≡◌, ℕ, ◌+◌, ◌<◌, length, List, [], ◌∷◌, ◌++◌, Option, None, Some, take, get_or, sym}
+use Rattle.room_sql.proofs.Common.{ap, ◌∙◌, append-nil, arith, filter_map, cons_option, take_more, Row, listed_of}
 use Rattle.std.proofs.lemmas.List.Elements.{filter_map-append}
-use Rattle.sqlite_value.specs.Order.{Row}
 use Rattle.room_acl.specs.declared.subject.Kind.{Kind}
 use Rattle.room_records.specs.Names.{Name}
-use Rattle.room_tables.specs.Rows.{listed_of}
 use Rattle.room_sql.proofs.rows.all_names.Goals as goal
 use Rattle.room_sql.proofs.rows.all_names.Goals.{in-Some+in_ok-push, in_default}
 

@@ -1,6 +1,4 @@
-use Rattle.std.proofs.Common.{◌≡◌, take}
-use Rattle.std.specs.List.{filter_map}
-use Rattle.room_tables.specs.Rows.{listed_of}
+use Rattle.room_sql.proofs.Common.{◌≡◌, take, filter_map, listed_of}
 use Rattle.room_sql.proofs.rows.all_names.Given as goal
 
 abbrev pub invariant-loop-row : goal.invariant-loop-row

@@ -1,5 +1,4 @@
-use Rattle.std.proofs.Common.{◌≡◌, take, map}
-use Rattle.room_tables.specs.Rows.{node_of}
+use Rattle.room_sql.proofs.Common.{◌≡◌, take, map, node_of}
 use Rattle.room_sql.proofs.rows.all_nodes.Given as goal
 
 abbrev pub invariant-loop-row : goal.invariant-loop-row

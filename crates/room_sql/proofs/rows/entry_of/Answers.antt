@@ -1,4 +1,4 @@
-use Rattle.room_tables.specs.Steps.{ShowsEntry}
+use Rattle.room_sql.proofs.Common.{ShowsEntry}
 use Rattle.room_tables.proofs.EntryRows.{no_type, no_text}
 use Rattle.room_sql.proofs.Frames.{handed_on}
 use Rattle.room_sql.proofs.rows.entry_of.Goals as goal

@@ -1,13 +1,7 @@
-use Rattle.std.proofs.Common.{◌≡◌, refl, sym, subst, rules, ◌∙◌}
-use Rattle.sqlite.specs.State.{HasCleanDisk}
-use Rattle.sqlite.proofs.StateLemmas.{survives_then}
-use Rattle.sqlite.proofs.Callers.{survives_begin}
+use Rattle.room_sql.proofs.Common.{◌≡◌, refl, sym, subst, rules, ◌∙◌, HasCleanDisk, survives_then, survives_begin}
+use Rattle.room_sql.proofs.Common.{Fresh, room_schema, IsFilled, MayBeFilled, StandsBeside, filled, by_trees, state}
+use Rattle.room_sql.proofs.Common.{fails_back, on_err}
 use Rattle.room_records.specs.Records.{Records}
-use Rattle.room_tables.specs.Tables.{Fresh, room_schema}
-use Rattle.room_tables.specs.Fresh.{IsFilled, MayBeFilled, StandsBeside, filled}
-use Rattle.room_tables.proofs.Moves.{by_trees}
-use Rattle.sqlite.specs.Held.{state}
-use Rattle.room_tables.proofs.Changes.{fails_back, on_err}
 use Rattle.room_sql.proofs.Frames.{was_clean, ok_then}
 use Rattle.room_sql.proofs.tables.commit_fresh.Goals as goal
 

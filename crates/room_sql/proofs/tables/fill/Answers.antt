@@ -1,7 +1,5 @@
-use Rattle.std.proofs.Common.{◌∙◌, ap}
-use Rattle.room_records.specs.declared.change.Change.TheVariants.{PutEntries, PutNext}
+use Rattle.room_sql.proofs.Common.{◌∙◌, ap, PutEntries, PutNext, stands_filled}
 use Rattle.room_records.specs.Changes.{apply_change}
-use Rattle.room_tables.proofs.Stands.{stands_filled}
 use Rattle.room_sql.proofs.Frames.{was_clean, ok_then, both}
 use Rattle.room_sql.proofs.tables.fill.Goals as goal
 

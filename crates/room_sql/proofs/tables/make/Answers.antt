@@ -1,11 +1,7 @@
-use Rattle.std.proofs.Common.{◌≡◌, ◌∙◌, ap₂}
-use Rattle.std.proofs.lemmas.Result.{IfOk-weaker}
-use Rattle.sqlite.proofs.StateLemmas.{survives_weaker}
+use Rattle.room_sql.proofs.Common.{◌≡◌, ◌∙◌, ap₂, IfOk-weaker, survives_weaker, IsFresh, filled, fresh_from}
+use Rattle.room_sql.proofs.Common.{stands_such, may_stand}
 use Rattle.room_records.specs.Fresh.{fresh_root}
 use Rattle.room_records.specs.Records.{Records}
-use Rattle.room_tables.specs.Fresh.{IsFresh, filled}
-use Rattle.room_tables.proofs.Creates.{fresh_from}
-use Rattle.room_tables.proofs.Stands.{stands_such, may_stand}
 use Rattle.room_sql.proofs.tables.make.Given.{Over}
 use Rattle.room_sql.proofs.tables.make.Goals as goal
 

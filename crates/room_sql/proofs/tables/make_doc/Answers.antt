@@ -1,7 +1,5 @@
-use Rattle.room_tables.proofs.Changes.{was_inside}
-use Rattle.room_tables.proofs.Creates.{doc_step}
+use Rattle.room_sql.proofs.Common.{was_inside, doc_step, doc_beside}
 use Rattle.room_sql.proofs.tables.make_doc.Goals as goal
-use Rattle.room_tables.proofs.Beside.{doc_beside}
 
 pub returns-clause-ok : goal.returns-clause-ok
 returns-clause-ok g c clean =

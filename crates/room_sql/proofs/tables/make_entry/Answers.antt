@@ -1,8 +1,6 @@
-use Rattle.room_tables.proofs.Changes.{was_inside}
-use Rattle.room_tables.proofs.Creates.{entry_step}
+use Rattle.room_sql.proofs.Common.{was_inside, entry_step, entry_beside}
 use Rattle.room_sql.proofs.Frames.{inside_err, statement_ran}
 use Rattle.room_sql.proofs.tables.make_entry.Goals as goal
-use Rattle.room_tables.proofs.Beside.{entry_beside}
 
 pub returns-clause-ok : goal.returns-clause-ok
 returns-clause-ok g c clean =

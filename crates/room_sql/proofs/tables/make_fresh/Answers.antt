@@ -1,7 +1,4 @@
-use Rattle.std.proofs.Common.{refl}
-use Rattle.sqlite.specs.Held.{state}
-use Rattle.room_tables.proofs.Beside.{beside_itself}
-use Rattle.room_tables.proofs.Creates.{made_room, filled_six}
+use Rattle.room_sql.proofs.Common.{refl, state, beside_itself, made_room, filled_six}
 use Rattle.room_sql.proofs.Frames.{was_clean, ok_then}
 use Rattle.room_sql.proofs.tables.make_fresh.Goals as goal
 

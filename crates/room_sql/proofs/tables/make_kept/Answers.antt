@@ -1,9 +1,6 @@
-use Rattle.room_tables.proofs.Changes.{executes_inside}
-use Rattle.room_tables.proofs.Creates.{kept_step}
-use Rattle.room_tables.proofs.Moves.{widens}
+use Rattle.room_sql.proofs.Common.{executes_inside, kept_step, widens, kept_beside}
 use Rattle.room_sql.proofs.Frames.{ok_then}
 use Rattle.room_sql.proofs.tables.make_kept.Goals as goal
-use Rattle.room_tables.proofs.Beside.{kept_beside}
 
 pub returns-clause-ok : goal.returns-clause-ok
 returns-clause-ok g c clean =

@@ -1,7 +1,5 @@
-use Rattle.room_tables.proofs.Changes.{was_inside}
-use Rattle.room_tables.proofs.Creates.{room_step}
+use Rattle.room_sql.proofs.Common.{was_inside, room_step, room_beside}
 use Rattle.room_sql.proofs.tables.make_room.Goals as goal
-use Rattle.room_tables.proofs.Beside.{room_beside}
 
 pub returns-clause-ok : goal.returns-clause-ok
 returns-clause-ok g c clean none =

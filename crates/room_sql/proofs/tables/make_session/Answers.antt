@@ -1,7 +1,5 @@
-use Rattle.room_tables.proofs.Changes.{was_inside}
-use Rattle.room_tables.proofs.Creates.{session_step}
+use Rattle.room_sql.proofs.Common.{was_inside, session_step, session_beside}
 use Rattle.room_sql.proofs.tables.make_session.Goals as goal
-use Rattle.room_tables.proofs.Beside.{session_beside}
 
 pub returns-clause-ok : goal.returns-clause-ok
 returns-clause-ok g c clean =

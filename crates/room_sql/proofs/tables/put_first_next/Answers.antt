@@ -1,5 +1,4 @@
-use Rattle.room_tables.proofs.Effects.{first_sets_next}
-use Rattle.room_tables.proofs.Stands.{fills_next, next_sound}
+use Rattle.room_sql.proofs.Common.{first_sets_next, fills_next, next_sound}
 use Rattle.room_sql.proofs.Frames.{ok_then}
 use Rattle.room_sql.proofs.tables.put_first_next.Goals as goal
 

@@ -1,11 +1,5 @@
-use Rattle.std.proofs.Common.{◌≡◌, rules}
-use Rattle.sqlite.specs.State.{HasCleanDisk}
-use Rattle.sqlite.specs.Held.{state}
-use Rattle.sqlite.proofs.StateLemmas.{survives_then}
-use Rattle.sqlite.proofs.Callers.{survives_begin}
-use Rattle.room_tables.specs.Tables.{Upgraded, room_schema}
-use Rattle.room_tables.specs.Upgrade.{IsUpgraded, MayBeMovedWith}
-use Rattle.room_tables.proofs.Moves.{by_trees}
+use Rattle.room_sql.proofs.Common.{◌≡◌, rules, HasCleanDisk, state, survives_then, survives_begin, Upgraded}
+use Rattle.room_sql.proofs.Common.{room_schema, IsUpgraded, MayBeMovedWith, by_trees}
 use Rattle.room_sql.proofs.Frames.{was_clean}
 use Rattle.room_sql.proofs.upgrade.commit_move.Goals as goal
 

@@ -1,4 +1,4 @@
-use Rattle.room_tables.proofs.Moves.{copied, copied_one}
+use Rattle.room_sql.proofs.Common.{copied, copied_one}
 use Rattle.room_sql.proofs.Frames.{ok_then}
 use Rattle.room_sql.proofs.upgrade.copy_row.Goals as goal
 

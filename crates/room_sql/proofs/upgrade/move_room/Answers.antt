@@ -1,5 +1,4 @@
-use Rattle.sqlite.specs.Held.{state}
-use Rattle.room_tables.proofs.Moves.{upgraded}
+use Rattle.room_sql.proofs.Common.{state, upgraded}
 use Rattle.room_sql.proofs.Frames.{was_clean, ok_then, both}
 use Rattle.room_sql.proofs.upgrade.move_room.Goals as goal
 

@@ -1,4 +1,4 @@
-use Rattle.std.proofs.Common.{◌≡◌, true, refl, rules, arith}
+use Rattle.room_sql.proofs.Common.{◌≡◌, true, refl, rules, arith}
 use Rattle.room_sql.proofs.Frames.{was_clean, inside_then, inside_ok}
 use Rattle.room_sql.proofs.upgrade.move_rows.Goals as goal
 

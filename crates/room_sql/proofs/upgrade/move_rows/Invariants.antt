@@ -1,9 +1,4 @@
-use Rattle.std.proofs.Common.{◌+◌, ◌≤◌, length, Ok}
-use Rattle.sqlite.specs.State.{HasCleanDisk}
-use Rattle.sqlite.specs.Held.{state}
-use Rattle.sqlite.specs.Effect.{Database}
-use Rattle.room_tables.specs.Upgrade.{IsMoving}
-use Rattle.room_sql.specs.Frames.{InsideFrame}
+use Rattle.room_sql.proofs.Common.{◌+◌, ◌≤◌, length, Ok, HasCleanDisk, state, Database, IsMoving, InsideFrame}
 use Rattle.room_sql.proofs.upgrade.move_rows.Given as goal
 
 abbrev pub invariant-rows : goal.invariant-rows

@@ -1,4 +1,4 @@
-use Rattle.room_tables.proofs.Moves.{none_moved, all_moved}
+use Rattle.room_sql.proofs.Common.{none_moved, all_moved}
 use Rattle.room_sql.proofs.Frames.{was_clean}
 use Rattle.room_sql.proofs.upgrade.move_slots.Goals as goal
 

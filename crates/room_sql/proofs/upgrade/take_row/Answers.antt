@@ -1,5 +1,4 @@
-use Rattle.std.proofs.Common.{◌≡◌, rules, w64, to_z, of_z, to_z-of_z}
-use Rattle.room_tables.proofs.Moves.{taken, taken_out}
+use Rattle.room_sql.proofs.Common.{◌≡◌, rules, w64, to_z, of_z, to_z-of_z, taken, taken_out}
 use Rattle.room_sql.proofs.Frames.{ok_then}
 use Rattle.room_sql.proofs.upgrade.take_row.Goals as goal
 

@@ -1,4 +1,4 @@
-use Rattle.std.proofs.lemmas.Result.{IfOk-weaker}
+use Rattle.room_sql.proofs.Common.{IfOk-weaker}
 use Rattle.room_sql.proofs.Frames.{was_clean, committed_then}
 use Rattle.room_sql.proofs.Taken.{next_is, may_be, upgraded_from}
 use Rattle.room_sql.proofs.upgrade.upgrade.Goals as goal

@@ -1,6 +1,5 @@
-use Rattle.std.proofs.Common.{◌≡◌, ◌≤◌, ◌∙◌, ℕ, List, [], ◌∷◌, length, Some, refl, sym, ap, arith}
+use Rattle.room_sql.proofs.Common.{◌≡◌, ◌≤◌, ◌∙◌, ℕ, List, [], ◌∷◌, length, Some, refl, sym, ap, arith, name_of_text}
 use Rattle.room_records.proofs.PathParts.{name_parts}
-use Rattle.room_tables.specs.Rows.{name_of_text}
 use Rattle.room_sql.proofs.values.name_text.Goals as goal
 
 -- a text that is not empty is a name

@@ -1,10 +1,6 @@
-use Rattle.std.proofs.Common.{◌≡◌, ◌∙◌, ◌≤◌, List, ◌++◌, length, take, drop, sym, ap, subst, arith}
-use Rattle.sqlite.specs.Held.{state}
-use Rattle.room_acl.specs.Entries.{EntryModel}
+use Rattle.room_sql.proofs.Common.{◌≡◌, ◌∙◌, ◌≤◌, List, ◌++◌, length, take, drop, sym, ap, subst, arith, state}
+use Rattle.room_sql.proofs.Common.{EntryModel, StandForEntries, take_all, length-take-le, length-drop, fills_more}
 use Rattle.room_tables.specs.Beside.{Fills}
-use Rattle.room_tables.specs.Fresh.{StandForEntries}
-use Rattle.std.proofs.lemmas.List.{take_all, length-take-le, length-drop}
-use Rattle.room_tables.proofs.Stands.{fills_more}
 use Rattle.room_sql.proofs.Bound.{next_batch}
 use Rattle.room_sql.proofs.Frames.{was_clean, inside_then, inside_err}
 use Rattle.room_sql.proofs.writes.add_entries.Goals as goal

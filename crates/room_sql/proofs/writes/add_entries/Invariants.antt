@@ -1,11 +1,6 @@
-use Rattle.std.proofs.Common.{◌≡◌, ◌≤◌, take, drop, length, Ok}
-use Rattle.sqlite.specs.State.{HasCleanDisk}
-use Rattle.sqlite.specs.Held.{state}
-use Rattle.sqlite.specs.Effect.{Database}
-use Rattle.room_tables.specs.Steps.{Lists}
+use Rattle.room_sql.proofs.Common.{◌≡◌, ◌≤◌, take, drop, length, Ok, HasCleanDisk, state, Database, Lists}
+use Rattle.room_sql.proofs.Common.{StandForEntries, InsideFrame}
 use Rattle.room_tables.specs.Beside.{Fills}
-use Rattle.room_tables.specs.Fresh.{StandForEntries}
-use Rattle.room_sql.specs.Frames.{InsideFrame}
 use Rattle.room_sql.proofs.writes.add_entries.Given as goal
 
 abbrev pub invariant-loop-batch : goal.invariant-loop-batch

@@ -1,14 +1,9 @@
-use Rattle.std.proofs.Common.{◌≡◌, pos, [], ◌∷◌, refl, sym, ap₂}
-use Rattle.sqlite_value.specs.declared.value.Value.TheVariants.{Int}
-use Rattle.sqlite.specs.Values.{bound, bound_value}
-use Rattle.room_tables.proofs.Texts.{add_entry_text}
-use Rattle.room_tables.proofs.Takes.{bound_entries, adds_one}
-use Rattle.room_tables.proofs.Placed.{lists_more}
+use Rattle.room_sql.proofs.Common.{◌≡◌, pos, [], ◌∷◌, refl, sym, ap₂, Int, bound, bound_value, add_entry_text}
+use Rattle.room_sql.proofs.Common.{bound_entries, adds_one, lists_more, fills_entries, one_insert}
 use Rattle.room_sql.proofs.Bound.{columns, entry_then}
 use Rattle.room_sql.proofs.Frames.{ok_then}
 use Rattle.room_sql.proofs.writes.add_one.Given.{Over}
 use Rattle.room_sql.proofs.writes.add_one.Goals as goal
-use Rattle.room_tables.proofs.Stands.{fills_entries, one_insert}
 
 params : (g : Over) (c : goal.After-run g) → bound (c.to_sql.result ∷ columns (c.entry_row-a.result ∷ []))
     ≡ Int (pos c.args.id) ∷ bound_entries c.args.place (c.args.a.now ∷ [])

@@ -1,4 +1,4 @@
-use Rattle.room_tables.proofs.Placed.{lists_none}
+use Rattle.room_sql.proofs.Common.{lists_none}
 use Rattle.room_sql.proofs.Frames.{ok_then}
 use Rattle.room_sql.proofs.writes.clear_entries.Goals as goal
 

@@ -1,5 +1,4 @@
-use Rattle.std.proofs.Common.{sym}
-use Rattle.room_tables.proofs.InPlace.{lists_front}
+use Rattle.room_sql.proofs.Common.{sym, lists_front}
 use Rattle.room_sql.proofs.Frames.{ok_then}
 use Rattle.room_sql.proofs.writes.drop_behind.Goals as goal
 

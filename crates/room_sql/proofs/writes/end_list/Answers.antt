@@ -1,5 +1,4 @@
-use Rattle.std.proofs.Common.{◌≤◌, length, take, drop, arith}
-use Rattle.std.proofs.lemmas.List.{take_all, length-take-le}
+use Rattle.room_sql.proofs.Common.{◌≤◌, length, take, drop, arith, take_all, length-take-le}
 use Rattle.room_sql.proofs.Frames.{ok_then}
 use Rattle.room_sql.proofs.writes.end_list.Goals as goal
 

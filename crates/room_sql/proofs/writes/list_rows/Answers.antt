@@ -1,6 +1,4 @@
-use Rattle.std.proofs.lemmas.Result.{IfOk-weaker}
-use Rattle.room_tables.proofs.Selects.{list_entries_selects}
-use Rattle.room_tables.proofs.InPlace.{lists_shown}
+use Rattle.room_sql.proofs.Common.{IfOk-weaker, list_entries_selects, lists_shown}
 use Rattle.room_sql.proofs.Frames.{asked_inside, asked_now}
 use Rattle.room_sql.proofs.writes.list_rows.Goals as goal
 

@@ -1,7 +1,4 @@
-use Rattle.std.proofs.Common.{sym, subst, subst₂}
-use Rattle.sqlite.specs.Held.{state}
-use Rattle.room_tables.specs.Layout.{IsRoomDatabase}
-use Rattle.room_tables.specs.Steps.{Lists}
+use Rattle.room_sql.proofs.Common.{sym, subst, subst₂, state, IsRoomDatabase, Lists}
 use Rattle.room_sql.proofs.Frames.{was_clean, ok_then}
 use Rattle.room_sql.proofs.Made.{entries_made}
 use Rattle.room_sql.proofs.writes.put_entries.Goals as goal

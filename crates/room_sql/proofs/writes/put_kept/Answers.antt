@@ -1,5 +1,4 @@
-use Rattle.sqlite.specs.Held.{state}
-use Rattle.room_tables.proofs.Placed.{lists_stored}
+use Rattle.room_sql.proofs.Common.{state, lists_stored}
 use Rattle.room_sql.proofs.Frames.{ok_then}
 use Rattle.room_sql.proofs.Made.{entries_made}
 use Rattle.room_sql.proofs.writes.put_kept.Goals as goal

@@ -1,5 +1,4 @@
-use Rattle.std.proofs.lemmas.Result.{IfOk-weaker}
-use Rattle.room_tables.proofs.FirstEntries.{lists_bare}
+use Rattle.room_sql.proofs.Common.{IfOk-weaker, lists_bare}
 use Rattle.room_sql.proofs.Made.{entries_made}
 use Rattle.room_sql.proofs.writes.put_new_entries.Goals as goal
 

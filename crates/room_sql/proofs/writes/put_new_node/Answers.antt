@@ -1,12 +1,9 @@
-use Rattle.std.proofs.Common.{◌≡◌, [], ◌∷◌, refl}
-use Rattle.sqlite.specs.Values.{bound}
-use Rattle.room_tables.proofs.Effects.{params_of_node, bound_parent}
-use Rattle.room_tables.proofs.FirstEntries.{none_before, added_bare}
+use Rattle.room_sql.proofs.Common.{◌≡◌, [], ◌∷◌, refl, bound, params_of_node, bound_parent, none_before, added_bare}
+use Rattle.room_sql.proofs.Common.{fills_node}
 use Rattle.room_sql.proofs.Frames.{ok_then}
 use Rattle.room_sql.proofs.Made.{new_node_made}
 use Rattle.room_sql.proofs.writes.put_new_node.Given.{Over}
 use Rattle.room_sql.proofs.writes.put_new_node.Goals as goal
-use Rattle.room_tables.proofs.Stands.{fills_node}
 
 params : (g : Over) (c : goal.Joined-parent g) → bound (c.params-to_sql.result ∷ c.params-to_sql-2.result
     ∷ c.params-to_sql-3.result ∷ c.params-to_sql-4.result ∷ c.params-to_sql-5.result ∷ c.params-to_sql-6.result

@@ -1,6 +1,4 @@
-use Rattle.std.proofs.Common.{◌≡◌, [], ◌∷◌, refl}
-use Rattle.sqlite.specs.Values.{bound}
-use Rattle.room_tables.proofs.Effects.{params_of_node, bound_parent}
+use Rattle.room_sql.proofs.Common.{◌≡◌, [], ◌∷◌, refl, bound, params_of_node, bound_parent}
 use Rattle.room_sql.proofs.Made.{node_made}
 use Rattle.room_sql.proofs.Frames.{ok_then}
 use Rattle.room_sql.proofs.writes.put_node.Given.{Over}

@@ -1,5 +1,4 @@
-use Rattle.std.proofs.Common.{◌≡◌, [], ◌∷◌, refl}
-use Rattle.sqlite.specs.Values.{bound}
+use Rattle.room_sql.proofs.Common.{◌≡◌, [], ◌∷◌, refl, bound}
 use Rattle.room_sql.proofs.Made.{session_values, session_made}
 use Rattle.room_sql.proofs.Frames.{ok_then}
 use Rattle.room_sql.proofs.writes.put_session.Given.{Over}

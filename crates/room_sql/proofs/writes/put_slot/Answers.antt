@@ -1,6 +1,4 @@
-use Rattle.std.proofs.Common.{◌≡◌, [], ◌∷◌, refl}
-use Rattle.sqlite.specs.Values.{bound}
-use Rattle.room_tables.proofs.Effects.{bound_reply}
+use Rattle.room_sql.proofs.Common.{◌≡◌, [], ◌∷◌, refl, bound, bound_reply}
 use Rattle.room_tables.proofs.Slots.{row_values}
 use Rattle.room_sql.proofs.Made.{slot_made}
 use Rattle.room_sql.proofs.Frames.{ok_then}

@@ -1,4 +1,4 @@
-use Rattle.std.proofs.Common.{refl}
+use Rattle.room_sql.proofs.Common.{refl}
 use Rattle.room_sql.proofs.Frames.{statement_ran, inside_ok, inside_err}
 use Rattle.room_sql.proofs.writes.run.Goals as goal
 

@@ -1,9 +1,5 @@
-use Rattle.std.proofs.Common.{◌≡◌, ℕ, zero, suc, List, Ok, inl, inr, refl}
-use Rattle.sqlite_value.specs.Order.{Row}
-use Rattle.sqlite_trees.specs.declared.store.Store.{Ghosts}
-use Rattle.sqlite.specs.State.{ExecutesInside}
-use Rattle.sqlite.specs.Held.{Held, state}
-use Rattle.room_sql.specs.Frames.{RunsOr}
+use Rattle.room_sql.proofs.Common.{◌≡◌, ℕ, zero, suc, List, Ok, inl, inr, refl, Row, Ghosts, ExecutesInside, Held}
+use Rattle.room_sql.proofs.Common.{state, RunsOr}
 use Rattle.room_sql.proofs.Frames.{was_clean, ok_then}
 use Rattle.room_sql.proofs.writes.run_or.Goals as goal
 

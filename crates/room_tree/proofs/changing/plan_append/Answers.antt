@@ -1,16 +1,10 @@
-use Rattle.std.proofs.Common.{◌≡◌, ℕ, ◌+◌, ◌<◌, ◌^◌, refl, ap, sym, ◌∙◌, arith, List, [], ◌∷◌, ◌++◌}
-use Rattle.std.proofs.Common.{length, length-append}
-use Rattle.room_records.specs.declared.change.Change.TheVariants.{PutDoc}
-use Rattle.room_records.specs.Room.{Object}
+use Rattle.room_tree.proofs.Common.{◌≡◌, ℕ, ◌+◌, ◌<◌, ◌^◌, refl, ap, sym, ◌∙◌, arith, List, [], ◌∷◌, ◌++◌, length}
+use Rattle.room_tree.proofs.Common.{length-append, PutDoc, Object, check_size, bytes_at, Size, small_enough}
+use Rattle.room_tree.proofs.Common.{appended_is_room, all_none}
 use Rattle.room_commands.specs.CommandModel as C
-use Rattle.room_commands.specs.Checks.{check_size, bytes_at}
-use Rattle.room_commands.specs.ReplyModel.{Size}
-use Rattle.room_commands.proofs.ChecksTell.{small_enough}
 use Rattle.room_tree.proofs.Checking.{none_passes, first_alone, bytes_there, file_checks}
 use Rattle.room_tree.proofs.Changed.{is_document, replaced_plans, document_replaces}
 use Rattle.room_tree.proofs.FewRows.{few_one}
-use Rattle.room_commands.proofs.EffectIsRoom.{appended_is_room}
-use Rattle.room_commands.proofs.Rights.{all_none}
 use Rattle.room_tree.proofs.Stops.{handed_on, stopped_by, at_head, in_front, past_front}
 use Rattle.room_tree.proofs.InTurn.{both_tell}
 use Rattle.room_tree.proofs.changing.plan_append.Goals as goal

@@ -1,12 +1,7 @@
-use Rattle.std.proofs.Common.{refl, ap, ◌∙◌, [], ◌∷◌}
-use Rattle.room_records.specs.declared.change.Change.TheVariants.{PutNode}
-use Rattle.room_records.specs.declared.node.Node.{Node}
-use Rattle.room_records.specs.Room.{Object}
+use Rattle.room_tree.proofs.Common.{refl, ap, ◌∙◌, [], ◌∷◌, PutNode, Node, Object, reply_model, chown_is_room}
 use Rattle.room_commands.specs.CommandModel as C
-use Rattle.room_commands.specs.ReplyModel.{reply_model}
 use Rattle.room_tree.proofs.Changed.{replaced_plans, row_replaces}
 use Rattle.room_tree.proofs.FewRows.{few_one}
-use Rattle.room_commands.proofs.EffectIsRoom.{chown_is_room}
 use Rattle.room_tree.proofs.Stops.{handed_on}
 use Rattle.room_tree.proofs.changing.plan_chown.Goals as goal
 

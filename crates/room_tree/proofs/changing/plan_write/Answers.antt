@@ -1,15 +1,9 @@
-use Rattle.std.proofs.Common.{◌≡◌, ℕ, ◌<◌, ◌^◌, refl, ap, sym, ◌∙◌, arith, List, [], ◌∷◌, length, None}
-use Rattle.room_records.specs.declared.change.Change.TheVariants.{PutDoc}
-use Rattle.room_records.specs.Room.{Object}
+use Rattle.room_tree.proofs.Common.{◌≡◌, ℕ, ◌<◌, ◌^◌, refl, ap, sym, ◌∙◌, arith, List, [], ◌∷◌, length, None, PutDoc}
+use Rattle.room_tree.proofs.Common.{Object, check_size, Size, small_enough, written_is_room, all_none}
 use Rattle.room_commands.specs.CommandModel as C
-use Rattle.room_commands.specs.Checks.{check_size}
-use Rattle.room_commands.specs.ReplyModel.{Size}
-use Rattle.room_commands.proofs.ChecksTell.{small_enough}
 use Rattle.room_tree.proofs.Checking.{none_passes, first_alone, file_checks}
 use Rattle.room_tree.proofs.Changed.{is_document, replaced_plans, document_replaces}
 use Rattle.room_tree.proofs.FewRows.{few_one}
-use Rattle.room_commands.proofs.EffectIsRoom.{written_is_room}
-use Rattle.room_commands.proofs.Rights.{all_none}
 use Rattle.room_tree.proofs.Stops.{handed_on, in_front}
 use Rattle.room_tree.proofs.changing.plan_write.Goals as goal
 

@@ -1,10 +1,5 @@
-use Rattle.std.proofs.Common.{◌≡◌, ◌+◌, ◌-◌, refl, ap, sym, ◌∙◌, subst, arith, [], ◌∷◌, ◌++◌, take}
-use Rattle.std.proofs.lemmas.List.{take_more, take_all}
-use Rattle.room_records.specs.declared.node.Node.{Node}
-use Rattle.room_records.specs.Records.{Records, IsChild}
-use Rattle.room_records.specs.Shelf.{name_of}
-use Rattle.room_records.proofs.Lists.{all_at, all_append}
-use Rattle.room_records.proofs.Shelves.{read_then}
+use Rattle.room_tree.proofs.Common.{◌≡◌, ◌+◌, ◌-◌, refl, ap, sym, ◌∙◌, subst, arith, [], ◌∷◌, ◌++◌, take, take_more}
+use Rattle.room_tree.proofs.Common.{take_all, Node, Records, IsChild, name_of, all_at, all_append, read_then}
 use Rattle.room_tree.specs.Depths.{StandsBelow}
 use Rattle.room_tree.proofs.Below.{at_child, children_apart, itself_counts}
 use Rattle.room_tree.proofs.Depths.{itself_below, none_below_file, one_level_more, child_path, none_below_children}

@@ -1,9 +1,5 @@
-use Rattle.std.proofs.Common.{◌≡◌, ◌+◌, ◌-◌, ◌≤◌, take, None, Some}
-use Rattle.room_records.specs.declared.node.Node.{Node}
-use Rattle.room_records.specs.Names.{Path}
-use Rattle.room_records.specs.Representation.{HasPath}
-use Rattle.room_records.specs.Shelf.{AreChildren, ShelfRead}
-use Rattle.room_tree.specs.LoadedObjects.{OfRoom}
+use Rattle.room_tree.proofs.Common.{◌≡◌, ◌+◌, ◌-◌, ◌≤◌, take, None, Some, Node, Path, HasPath, AreChildren, ShelfRead}
+use Rattle.room_tree.proofs.Common.{OfRoom}
 use Rattle.room_tree.proofs.Below.{below_each}
 use Rattle.room_tree.proofs.Depths.{NoneBelowEach}
 use Rattle.room_tree.proofs.depth.+reaches_down.Given as goal

@@ -1,9 +1,5 @@
-use Rattle.std.proofs.Common.{◌≡◌, ◌-◌, refl, ap, ◌∙◌, length, arith}
-use Rattle.room_records.specs.Names.{Path}
-use Rattle.room_records.proofs.PathParts.{path_parts}
-use Rattle.room_commands.specs.declared.reply.RefusalCode.TheVariants.{TooDeep}
-use Rattle.room_commands.specs.Checks.{refuse_if}
-use Rattle.room_tree.specs.LoadedObjects.{node_of}
+use Rattle.room_tree.proofs.Common.{◌≡◌, ◌-◌, refl, ap, ◌∙◌, length, arith, Path, path_parts, TooDeep, refuse_if}
+use Rattle.room_tree.proofs.Common.{node_of}
 use Rattle.room_tree.proofs.Depths.{depth_check}
 use Rattle.room_tree.proofs.Stops.{refused_as}
 use Rattle.room_tree.proofs.depth.check_depth.Goals as goal

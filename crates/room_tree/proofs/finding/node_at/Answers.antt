@@ -1,6 +1,4 @@
-use Rattle.std.proofs.lemmas.List.{take_all}
-use Rattle.room_records.proofs.Paths.{none_on_the_way, one_further}
-use Rattle.room_records.proofs.Shelves.{read_then}
+use Rattle.room_tree.proofs.Common.{take_all, none_on_the_way, one_further, read_then}
 use Rattle.room_tree.proofs.finding.node_at.Goals as goal
 
 pub returns-in_default-2-clause-value : goal.returns-in_default-2-clause-value

@@ -1,7 +1,4 @@
-use Rattle.std.proofs.Common.{◌≡◌, take, None, Some}
-use Rattle.room_records.specs.Shelf.{ShelfRead}
-use Rattle.room_records.specs.Room.{Room}
-use Rattle.room_records.specs.Representation.{RepresentsRoom, HasPath}
+use Rattle.room_tree.proofs.Common.{◌≡◌, take, None, Some, ShelfRead, Room, RepresentsRoom, HasPath}
 use Rattle.room_tree.proofs.finding.node_at.Given as goal
 
 -- the shelf is as it was, and `here` is the node of the names so far

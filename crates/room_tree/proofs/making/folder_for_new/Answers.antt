@@ -1,8 +1,5 @@
-use Rattle.std.proofs.Common.{◌≡◌, ◌-◌, ap, ◌∙◌, [], ◌∷◌, take, length}
-use Rattle.room_records.specs.Names.{Path}
-use Rattle.room_records.specs.Room.{parent_of}
-use Rattle.room_commands.specs.declared.reply.RefusalCode.TheVariants.{Exist}
-use Rattle.room_commands.specs.Checks.{refuse_if, is_root, walk, check_absent, check_right}
+use Rattle.room_tree.proofs.Common.{◌≡◌, ◌-◌, ap, ◌∙◌, [], ◌∷◌, take, length, Path, parent_of, Exist, refuse_if}
+use Rattle.room_tree.proofs.Common.{is_root, walk, check_absent, check_right}
 use Rattle.room_tree.proofs.Checking.{skip, off_root, none_passes, first_alone}
 use Rattle.room_tree.proofs.Stops.{handed_on, past_head, in_front, past_front, at_head}
 use Rattle.room_tree.proofs.InTurn.{both_tell}

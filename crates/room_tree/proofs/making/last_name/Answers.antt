@@ -1,5 +1,4 @@
-use Rattle.std.proofs.Common.{◌≡◌, ◌-◌, ap, ◌∙◌, arith, [], ◌∷◌, ◌++◌, length, Some}
-use Rattle.std.proofs.lemmas.List.{length_push, get_or_push}
+use Rattle.room_tree.proofs.Common.{◌≡◌, ◌-◌, ap, ◌∙◌, arith, [], ◌∷◌, ◌++◌, length, Some, length_push, get_or_push}
 use Rattle.room_tree.proofs.making.last_name.Goals as goal
 
 pub returns : goal.returns

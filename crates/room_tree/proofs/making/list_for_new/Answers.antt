@@ -1,6 +1,4 @@
-use Rattle.std.proofs.Common.{ap, ◌∙◌, List}
-use Rattle.room_acl.specs.Entries.{EntryModel}
-use Rattle.room_acl.specs.Inheritance.{handed_down}
+use Rattle.room_tree.proofs.Common.{ap, ◌∙◌, List, EntryModel, handed_down}
 use Rattle.room_tree.proofs.making.list_for_new.Goals as goal
 
 pub returns-clause-value : goal.returns-clause-value

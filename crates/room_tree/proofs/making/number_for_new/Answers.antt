@@ -1,12 +1,6 @@
-use Rattle.std.proofs.Common.{◌≡◌, ℕ, ap, sym, ◌∙◌, [], ◌∷◌, None}
-use Rattle.std.specs.Prelude.{nat_le, nat_lt}
-use Rattle.room_records.specs.Limits.{max_children, max_objects}
-use Rattle.room_records.specs.Names.{Path}
-use Rattle.room_records.specs.Records.{Records, ObjectRecords}
-use Rattle.room_records.specs.Representation.{RepresentsRoom}
-use Rattle.room_records.specs.Room.{Room}
-use Rattle.room_commands.specs.declared.reply.RefusalCode.TheVariants.{FolderFull, RoomFull}
-use Rattle.room_commands.specs.Checks.{first_refusal, refuse_if, check_folder_full, check_room_full}
+use Rattle.room_tree.proofs.Common.{◌≡◌, ℕ, ap, sym, ◌∙◌, [], ◌∷◌, None, nat_le, nat_lt, max_children, max_objects}
+use Rattle.room_tree.proofs.Common.{Path, Records, ObjectRecords, RepresentsRoom, Room, FolderFull, RoomFull}
+use Rattle.room_tree.proofs.Common.{first_refusal, refuse_if, check_folder_full, check_room_full}
 use Rattle.room_tree.proofs.Checking.{skip, stop, first_alone}
 use Rattle.room_tree.proofs.Made.{before_next}
 use Rattle.room_tree.proofs.Stops.{handed_on}

@@ -1,9 +1,5 @@
-use Rattle.std.proofs.Common.{◌≡◌, ◌<◌, ◌^◌, arith, ap, sym, ◌∙◌, ◌∷◌, None, length}
-use Rattle.room_records.specs.Room.{parent_of}
-use Rattle.room_commands.specs.Checks.{check_size}
-use Rattle.room_commands.specs.ReplyModel.{Size}
-use Rattle.room_commands.proofs.ChecksTell.{small_enough}
-use Rattle.room_records.proofs.Shelves.{read_then}
+use Rattle.room_tree.proofs.Common.{◌≡◌, ◌<◌, ◌^◌, arith, ap, sym, ◌∙◌, ◌∷◌, None, length, parent_of, check_size, Size}
+use Rattle.room_tree.proofs.Common.{small_enough, read_then}
 use Rattle.room_tree.proofs.Checking.{none_passes, stop, limit_checks, new_checks}
 use Rattle.room_tree.proofs.Made.{create_plans}
 use Rattle.room_tree.proofs.Stops.{handed_on, in_front, past_front, past_head}

@@ -1,6 +1,4 @@
-use Rattle.std.proofs.Common.{refl}
-use Rattle.room_records.specs.Room.{parent_of}
-use Rattle.room_records.proofs.Shelves.{read_then}
+use Rattle.room_tree.proofs.Common.{refl, parent_of, read_then}
 use Rattle.room_tree.proofs.Checking.{limit_checks, new_checks}
 use Rattle.room_tree.proofs.Made.{mkdir_plans}
 use Rattle.room_tree.proofs.Stops.{handed_on, in_front, past_front}

@@ -1,7 +1,5 @@
-use Rattle.std.proofs.Common.{sym, ◌∙◌, ◌++◌, ◌||◌}
-use Rattle.room_commands.specs.declared.reply.RefusalCode.TheVariants.{Inval}
-use Rattle.room_commands.specs.Checks.{refuse_if, is_root, is_at_or_below}
-use Rattle.room_tree.specs.Renames.{end_checks, move_rights}
+use Rattle.room_tree.proofs.Common.{sym, ◌∙◌, ◌++◌, ◌||◌, Inval, refuse_if, is_root, is_at_or_below, end_checks}
+use Rattle.room_tree.proofs.Common.{move_rights}
 use Rattle.room_tree.proofs.Checking.{skip, stop, none_passes}
 use Rattle.room_tree.proofs.Renamed.{paths_pass}
 use Rattle.room_tree.proofs.Stops.{handed_on, past_head, in_front, past_front}

@@ -1,11 +1,7 @@
-use Rattle.std.proofs.Common.{◌≡◌, ℕ, ◌<◌, ap, sym, ◌∙◌, arith, [], ◌++◌, take, drop, length, get_or}
-use Rattle.std.proofs.lemmas.Bool.{false_from_ne_true}
-use Rattle.std.proofs.lemmas.List.{get_or_append_left, get_or_default, take_all, take_more_same, take-append-drop}
-use Rattle.room_records.specs.Names.{Path}
-use Rattle.room_commands.specs.Checks.{is_at_or_below}
+use Rattle.room_tree.proofs.Common.{◌≡◌, ℕ, ◌<◌, ap, sym, ◌∙◌, arith, [], ◌++◌, take, drop, length, get_or}
+use Rattle.room_tree.proofs.Common.{false_from_ne_true, get_or_append_left, get_or_default, take_all, take_more_same}
+use Rattle.room_tree.proofs.Common.{take-append-drop, Path, is_at_or_below, at_behind, rest_below}
 use Rattle.room_tree.proofs.Renamed.{other_names, same_names}
-use Rattle.room_commands.proofs.Renaming.{at_behind}
-use Rattle.room_commands.proofs.RoomsRenamed.{rest_below}
 use Rattle.room_tree.proofs.moving.begins_with.Goals as goal
 
 pub returns-then-ne : goal.returns-then-ne

@@ -1,4 +1,4 @@
-use Rattle.std.proofs.Common.{◌≡◌, take}
+use Rattle.room_tree.proofs.Common.{◌≡◌, take}
 use Rattle.room_tree.proofs.moving.begins_with.Given as goal
 
 -- the names so far are the same

@@ -1,16 +1,7 @@
-use Rattle.std.proofs.Common.{◌≡◌, refl, ap, ◌∙◌, List, ◌∷◌, ◌++◌, ◌||◌, Option, None, Some, arith}
-use Rattle.room_records.specs.declared.node.Node.{Node}
-use Rattle.room_records.specs.Room.{object_at, list_under}
-use Rattle.room_commands.specs.declared.reply.RefusalCode.TheVariants.{Inval}
-use Rattle.room_commands.specs.Checks.{first_refusal, refuse_if, is_root, is_at_or_below}
-use Rattle.room_commands.specs.ReplyModel.{Refusal}
-use Rattle.room_commands.proofs.EffectIsRoom.{not_root_ends}
-use Rattle.room_commands.proofs.Rights.{all_none}
-use Rattle.room_records.specs.Names.{Path}
-use Rattle.room_records.proofs.RoomsMap.{Ends}
-use Rattle.room_records.proofs.Shelves.{read_then}
-use Rattle.room_tree.specs.LoadedObjects.{node_of}
-use Rattle.room_tree.specs.Renames.{end_checks, move_rights, move_limits}
+use Rattle.room_tree.proofs.Common.{◌≡◌, refl, ap, ◌∙◌, List, ◌∷◌, ◌++◌, ◌||◌, Option, None, Some, arith, Node}
+use Rattle.room_tree.proofs.Common.{object_at, list_under, Inval, first_refusal, refuse_if, is_root, is_at_or_below}
+use Rattle.room_tree.proofs.Common.{Refusal, not_root_ends, all_none, Path, Ends, read_then, node_of, end_checks}
+use Rattle.room_tree.proofs.Common.{move_rights, move_limits}
 use Rattle.room_tree.proofs.Checking.{none_passes}
 use Rattle.room_tree.proofs.Renamed.{paths_pass, rename_plans}
 use Rattle.room_tree.proofs.Renewed.{is_change}

@@ -1,5 +1,4 @@
-use Rattle.std.proofs.Common.{◌≡◌, ◌∷◌, ◌++◌, ◌+◌, [], ap, sym, ◌∙◌, rules, take}
-use Rattle.std.proofs.lemmas.List.{take_more}
+use Rattle.room_tree.proofs.Common.{◌≡◌, ◌∷◌, ◌++◌, ◌+◌, [], ap, sym, ◌∙◌, rules, take, take_more}
 use Rattle.room_records.proofs.MemRecords.{same_push}
 use Rattle.room_tree.proofs.planning.copy_changes.Goals as goal
 

@@ -1,4 +1,4 @@
-use Rattle.std.proofs.Common.{take}
+use Rattle.room_tree.proofs.Common.{take}
 use Rattle.room_records.specs.Mem.{AreSameChanges}
 use Rattle.room_tree.proofs.planning.copy_changes.Given as goal
 

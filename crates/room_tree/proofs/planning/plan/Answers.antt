@@ -1,5 +1,4 @@
-use Rattle.std.proofs.Common.{refl}
-use Rattle.room_commands.specs.CommandModel.{command_model}
+use Rattle.room_tree.proofs.Common.{refl, command_model}
 use Rattle.room_tree.proofs.Outcomes.{refusal_plans}
 use Rattle.room_tree.proofs.planning.plan.Goals as goal
 

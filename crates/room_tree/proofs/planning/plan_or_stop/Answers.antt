@@ -1,4 +1,4 @@
-use Rattle.std.proofs.Common.{arith}
+use Rattle.room_tree.proofs.Common.{arith}
 use Rattle.room_tree.proofs.planning.plan_or_stop.Goals as goal
 
 pub returns-in-Stat-clause-effect : goal.returns-in-Stat-clause-effect

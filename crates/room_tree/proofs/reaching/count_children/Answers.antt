@@ -1,9 +1,5 @@
-use Rattle.std.proofs.Common.{◌≡◌, length, subst, IfOk}
-use Rattle.std.proofs.lemmas.Result.{IfOk-weaker}
-use Rattle.room_records.specs.Records.{ObjectRecords}
-use Rattle.room_records.specs.Room.{children}
-use Rattle.room_records.specs.Shelf.{IsChildCount}
-use Rattle.room_records.proofs.Folders.{child_count_is}
+use Rattle.room_tree.proofs.Common.{◌≡◌, length, subst, IfOk, IfOk-weaker, ObjectRecords, children, IsChildCount}
+use Rattle.room_tree.proofs.Common.{child_count_is}
 use Rattle.room_tree.proofs.reaching.count_children.Goals as goal
 
 pub returns-clause-value : goal.returns-clause-value

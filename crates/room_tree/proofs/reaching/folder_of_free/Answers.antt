@@ -1,5 +1,4 @@
-use Rattle.std.proofs.Common.{◌∙◌, [], ◌∷◌}
-use Rattle.room_commands.specs.Checks.{check_absent, walk}
+use Rattle.room_tree.proofs.Common.{◌∙◌, [], ◌∷◌, check_absent, walk}
 use Rattle.room_tree.proofs.Checking.{skip, stop, first_alone, is_absent, not_absent}
 use Rattle.room_tree.proofs.Stops.{handed_on, refused_as, at_head}
 use Rattle.room_tree.proofs.reaching.folder_of_free.Goals as goal

@@ -1,5 +1,4 @@
-use Rattle.std.proofs.Common.{◌∙◌}
-use Rattle.room_tree.specs.LoadedObjects.{use_checks}
+use Rattle.room_tree.proofs.Common.{◌∙◌, use_checks}
 use Rattle.room_tree.proofs.Checking.{none_passes, found_checks}
 use Rattle.room_tree.proofs.Stops.{handed_on, in_front, past_front}
 use Rattle.room_tree.proofs.InTurn.{both_tell}

@@ -1,5 +1,4 @@
-use Rattle.std.proofs.Common.{[], ◌∷◌}
-use Rattle.room_commands.specs.Checks.{check_exists, walk}
+use Rattle.room_tree.proofs.Common.{[], ◌∷◌, check_exists, walk}
 use Rattle.room_tree.proofs.Checking.{passes_to, missing}
 use Rattle.room_tree.proofs.Renamed.{root_is_short}
 use Rattle.room_tree.proofs.Stops.{handed_on, refused_as, at_head}

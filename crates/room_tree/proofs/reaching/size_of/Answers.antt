@@ -1,5 +1,4 @@
-use Rattle.std.proofs.Common.{◌<◌, ◌^◌, sym, ap, ◌∙◌, arith}
-use Rattle.room_commands.specs.Effect.{size_of}
+use Rattle.room_tree.proofs.Common.{◌<◌, ◌^◌, sym, ap, ◌∙◌, arith, size_of}
 use Rattle.room_tree.proofs.Checking.{few_bytes}
 use Rattle.room_tree.proofs.reaching.size_of.Goals as goal
 

@@ -1,4 +1,4 @@
-use Rattle.room_acl.specs.Bits.{IsMask}
+use Rattle.room_tree.proofs.Common.{IsMask}
 use Rattle.room_tree.proofs.Replies.{common_is_mask}
 use Rattle.room_records.proofs.Options.{none_is_not_some}
 use Rattle.room_tree.proofs.reading.common_bits.Goals as goal

@@ -1,9 +1,5 @@
-use Rattle.std.proofs.Common.{◌≡◌, ◌∙◌, subst, IfOk}
-use Rattle.std.proofs.lemmas.Result.{IfOk-weaker}
-use Rattle.room_records.specs.Records.{ObjectRecords}
-use Rattle.room_records.specs.Room.{children}
-use Rattle.room_records.specs.Shelf.{AreNames}
-use Rattle.room_records.proofs.Folders.{nodes_are_children}
+use Rattle.room_tree.proofs.Common.{◌≡◌, ◌∙◌, subst, IfOk, IfOk-weaker, ObjectRecords, children, AreNames}
+use Rattle.room_tree.proofs.Common.{nodes_are_children}
 use Rattle.room_tree.proofs.Replies.{all_listed}
 use Rattle.room_tree.proofs.reading.names_in.Goals as goal
 

@@ -1,10 +1,7 @@
-use Rattle.std.proofs.Common.{refl, ap, ◌∙◌}
-use Rattle.std.specs.Prelude.{bit_and}
-use Rattle.room_acl.specs.Access.{allowed_mask}
+use Rattle.room_tree.proofs.Common.{refl, ap, ◌∙◌, bit_and, allowed_mask, Allowed}
 use Rattle.room_commands.specs.CommandModel as C
 use Rattle.room_tree.proofs.Outcomes.{reading_plans}
 use Rattle.room_tree.proofs.Replies.{access_reply}
-use Rattle.room_commands.specs.ReplyModel.{Allowed}
 use Rattle.room_tree.proofs.Stops.{handed_on}
 use Rattle.room_tree.proofs.InTurn.{both_tell}
 use Rattle.room_tree.proofs.reading.plan_access.Goals as goal

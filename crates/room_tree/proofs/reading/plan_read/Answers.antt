@@ -1,7 +1,6 @@
-use Rattle.std.proofs.Common.{refl, ap, ◌∙◌}
+use Rattle.room_tree.proofs.Common.{refl, ap, ◌∙◌, Bytes}
 use Rattle.room_commands.specs.CommandModel as C
 use Rattle.room_tree.proofs.Outcomes.{reading_plans}
-use Rattle.room_commands.specs.ReplyModel.{Bytes}
 use Rattle.room_tree.proofs.Stops.{handed_on}
 use Rattle.room_tree.proofs.InTurn.{both_tell}
 use Rattle.room_tree.proofs.reading.plan_read.Goals as goal

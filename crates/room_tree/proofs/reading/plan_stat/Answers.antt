@@ -1,4 +1,4 @@
-use Rattle.std.proofs.Common.{refl, ◌∙◌}
+use Rattle.room_tree.proofs.Common.{refl, ◌∙◌}
 use Rattle.room_commands.specs.CommandModel as C
 use Rattle.room_tree.proofs.Outcomes.{reading_plans}
 use Rattle.room_tree.proofs.Replies.{stat_reply}

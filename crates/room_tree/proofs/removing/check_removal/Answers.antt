@@ -1,12 +1,5 @@
-use Rattle.std.proofs.Common.{◌≡◌, refl, ap, sym, ◌∙◌, arith, take, length, Option, None, Some, true, false}
-use Rattle.std.specs.Prelude.{not, is_some}
-use Rattle.std.proofs.lemmas.List.{take_all}
-use Rattle.room_records.specs.Names.{Path}
-use Rattle.room_records.specs.Room.{parent_of}
-use Rattle.room_commands.specs.ReplyModel.{Refusal}
-use Rattle.room_commands.specs.declared.reply.RefusalCode.TheVariants.{Access}
-use Rattle.room_commands.specs.Checks.{check_right}
-use Rattle.room_commands.proofs.Shorthands.{removal_refusal}
+use Rattle.room_tree.proofs.Common.{◌≡◌, refl, ap, sym, ◌∙◌, arith, take, length, Option, None, Some, true, false, not}
+use Rattle.room_tree.proofs.Common.{is_some, take_all, Path, parent_of, Refusal, Access, check_right, removal_refusal}
 use Rattle.room_tree.proofs.InTurn.{both_tell}
 use Rattle.room_tree.proofs.removing.check_removal.Goals as goal
 

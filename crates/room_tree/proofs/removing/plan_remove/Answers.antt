@@ -1,13 +1,7 @@
-use Rattle.std.proofs.Common.{◌≡◌, ◌≤◌, ap, sym, ◌∙◌, arith, [], ◌∷◌, None, length}
-use Rattle.room_records.specs.Room.{children}
-use Rattle.std.specs.Prelude.{nat_lt}
+use Rattle.room_tree.proofs.Common.{◌≡◌, ◌≤◌, ap, sym, ◌∙◌, arith, [], ◌∷◌, None, length, children, nat_lt, Inval}
+use Rattle.room_tree.proofs.Common.{NotEmpty, reply_model, refuse_if, is_root, not_refused, all_none}
 use borrow.Author.Tests.{ltb-false}
-use Rattle.room_commands.specs.declared.reply.RefusalCode.TheVariants.{Inval, NotEmpty}
-use Rattle.room_commands.specs.ReplyModel.{reply_model}
-use Rattle.room_commands.specs.Checks.{refuse_if, is_root}
 use Rattle.room_tree.proofs.Checking.{none_passes, first_alone, removal_checks}
-use Rattle.room_commands.proofs.ChecksTell.{not_refused}
-use Rattle.room_commands.proofs.Rights.{all_none}
 use Rattle.room_tree.proofs.RowsRemoved.{remove_plans}
 use Rattle.room_tree.proofs.Stops.{handed_on, in_front}
 use Rattle.room_tree.proofs.InTurn.{both_tell}

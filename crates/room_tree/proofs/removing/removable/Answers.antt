@@ -1,6 +1,4 @@
-use Rattle.std.proofs.Common.{ap, ◌∙◌, [], ◌∷◌}
-use Rattle.room_commands.specs.declared.reply.RefusalCode.TheVariants.{Inval}
-use Rattle.room_commands.specs.Checks.{refuse_if, is_root, walk, check_exists, check_removal}
+use Rattle.room_tree.proofs.Common.{ap, ◌∙◌, [], ◌∷◌, Inval, refuse_if, is_root, walk, check_exists, check_removal}
 use Rattle.room_tree.proofs.Checking.{skip, off_root, none_passes, first_alone, found_checks}
 use Rattle.room_tree.proofs.Stops.{handed_on, at_head, past_head, in_front, past_front}
 use Rattle.room_tree.proofs.InTurn.{both_tell}

@@ -1,16 +1,7 @@
-use Rattle.std.proofs.Common.{◌≡◌, ℕ, refl, ◌+◌, ◌-◌, ◌<◌, ◌≤◌, ap, sym, ◌∙◌, subst, arith, List, [], ◌∷◌, ◌++◌, length}
-use Rattle.std.proofs.Common.{append-nil, append_assoc, length-append, Some}
-use Rattle.room_acl.specs.declared.subject.Kind.TheVariants.{File}
-use Rattle.room_records.specs.declared.change.Change.{Change}
-use Rattle.room_records.specs.declared.change.Change.TheVariants.{PutEntries}
-use Rattle.room_records.specs.declared.node.Node.{Node}
-use Rattle.room_records.specs.Limits.{max_names}
-use Rattle.room_records.specs.Names.{Name, Path}
-use Rattle.room_records.specs.Records.{ObjectRecords, Records, IsChild}
-use Rattle.room_records.specs.Shelf.{name_of}
-use Rattle.room_records.proofs.Lists.{all_at}
-use Rattle.room_records.proofs.Shelves.{read_then}
-use Rattle.room_records.proofs.RoomsMap.{some_is}
+use Rattle.room_tree.proofs.Common.{◌≡◌, ℕ, refl, ◌+◌, ◌-◌, ◌<◌, ◌≤◌, ap, sym, ◌∙◌, subst, arith, List, [], ◌∷◌, ◌++◌}
+use Rattle.room_tree.proofs.Common.{length, append-nil, append_assoc, length-append, Some, File, Change, PutEntries}
+use Rattle.room_tree.proofs.Common.{Node, max_names, Name, Path, ObjectRecords, Records, IsChild, name_of, all_at}
+use Rattle.room_tree.proofs.Common.{read_then, some_is}
 use Rattle.room_tree.proofs.Below.{at_child, children_apart, itself_counts}
 use Rattle.room_tree.proofs.Depths.{child_path}
 use Rattle.room_tree.proofs.EntriesAdded.{adds_none, adds_more, adds_one}

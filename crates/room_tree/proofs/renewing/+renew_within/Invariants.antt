@@ -1,10 +1,5 @@
-use Rattle.std.proofs.Common.{◌+◌, ◌*◌, ◌≤◌, length, take, None}
-use Rattle.room_records.specs.Limits.{max_names}
-use Rattle.room_records.specs.Names.{Path}
-use Rattle.room_records.specs.Representation.{HasPath}
-use Rattle.room_records.specs.Shelf.{AreChildren, ShelfRead}
-use Rattle.room_tree.specs.LoadedObjects.{OfRoom}
-use Rattle.room_tree.specs.Renewals.{AddsEntries}
+use Rattle.room_tree.proofs.Common.{◌+◌, ◌*◌, ◌≤◌, length, take, None, max_names, Path, HasPath, AreChildren, ShelfRead}
+use Rattle.room_tree.proofs.Common.{OfRoom, AddsEntries}
 use Rattle.room_tree.proofs.Below.{below_each}
 use Rattle.room_tree.proofs.RenewingChildren.{RenewsSoFar}
 use Rattle.room_tree.proofs.renewing.+renew_within.Given as goal

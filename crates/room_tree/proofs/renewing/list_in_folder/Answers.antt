@@ -1,6 +1,4 @@
-use Rattle.std.proofs.Common.{ap, ◌∙◌, List}
-use Rattle.room_acl.specs.Entries.{EntryModel}
-use Rattle.room_acl.specs.Inheritance.{with_inherited}
+use Rattle.room_tree.proofs.Common.{ap, ◌∙◌, List, EntryModel, with_inherited}
 use Rattle.room_tree.proofs.ListsByRows.{inherited_alike}
 use Rattle.room_tree.proofs.renewing.list_in_folder.Goals as goal
 

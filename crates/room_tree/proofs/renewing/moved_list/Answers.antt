@@ -1,6 +1,5 @@
-use Rattle.std.proofs.Common.{◌≡◌, ℕ, ap, sym, ◌∙◌, true, eqb, Option, None, Some}
+use Rattle.room_tree.proofs.Common.{◌≡◌, ℕ, ap, sym, ◌∙◌, true, eqb, Option, None, Some, eqb-true}
 use Rattle.std.specs.Option.{option_eq}
-use Rattle.std.proofs.lemmas.Bool.{eqb-true}
 use Rattle.room_tree.proofs.ListsByRows.{stays_in_folder, under_alike}
 use Rattle.room_tree.proofs.InTurn.{both_tell}
 use Rattle.room_tree.proofs.renewing.moved_list.Goals as goal

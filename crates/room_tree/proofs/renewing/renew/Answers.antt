@@ -1,5 +1,4 @@
-use Rattle.std.proofs.Common.{◌≡◌, refl, arith}
-use Rattle.room_acl.specs.declared.subject.Kind.TheVariants.{File, Folder}
+use Rattle.room_tree.proofs.Common.{◌≡◌, refl, arith, File, Folder}
 use Rattle.room_tree.proofs.renewing.renew.Goals as goal
 
 pub returns-clause-value : goal.returns-clause-value

@@ -1,6 +1,4 @@
-use Rattle.std.proofs.Common.{ap, sym, ◌∙◌, [], append-nil, arith}
-use Rattle.room_records.specs.declared.node.Node.{Node}
-use Rattle.room_records.proofs.RoomsMap.{some_is}
+use Rattle.room_tree.proofs.Common.{ap, sym, ◌∙◌, [], append-nil, arith, Node, some_is}
 use Rattle.room_tree.proofs.Below.{itself_counts}
 use Rattle.room_tree.proofs.RenewingChildren.{renews_file}
 use Rattle.room_tree.proofs.renewing.renew_below.Goals as goal

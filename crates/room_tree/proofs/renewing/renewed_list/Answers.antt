@@ -1,11 +1,6 @@
-use Rattle.std.proofs.Common.{◌≡◌, ◌≢◌, ap, sym, ◌∙◌, List, Option, None, Some, MatchOption}
-use Rattle.std.specs.Prelude.{Vec}
-use Rattle.std.specs.declared.alloc.Global.{Global}
-use Rattle.room_acl.specs.Entries.{EntryModel}
-use Rattle.room_acl.specs.Inheritance.{own_part, with_inherited}
-use Rattle.room_records.specs.Records.{ObjectRecords}
-use Rattle.room_records.specs.Room.{object_at, list_under, follows}
-use Rattle.room_records.proofs.Paths.{object_at_node}
+use Rattle.room_tree.proofs.Common.{◌≡◌, ◌≢◌, ap, sym, ◌∙◌, List, Option, None, Some, MatchOption, Vec, Global}
+use Rattle.room_tree.proofs.Common.{EntryModel, own_part, with_inherited, ObjectRecords, object_at, list_under, follows}
+use Rattle.room_tree.proofs.Common.{object_at_node}
 use Rattle.room_tree.proofs.ListsByRows.{list_by_rows, unfollowed}
 use Rattle.room_tree.proofs.renewing.renewed_list.Goals as goal
 

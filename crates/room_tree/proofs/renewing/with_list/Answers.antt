@@ -1,6 +1,4 @@
-use Rattle.std.proofs.Common.{ap, ◌∙◌, arith, List, [], ◌∷◌, ◌++◌}
-use Rattle.room_records.specs.declared.change.Change.{Change}
-use Rattle.room_records.specs.declared.change.Change.TheVariants.{PutEntries, PutNode}
+use Rattle.room_tree.proofs.Common.{ap, ◌∙◌, arith, List, [], ◌∷◌, ◌++◌, Change, PutEntries, PutNode}
 use Rattle.room_tree.proofs.renewing.with_list.Goals as goal
 
 pub returns-in_default-clause-value : goal.returns-in_default-clause-value

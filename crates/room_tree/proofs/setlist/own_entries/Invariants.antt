@@ -1,6 +1,4 @@
-use Rattle.std.proofs.Common.{◌≡◌, ◌++◌, drop}
-use Rattle.std.specs.List.{filter_map}
-use Rattle.room_commands.specs.SetList.{kept_entry}
+use Rattle.room_tree.proofs.Common.{◌≡◌, ◌++◌, drop, filter_map, kept_entry}
 use Rattle.room_tree.proofs.setlist.own_entries.Given as goal
 
 -- what was kept so far, and what the rest leaves, is what the whole list leaves

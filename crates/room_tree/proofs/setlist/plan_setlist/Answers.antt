@@ -1,12 +1,6 @@
-use Rattle.std.proofs.Common.{◌≡◌, ap, sym, ◌∙◌, [], ◌∷◌, refl, arith}
-use Rattle.std.specs.List.{filter_map}
-use Rattle.room_acl.specs.Inheritance.{own_entries_fault, with_inherited}
-use Rattle.room_commands.specs.SetList.{kept_entry, own_entries_of_setlist}
-use Rattle.room_records.proofs.Shelves.{read_then}
-use Rattle.room_tree.specs.LoadedObjects.{node_of}
-use Rattle.room_tree.specs.Renewals.{entries_of}
-use Rattle.room_commands.specs.Checks.{walk, check_exists, check_right, check_lawful, object_or_default}
-use Rattle.room_commands.proofs.Shorthands.{kind_of}
+use Rattle.room_tree.proofs.Common.{◌≡◌, ap, sym, ◌∙◌, [], ◌∷◌, refl, arith, filter_map, own_entries_fault}
+use Rattle.room_tree.proofs.Common.{with_inherited, kept_entry, own_entries_of_setlist, read_then, node_of, entries_of}
+use Rattle.room_tree.proofs.Common.{walk, check_exists, check_right, check_lawful, object_or_default, kind_of}
 use Rattle.room_tree.proofs.Checking.{none_passes, first_alone, there}
 use Rattle.room_tree.proofs.Relisted.{setlist_plans}
 use Rattle.room_tree.proofs.Stops.{handed_on, in_front}

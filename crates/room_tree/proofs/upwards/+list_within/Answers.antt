@@ -1,9 +1,5 @@
-use Rattle.std.proofs.Common.{◌≡◌, ◌≤◌, ◌-◌, ap, sym, ◌∙◌, arith, cond, [], ◌++◌, length, Some, List}
-use Rattle.room_acl.specs.Entries.{EntryModel}
-use Rattle.room_acl.specs.Inheritance.{handed_down, own_part}
-use Rattle.room_records.specs.Records.{ObjectRecords, Records}
-use Rattle.room_records.specs.Room.{follows}
-use Rattle.room_records.proofs.Paths.{own_number}
+use Rattle.room_tree.proofs.Common.{◌≡◌, ◌≤◌, ◌-◌, ap, sym, ◌∙◌, arith, cond, [], ◌++◌, length, Some, List, EntryModel}
+use Rattle.room_tree.proofs.Common.{handed_down, own_part, ObjectRecords, Records, follows, own_number}
 use Rattle.room_tree.proofs.ListsUpwards.{node_there, list_ends, goes_on}
 use Rattle.room_tree.proofs.upwards.+list_within.Goals as goal
 

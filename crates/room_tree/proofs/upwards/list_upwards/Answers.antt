@@ -1,7 +1,4 @@
-use Rattle.std.proofs.Common.{◌≡◌, ap, sym, ◌∙◌, Some}
-use Rattle.room_records.specs.Records.{Records}
-use Rattle.room_records.proofs.Paths.{own_number}
-use Rattle.room_records.proofs.RoomsMap.{none_is_some}
+use Rattle.room_tree.proofs.Common.{◌≡◌, ap, sym, ◌∙◌, Some, Records, own_number, none_is_some}
 use Rattle.room_tree.proofs.ListsUpwards.{node_there, few_names}
 use Rattle.room_tree.proofs.upwards.list_upwards.Goals as goal
 

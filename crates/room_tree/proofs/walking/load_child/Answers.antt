@@ -1,4 +1,4 @@
-use Rattle.room_records.proofs.Paths.{no_child}
+use Rattle.room_tree.proofs.Common.{no_child}
 use Rattle.room_tree.proofs.LoadedObjects.{child_is_loaded}
 use Rattle.room_tree.proofs.walking.load_child.Goals as goal
 

@@ -1,5 +1,4 @@
-use Rattle.std.proofs.Common.{ap, sym, ◌∙◌}
-use Rattle.room_records.specs.Records.{ObjectRecords}
+use Rattle.room_tree.proofs.Common.{ap, sym, ◌∙◌, ObjectRecords}
 use Rattle.room_tree.proofs.LoadedObjects.{root_is_loaded}
 use Rattle.room_tree.proofs.walking.load_root.Goals as goal
 

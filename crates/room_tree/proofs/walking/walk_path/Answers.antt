@@ -1,7 +1,5 @@
-use Rattle.std.proofs.Common.{◌≡◌, ℕ, refl, subst, take, length, get_or, arith, []}
-use Rattle.std.proofs.lemmas.List.{get_or_default, take_all}
-use Rattle.room_records.proofs.Shelves.{read_then}
-use Rattle.room_tree.specs.LoadedObjects.{IsLoaded}
+use Rattle.room_tree.proofs.Common.{◌≡◌, ℕ, refl, subst, take, length, get_or, arith, [], get_or_default, take_all}
+use Rattle.room_tree.proofs.Common.{read_then, IsLoaded}
 use Rattle.room_tree.proofs.Walks.{walk_stopped, walk_goes_on, walk_ends, walk_is_cut, last_is_absent}
 use Rattle.room_tree.proofs.Walks.{next_is_there, last_folder, walk_done}
 use Rattle.room_tree.proofs.Stops.{handed_on, refused_as}

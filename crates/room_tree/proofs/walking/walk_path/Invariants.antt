@@ -1,7 +1,4 @@
-use Rattle.std.proofs.Common.{◌≡◌, ◌+◌, ◌*◌, ◌≤◌, take, drop, None}
-use Rattle.room_records.specs.Shelf.{ShelfRead}
-use Rattle.room_commands.specs.Checks.{walk}
-use Rattle.room_tree.specs.LoadedObjects.{OfRoom, IsLoaded, IsAbove}
+use Rattle.room_tree.proofs.Common.{◌≡◌, ◌+◌, ◌*◌, ◌≤◌, take, drop, None, ShelfRead, walk, OfRoom, IsLoaded, IsAbove}
 use Rattle.room_tree.proofs.Walks.{walk_from}
 use Rattle.room_tree.proofs.walking.walk_path.Given as goal
 

@@ -1,6 +1,6 @@
 -- The head of an answer, part by part.
-use Rattle.std.proofs.Common.{◌≡◌, ◌≤◌, ℕ, List, [], ◌++◌, length, ap, ◌∙◌, append_assoc, arith}
-use Rattle.room_wire.specs.Answers.AnswerModel.{AnswerModel, Reply, Refused, phrase, answer_parts}
+use Rattle.room_wire.proofs.Common.{◌≡◌, ◌≤◌, ℕ, List, [], ◌++◌, length, ap, ◌∙◌, append_assoc, arith, AnswerModel}
+use Rattle.room_wire.proofs.Common.{Reply, Refused, phrase, answer_parts}
 use Rattle.room_wire.specs.Answers.Codes.{refusal_parts}
 use Rattle.room_wire.specs.declared.answers.code.Code.{Code}
 use Rattle.room_wire.specs.declared.answers.code.Code.TheVariants.{BadSession}

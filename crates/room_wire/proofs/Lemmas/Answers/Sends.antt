@@ -1,7 +1,5 @@
 -- What a writer took, call after call.
-use Rattle.std.proofs.Common.{◌≡◌, ℕ, Bool, true, false, List, ◌++◌, subst, Option}
-use Rattle.std.proofs.KnownBytes.{Appends-trans}
-use Rattle.room_records.specs.Writers.{Sent}
+use Rattle.room_wire.proofs.Common.{◌≡◌, ℕ, Bool, true, false, List, ◌++◌, subst, Option, Appends-trans, Sent}
 use Rattle.room_records.proofs.Writers.{front_then}
 
 pub sent_then : (a b c : Option (List ℕ)) (x y : List ℕ) (ok : Bool)

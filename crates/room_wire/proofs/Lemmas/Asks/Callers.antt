@@ -1,8 +1,6 @@
 -- A user of the roster by name: the groups that stand there for a name, beside it.
-use Rattle.std.proofs.Common.{◌≡◌, ℕ, Bool, true, false, List, [], ◌∷◌, cond, refl, sym, ap, ◌∙◌, Some}
-use Rattle.std.specs.Prelude.{bytes_eq, option_map}
-use Rattle.std.proofs.lemmas.Option.{same_Some}
-use Rattle.std.proofs.lemmas.Slice.Eq.{bytes_eq-Decides}
+use Rattle.room_wire.proofs.Common.{◌≡◌, ℕ, Bool, true, false, List, [], ◌∷◌, cond, refl, sym, ap, ◌∙◌, Some, bytes_eq}
+use Rattle.room_wire.proofs.Common.{option_map, same_Some, bytes_eq-Decides}
 use Rattle.room_acl.specs.SubjectModel.{SubjectModel}
 use Rattle.room_records.specs.Roster.{user_named, groups_of}
 

@@ -1,16 +1,11 @@
 -- Which of three routes a router finds: in numbers, 0 for questions, 1 for a request in a slot, 2 for a session.
-use Rattle.std.proofs.Common.{◌≡◌, ◌≢◌, ◌<◌, ℕ, zero, suc, ◌-◌, ◌==◌, ◌&&◌, Bool, true, false, List, [], ◌∷◌, ◌++◌}
-use Rattle.std.proofs.Common.{cond, length, drop, take, nat_eq, ltb, Option, None, Some, refl, sym, ap, ◌∙◌, arith}
-use Rattle.std.proofs.Common.{codes, inl, inr, subst}
-use Rattle.std.specs.Prelude.{◌⊎◌, nat_lt}
-use Rattle.std.specs.List.{ends_with, starts_with, list_all}
+use Rattle.room_wire.proofs.Common.{◌≡◌, ◌≢◌, ◌<◌, ℕ, zero, suc, ◌-◌, ◌==◌, ◌&&◌, Bool, true, false, List, [], ◌∷◌}
+use Rattle.room_wire.proofs.Common.{◌++◌, cond, length, drop, take, nat_eq, ltb, Option, None, Some, refl, sym, ap, ◌∙◌}
+use Rattle.room_wire.proofs.Common.{arith, codes, inl, inr, subst, ◌⊎◌, nat_lt, ends_with, starts_with, list_all}
+use Rattle.room_wire.proofs.Common.{and_from, and_parts, ltb-true, nat_tests, take-append-drop, AreSuffixes, IsText}
+use Rattle.room_wire.proofs.Common.{Rows, Seen, rows_of, ends, prepend, empty_node, param_token, catch_all_token, first}
+use Rattle.room_wire.proofs.Common.{has_slash, segment, longest_suffix, after_param, cuts, seek, step, param_step}
 use Rattle.std.specs.Cmp.Lexicographic.{pointwise, bytes_decides}
-use Rattle.std.proofs.lemmas.Bool.{and_from, and_parts, ltb-true}
-use Rattle.std.proofs.lemmas.Bool.Decides.{nat_tests}
-use Rattle.std.proofs.lemmas.List.{take-append-drop}
-use Rattle.matchit.specs.Level.{AreSuffixes, IsText}
-use Rattle.matchit.specs.Rows.{Rows, Seen, rows_of, ends, prepend, empty_node, param_token, catch_all_token}
-use Rattle.matchit.specs.Seek.{first, has_slash, segment, longest_suffix, after_param, cuts, seek, step, param_step}
 use Rattle.matchit.proofs.ParamLemmas.{after_param-end, after_param-stop, after_param-kid}
 use Rattle.matchit.proofs.SeekLemmas.{seek-empty, param_step-empty, or_else-none, first-prefix, step-hit, step-miss}
 use Rattle.matchit.proofs.SeekLemmas.{prepend-nil}

@@ -1,18 +1,11 @@
 -- Numbers in targets, and names of users.
-use Rattle.std.proofs.Common.{◌≡◌, ℕ, ◌^◌, ◌<◌, ◌==◌, ◌&&◌, ◌||◌, Bool, true, false, List, length, cond, refl}
-use Rattle.std.proofs.Common.{sym, ap, ◌∙◌, arith, rules, Some, None, Result, Ok, Err}
-use Rattle.std.specs.Prelude.{nat_lt, nat_le, not, slice_index}
-use Rattle.std.proofs.lemmas.Result.{OkIff-at_ok, OkIff-at_err}
-use Rattle.std.specs.Char.{is_ascii_digit}
-use Rattle.std.specs.List.{list_all}
+use Rattle.room_wire.proofs.Common.{◌≡◌, ℕ, ◌^◌, ◌<◌, ◌==◌, ◌&&◌, ◌||◌, Bool, true, false, List, length, cond, refl}
+use Rattle.room_wire.proofs.Common.{sym, ap, ◌∙◌, arith, rules, Some, None, Result, Ok, Err, nat_lt, nat_le, not}
+use Rattle.room_wire.proofs.Common.{slice_index, OkIff-at_ok, OkIff-at_err, is_ascii_digit, list_all, digits_value}
+use Rattle.room_wire.proofs.Common.{ParsesUnsigned, and_parts, nat_tests, principal_utf8, is_number, number_from}
+use Rattle.room_wire.proofs.Common.{is_principal, principal_from}
 use Rattle.std.specs.Str.{IsUtf8}
-use Rattle.std.specs.Str.Parse.{digits_value, ParsesUnsigned}
-use Rattle.std.proofs.lemmas.Bool.{and_parts}
-use Rattle.std.proofs.lemmas.Bool.Decides.{nat_tests}
 use Rattle.std.proofs.lemmas.Str.Parse.{IsNumeralModel, numerals_by_value, parse_digits}
-use Rattle.room_acl.proofs.WhoTexts.{principal_utf8}
-use Rattle.room_wire.specs.Asks.AskOf.{is_number, number_from}
-use Rattle.room_wire.specs.Forms.Reading.{is_principal, principal_from}
 
 abbrev AreDigits : List ℕ → Type 0
 AreDigits ds = list_all is_ascii_digit ds ≡ true

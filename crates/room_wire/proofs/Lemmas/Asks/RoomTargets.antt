@@ -1,18 +1,13 @@
 -- What the router of a room gives of a target is what the plain texts of its routes say.
-use Rattle.std.proofs.Common.{◌≡◌, ℕ, ◌==◌, ◌&&◌, ◌||◌, Bool, true, false, List, [], ◌∷◌, ◌++◌, cond, length}
-use Rattle.std.proofs.Common.{get_or, Option, None, Some, refl, sym, ap, ◌∙◌, arith, codes, inl, inr, append-nil}
-use Rattle.std.specs.Prelude.{bytes_eq, nat_lt, not, option_map, option_and_then}
-use Rattle.std.specs.List.{list_any, slice_split, onto_first}
-use Rattle.std.proofs.lemmas.Bool.{and_parts, and_from, lt-ltb, ltb-true, not-true, false_from_ne_true}
-use Rattle.std.proofs.lemmas.List.{length-append}
-use Rattle.std.proofs.lemmas.Slice.Eq.{bytes_eq-Decides}
-use Rattle.matchit.specs.Level.{IsText}
-use Rattle.matchit.specs.Router.{map_key}
-use Rattle.room_wire.specs.declared.asks.routing.Route.{Route}
+use Rattle.room_wire.proofs.Common.{◌≡◌, ℕ, ◌==◌, ◌&&◌, ◌||◌, Bool, true, false, List, [], ◌∷◌, ◌++◌, cond, length}
+use Rattle.room_wire.proofs.Common.{get_or, Option, None, Some, refl, sym, ap, ◌∙◌, arith, codes, inl, inr, append-nil}
+use Rattle.room_wire.proofs.Common.{bytes_eq, nat_lt, not, option_map, option_and_then, list_any, slice_split}
+use Rattle.room_wire.proofs.Common.{onto_first, and_parts, and_from, lt-ltb, ltb-true, not-true, false_from_ne_true}
+use Rattle.room_wire.proofs.Common.{length-append, bytes_eq-Decides, IsText, map_key, Route, is_ascii, is_mark}
+use Rattle.room_wire.proofs.Common.{room_rows, action_of, target_by, target_at, IsPart, IsTargetOf, is_part, route_of}
+use Rattle.room_wire.proofs.Common.{part_at, parted, room_target}
 use Rattle.room_wire.specs.declared.asks.routing.Route.TheVariants as R
 use Rattle.room_wire.specs.declared.asks.routing.Action.{Action}
-use Rattle.room_wire.specs.Asks.Routing.{is_ascii, is_mark, room_rows, action_of, target_by, target_at}
-use Rattle.room_wire.specs.Asks.Targets.{IsPart, IsTargetOf, is_part, route_of, part_at, parted, room_target}
 use Rattle.room_wire.proofs.Lemmas.Asks.Finds.{IsRouteOf, after, version_found, room_tells, told}
 use Rattle.room_wire.proofs.Lemmas.Asks.Routes.{key, found_is, number, to_number, from_number, some_of, made, asked_by}
 

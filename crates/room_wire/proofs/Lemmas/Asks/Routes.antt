@@ -1,20 +1,13 @@
 -- The routes of a room are exactly their targets.
-use Rattle.std.proofs.Common.{◌≡◌, ◌<◌, ℕ, zero, suc, ◌==◌, Bool, true, false, List, [], ◌∷◌, cond}
-use Rattle.std.proofs.Common.{Option, None, Some, refl, sym, ap, ◌∙◌, arith, codes, inl, inr, ◌||◌, ◌↔◌}
-use Rattle.std.specs.Prelude.{is_some, nat_lt, option_map}
-use Rattle.std.specs.List.{AllByRecursion, list_all, list_any}
-use Rattle.std.proofs.lemmas.Bool.{and_parts, ltb-true}
-use Rattle.matchit.specs.Level.{IsText}
-use Rattle.matchit.specs.Params.{walk}
-use Rattle.matchit.specs.Router.{RouteOf, map_key}
-use Rattle.matchit.specs.Seek.{first, has_slash}
+use Rattle.room_wire.proofs.Common.{◌≡◌, ◌<◌, ℕ, zero, suc, ◌==◌, Bool, true, false, List, [], ◌∷◌, cond, Option, None}
+use Rattle.room_wire.proofs.Common.{Some, refl, sym, ap, ◌∙◌, arith, codes, inl, inr, ◌||◌, ◌↔◌, is_some, nat_lt}
+use Rattle.room_wire.proofs.Common.{option_map, AllByRecursion, list_all, list_any, and_parts, ltb-true, IsText, walk}
+use Rattle.room_wire.proofs.Common.{RouteOf, map_key, first, has_slash, Route, is_ascii, is_mark, is_route, room_rows}
+use Rattle.room_wire.proofs.Common.{session_tokens, slot_tokens, TargetModel, action_of, target_by, target_at}
+use Rattle.room_wire.proofs.Common.{first_part, IsPart, IsTargetOf}
 use Rattle.matchit.proofs.RenameLemmas.{first-rename}
-use Rattle.room_wire.specs.declared.asks.routing.Route.{Route}
 use Rattle.room_wire.specs.declared.asks.routing.Route.TheVariants as R
 use Rattle.room_wire.specs.declared.asks.routing.Action.{Action}
-use Rattle.room_wire.specs.Asks.Routing.{is_ascii, is_mark, is_route, room_rows, session_tokens, slot_tokens}
-use Rattle.room_wire.specs.Asks.Routing.{TargetModel, action_of, target_by, target_at, first_part}
-use Rattle.room_wire.specs.Asks.Targets.{IsPart, IsTargetOf}
 use Rattle.room_wire.proofs.Lemmas.Asks.Finds.{rows_of_room, after, version_found, room_is, room_tells, told}
 use Rattle.room_wire.proofs.Lemmas.Asks.Finds.{IsSome, IsRouteOf}
 use Rattle.room_wire.proofs.Lemmas.Asks.Walks.{walk_session, walk_slot}

@@ -1,13 +1,10 @@
 -- The parts of a target that is ASCII are UTF-8.
-use Rattle.std.proofs.Common.{◌≡◌, ℕ, ◌-◌, ◌&&◌, Bool, true, false, List, [], ◌∷◌, length, cond, leb, take, drop}
-use Rattle.std.specs.Prelude.{nat_lt}
-use Rattle.std.specs.List.{AllByRecursion, list_all}
-use Rattle.std.specs.Str.{IsAscii, IsUtf8}
-use Rattle.std.proofs.lemmas.Bool.{and_parts, ltb-true}
-use Rattle.std.proofs.lemmas.Str.{IsUtf8-from_ascii, IsUtf8-nil, IsAscii-take, IsAscii-drop}
+use Rattle.room_wire.proofs.Common.{◌≡◌, ℕ, ◌-◌, ◌&&◌, Bool, true, false, List, [], ◌∷◌, length, cond, leb, take, drop}
+use Rattle.room_wire.proofs.Common.{nat_lt, AllByRecursion, list_all, IsAscii, and_parts, ltb-true, IsUtf8-from_ascii}
+use Rattle.room_wire.proofs.Common.{IsUtf8-nil, IsAscii-take, IsAscii-drop, walk, wild_from, wild_stop, after_token}
+use Rattle.room_wire.proofs.Common.{is_ascii}
+use Rattle.std.specs.Str.{IsUtf8}
 use Rattle.std.proofs.lemmas.Str.Ascii.{IsAscii-nil, IsAscii-cons}
-use Rattle.matchit.specs.Params.{walk, wild_from, wild_stop, after_token}
-use Rattle.room_wire.specs.Asks.Routing.{is_ascii}
 
 pub ascii_by : (text : List ℕ) → is_ascii text ≡ true → IsAscii text
 ascii_by [] h = IsAscii-nil

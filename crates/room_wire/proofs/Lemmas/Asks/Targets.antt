@@ -1,20 +1,11 @@
 -- Where a router has one route and that is a plain text, it finds that text and no other.
-use Rattle.std.proofs.Common.{◌≡◌, ℕ, ◌==◌, ◌&&◌, Bool, true, false, List, [], ◌∷◌, cond, nat_lt, refl, sym, ap, ◌∙◌}
-use Rattle.std.proofs.Common.{arith, Option, None, Some, codes}
-use Rattle.std.specs.Prelude.{is_some, bytes_eq}
-use Rattle.std.specs.List.{list_all, list_any}
-use Rattle.std.proofs.lemmas.Bool.{and_parts, ltb-true}
-use Rattle.std.proofs.lemmas.Bool.Decides.{nat_tests}
-use Rattle.std.proofs.lemmas.Slice.Eq.{bytes_eq-Decides}
-use Rattle.matchit.specs.Rows.{Rows}
-use Rattle.matchit.specs.Router.{RouteOf, map_key}
-use Rattle.matchit.specs.Seek.{seek, first}
+use Rattle.room_wire.proofs.Common.{◌≡◌, ℕ, ◌==◌, ◌&&◌, Bool, true, false, List, [], ◌∷◌, cond, nat_lt, refl, sym, ap}
+use Rattle.room_wire.proofs.Common.{◌∙◌, arith, Option, None, Some, codes, is_some, bytes_eq, list_all, list_any}
+use Rattle.room_wire.proofs.Common.{and_parts, ltb-true, nat_tests, bytes_eq-Decides, Rows, RouteOf, map_key, seek}
+use Rattle.room_wire.proofs.Common.{first, matchit_on_literals, Route, is_mark, is_route, check_rows}
 use Rattle.matchit.proofs.SeekLemmas.{seek-empty, seek-lit}
 use Rattle.matchit.proofs.RenameLemmas.{seek-rename}
-use Rattle.matchit.proofs.OnLiterals.{matchit_on_literals}
-use Rattle.room_wire.specs.declared.asks.routing.Route.{Route}
 use Rattle.room_wire.specs.declared.asks.routing.Route.TheVariants.{Check}
-use Rattle.room_wire.specs.Asks.Routing.{is_mark, is_route, check_rows}
 
 -- the one route of a plain text
 abbrev one : List ℕ → Rows

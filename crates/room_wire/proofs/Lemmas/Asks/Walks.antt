@@ -1,15 +1,9 @@
 -- What the parameters of a route take of a target.
-use Rattle.std.proofs.Common.{◌≡◌, ◌<◌, ◌≤◌, ℕ, suc, ◌+◌, ◌-◌, true, false}
-use Rattle.std.proofs.Common.{List, [], ◌∷◌, ◌++◌, length, drop, ltb, leb, refl, sym, ap, ap₂, ◌∙◌, arith}
-use Rattle.std.proofs.Common.{codes, append-nil, append_assoc, subst}
-use Rattle.std.proofs.lemmas.Bool.Decides.{nat_tests}
-use Rattle.std.proofs.lemmas.List.{length-append}
-use Rattle.std.proofs.Math.Seq.{drop-append_seam, take-append_seam}
-use Rattle.matchit.specs.Params.{walk, wild_from, wild_stop, part_of, next_at, after_token}
-use Rattle.matchit.specs.Rows.{param_token}
-use Rattle.matchit.specs.Seek.{has_slash, segment}
-use Rattle.matchit.specs.Level.{IsText}
-use Rattle.room_wire.specs.Asks.Routing.{first_part, later_parts, session_tokens, slot_tokens}
+use Rattle.room_wire.proofs.Common.{◌≡◌, ◌<◌, ◌≤◌, ℕ, suc, ◌+◌, ◌-◌, true, false, List, [], ◌∷◌, ◌++◌, length, drop}
+use Rattle.room_wire.proofs.Common.{ltb, leb, refl, sym, ap, ap₂, ◌∙◌, arith, codes, append-nil, append_assoc, subst}
+use Rattle.room_wire.proofs.Common.{nat_tests, length-append, drop-append_seam, take-append_seam, walk, wild_from}
+use Rattle.room_wire.proofs.Common.{wild_stop, part_of, next_at, after_token, param_token, has_slash, segment, IsText}
+use Rattle.room_wire.proofs.Common.{first_part, later_parts, session_tokens, slot_tokens}
 use Rattle.room_wire.proofs.Lemmas.Asks.Finds.{slashed, joined, one_more, longer, literal_text}
 
 next_in : (len at : ℕ) → at < len → next_at len at ≡ at + 1

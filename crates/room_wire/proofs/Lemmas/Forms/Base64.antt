@@ -1,15 +1,11 @@
 -- What is written as base64 is what RFC 4648 says, and nothing else is read.
-use Rattle.std.proofs.Common.{◌≡◌, ◌↔◌, ℕ, zero, suc, ◌+◌, ◌*◌, ◌/◌, ◌%◌, ◌<◌, ◌==◌, ◌&&◌, refl, ap, sym, ◌∙◌, arith}
-use Rattle.std.proofs.Common.{Bool, true, inl, inr, List, [], ◌∷◌, ◌++◌, map, codes, length, replicate, Some, Ok}
-use Rattle.std.specs.Prelude.{slice_index, Result, Err}
+use Rattle.room_wire.proofs.Common.{◌≡◌, ◌↔◌, ℕ, zero, suc, ◌+◌, ◌*◌, ◌/◌, ◌%◌, ◌<◌, ◌==◌, ◌&&◌, refl, ap, sym, ◌∙◌}
+use Rattle.room_wire.proofs.Common.{arith, Bool, true, inl, inr, List, [], ◌∷◌, ◌++◌, map, codes, length, replicate}
+use Rattle.room_wire.proofs.Common.{Some, Ok, slice_index, Result, Err, and_parts, eqb-true, cases_eq, standard}
+use Rattle.room_wire.proofs.Common.{encode_of, decode_of, decoded_of, IsStrict, decode_of_iff, AreBytes}
 use Rattle.std.specs.Result.{result_ok}
-use Rattle.std.proofs.lemmas.Bool.{and_parts, eqb-true, cases_eq}
-use Rattle.base64.specs.Engines.{standard}
 use Rattle.base64.specs.declared.decode.DecodeError.{DecodeError}
-use Rattle.base64.specs.GeneralPurpose.{encode_of, decode_of, decoded_of, IsStrict}
 use Rattle.base64.specs.Rfc4648.{encode_symbols, padding_len}
-use Rattle.base64.proofs.EngineFacts.{decode_of_iff}
-use Rattle.room_commands.specs.Lawful.{AreBytes}
 use Rattle.room_wire.specs.Forms.Base64.{letter_of, base64}
 use Rattle.room_wire.proofs.Lemmas.Forms.CommandBytes.{are_bytes}
 

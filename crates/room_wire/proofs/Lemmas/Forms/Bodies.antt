@@ -1,11 +1,6 @@
 -- Bodies as JSON values.
-use Rattle.std.proofs.Common.{◌≡◌, ℕ, Bool, true, false, List, None, Some, cond, refl, sym, ap, ◌∙◌}
-use Rattle.std.specs.Prelude.{IsUtf8}
-use Rattle.std.specs.Str.{is_utf8}
-use Rattle.std.proofs.lemmas.Str.{IsUtf8-from_is_utf8, is_utf8-from_IsUtf8}
-use Rattle.serde_json.specs.Data.{Data}
-use Rattle.serde_json.specs.Read.{read}
-use Rattle.room_wire.specs.Forms.Reading.{json_of}
+use Rattle.room_wire.proofs.Common.{◌≡◌, ℕ, Bool, true, false, List, None, Some, cond, refl, sym, ap, ◌∙◌, IsUtf8}
+use Rattle.room_wire.proofs.Common.{is_utf8, IsUtf8-from_is_utf8, is_utf8-from_IsUtf8, Data, read, json_of}
 
 pub json_some : (body : List ℕ) (d : Data) → IsUtf8 body → read body ≡ Some d → Some d ≡ json_of body
 json_some body d text e = sym (ap (λ b. cond b (read body) None) (is_utf8-from_IsUtf8 body text) ∙ e)

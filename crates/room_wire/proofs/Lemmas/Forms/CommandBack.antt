@@ -1,29 +1,17 @@
 -- The text of a lawful command is that of a body that asks it.
-use Rattle.std.proofs.Common.{◌≡◌, ◌≤◌, ◌<◌, ◌^◌, ℕ, Bool, true, false, List, [], ◌∷◌, refl, sym, ap}
-use Rattle.std.proofs.Common.{◌∙◌, arith, Option, Some, codes}
-use Rattle.std.specs.Prelude.{IsUtf8, option_map, option_and_then}
-use Rattle.std.specs.List.{flat_map, AllByRecursion}
-use Rattle.std.specs.Option.{option_zip}
-use Rattle.std.proofs.lemmas.Option.{same_Some}
-use Rattle.std.proofs.lemmas.Str.{IsUtf8-append, IsUtf8-from_ascii, IsUtf8-nil}
-use Rattle.json.specs.Tree.{HasNumbers, ItemsHaveNumbers, depth, items_depth}
+use Rattle.room_wire.proofs.Common.{◌≡◌, ◌≤◌, ◌<◌, ◌^◌, ℕ, Bool, true, false, List, [], ◌∷◌, refl, sym, ap, ◌∙◌, arith}
+use Rattle.room_wire.proofs.Common.{Option, Some, codes, IsUtf8, option_map, option_and_then, AllByRecursion}
+use Rattle.room_wire.proofs.Common.{option_zip, same_Some, IsUtf8-append, IsUtf8-from_ascii, IsUtf8-nil, HasNumbers}
+use Rattle.room_wire.proofs.Common.{ItemsHaveNumbers, depth, items_depth, Data, string, array, no_members, read}
+use Rattle.room_wire.proofs.Common.{max_depth, of_json, of_items, outline, items_outline, compact_text, standard}
+use Rattle.room_wire.proofs.Common.{encode_of, IsAscii-encode_of, EntryModel, type_of, principal_utf8, who_utf8, Path}
+use Rattle.room_wire.proofs.Common.{IsFileName, IsPath, path_text, CommandModel, IsEntry, IsLawful, who_text, entry}
+use Rattle.room_wire.proofs.Common.{entries, at, cmd, num, obj, path, bytes, members, command_data, command_text}
+use Rattle.room_wire.proofs.Common.{of_path, command_in, keep_at, asked_in, command_of_body}
+use Rattle.std.specs.List.{flat_map}
 use Rattle.json.proofs.Printed.Decimals.{IsNumber-decimal}
 use Rattle.json.proofs.Printed.Utf8.{are_ascii, IsUtf8-are_ascii}
-use Rattle.serde_json.specs.Data.{Data, string, array, no_members}
-use Rattle.serde_json.specs.Read.{read, max_depth, of_json, of_items}
-use Rattle.serde_json.specs.Written.{outline, items_outline, compact_text}
-use Rattle.base64.specs.Engines.{standard}
-use Rattle.base64.specs.GeneralPurpose.{encode_of}
-use Rattle.base64.proofs.EngineFacts.{IsAscii-encode_of}
-use Rattle.room_acl.specs.Entries.{EntryModel, type_of}
-use Rattle.room_acl.proofs.WhoTexts.{principal_utf8, who_utf8}
-use Rattle.room_records.specs.Names.{Path, IsFileName, IsPath, path_text}
-use Rattle.room_commands.specs.CommandModel.{CommandModel}
 use Rattle.room_commands.specs.CommandModel as C
-use Rattle.room_commands.specs.Lawful.{IsEntry, IsLawful}
-use Rattle.room_wire.specs.Forms.Texts.{who_text, entry, entries, at, cmd, num, obj, path, bytes}
-use Rattle.room_wire.specs.Forms.Texts.{members, command_data, command_text}
-use Rattle.room_wire.specs.Forms.Commands.{of_path, command_in, keep_at, asked_in, command_of_body}
 use Rattle.room_wire.specs.declared.forms.commands.PathVerb.TheVariants as P
 use Rattle.room_wire.proofs.Lemmas.Forms.Bodies.{json_some}
 use Rattle.room_wire.proofs.Lemmas.Forms.CommandBytes.{bytes_back}

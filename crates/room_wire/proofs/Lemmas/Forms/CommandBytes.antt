@@ -1,13 +1,11 @@
 -- Bytes as base64.
-use Rattle.std.proofs.Common.{◌≡◌, ℕ, zero, suc, List, [], ◌∷◌, refl, sym, ap, ◌∙◌, arith, None, Some, Ok}
+use Rattle.room_wire.proofs.Common.{◌≡◌, ℕ, zero, suc, List, [], ◌∷◌, refl, sym, ap, ◌∙◌, arith, None, Some, Ok}
+use Rattle.room_wire.proofs.Common.{standard, decode_of, decoded_of, encode_of, IsBytes, IsConsistent, IsDecodeFailure}
+use Rattle.room_wire.proofs.Common.{decode_of-encode_of, AreBytes}
 use Rattle.std.specs.Result.{result_ok}
 use Rattle.base64.specs.declared.decode.DecodeError.{DecodeError}
 use Rattle.base64.specs.declared.decode.DecodeAllocError.{DecodeAllocError}
 use Rattle.base64.specs.declared.decode.DecodeAllocError.TheVariants.{DecodeError as Failed, OutOfMemory}
-use Rattle.base64.specs.Engines.{standard}
-use Rattle.base64.specs.GeneralPurpose.{decode_of, decoded_of, encode_of, IsBytes, IsConsistent, IsDecodeFailure}
-use Rattle.base64.proofs.EngineFacts.{decode_of-encode_of}
-use Rattle.room_commands.specs.Lawful.{AreBytes}
 
 pub decoded_some : (given text bytes : List ℕ) → given ≡ text
     → decode_of standard given ≡ Ok bytes → Some bytes ≡ decoded_of standard text

@@ -1,28 +1,18 @@
 -- A command that a body asks is lawful, where its bytes are bytes.
-use Rattle.std.proofs.Common.{◌≡◌, ℕ, suc, Bool, true, false, List, [], ◌∷◌, get_or, cond, refl}
-use Rattle.std.proofs.Common.{sym, ap, subst, arith, Option, None, Some, codes, Fits, w8}
-use Rattle.std.specs.Prelude.{IsTrue, option_map, option_and_then}
-use Rattle.std.specs.List.{AllByRecursion}
-use Rattle.std.specs.Option.{option_zip}
-use Rattle.std.proofs.lemmas.Option.{cond_some, same_Some, option_and_then_some}
-use Rattle.serde_json.specs.Data.{Data, Items, no_items, item}
-use Rattle.serde_json.specs.Find.{as_array, get}
-use Rattle.base64.specs.Engines.{standard}
-use Rattle.base64.specs.GeneralPurpose.{decoded_of}
+use Rattle.room_wire.proofs.Common.{◌≡◌, ℕ, suc, Bool, true, false, List, [], ◌∷◌, get_or, cond, refl, sym, ap, subst}
+use Rattle.room_wire.proofs.Common.{arith, Option, None, Some, codes, Fits, w8, IsTrue, option_map, option_and_then}
+use Rattle.room_wire.proofs.Common.{AllByRecursion, option_zip, cond_some, same_Some, option_and_then_some, Data, Items}
+use Rattle.room_wire.proofs.Common.{no_items, item, as_array, get, standard, decoded_of, EntryModel, names_its_kind}
+use Rattle.room_wire.proofs.Common.{is_who, who_of, who_of_kind, Path, IsPath, CommandModel, AreBytes, IsWho, IsEntry}
+use Rattle.room_wire.proofs.Common.{IsLawful, has_count, json_of, number_at, text_at, mask_from, mask_at, flags_from}
+use Rattle.room_wire.proofs.Common.{allow_from, is_principal, principal_from, principal_at, who_from, entry_from}
+use Rattle.room_wire.proofs.Common.{entry_in, all_among, all_at, path_from, path_at, list_flags_from, verb_from}
+use Rattle.room_wire.proofs.Common.{of_path, of_bytes, has_parts, verb_command, command_in, keep_at, asked_in}
+use Rattle.room_wire.proofs.Common.{command_of_body, bytes_in}
 use Rattle.room_acl.specs.declared.who.Who.{Who}
 use Rattle.room_acl.specs.Bits.{is_flags, IsFlags, is_list_flags, IsListFlags, is_mask, IsMask}
-use Rattle.room_acl.specs.Entries.{EntryModel, names_its_kind, is_who, who_of}
 use Rattle.room_acl.specs.Principals.{IsPrincipal}
-use Rattle.room_acl.proofs.WhoTexts.{who_of_kind}
-use Rattle.room_records.specs.Names.{Path, IsPath}
-use Rattle.room_commands.specs.CommandModel.{CommandModel}
 use Rattle.room_commands.specs.CommandModel as C
-use Rattle.room_commands.specs.Lawful.{AreBytes, IsWho, IsEntry, IsLawful}
-use Rattle.room_wire.specs.Forms.Reading.{has_count, json_of, number_at, text_at, mask_from, mask_at, flags_from}
-use Rattle.room_wire.specs.Forms.Reading.{allow_from, is_principal, principal_from, principal_at, who_from}
-use Rattle.room_wire.specs.Forms.Reading.{entry_from, entry_in, all_among, all_at}
-use Rattle.room_wire.specs.Forms.Commands.{path_from, path_at, list_flags_from, verb_from, of_path, of_bytes, has_parts}
-use Rattle.room_wire.specs.Forms.Commands.{verb_command, command_in, keep_at, asked_in, command_of_body, bytes_in}
 use Rattle.room_wire.specs.declared.forms.commands.PathVerb.{PathVerb}
 use Rattle.room_wire.specs.declared.forms.commands.PathVerb.TheVariants as P
 use Rattle.room_wire.specs.declared.forms.commands.BytesVerb.{BytesVerb}

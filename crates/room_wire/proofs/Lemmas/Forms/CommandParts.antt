@@ -1,23 +1,14 @@
 -- What is written for a lawful part of a command is read as that part.
-use Rattle.std.proofs.Common.{◌≡◌, ◌<◌, ◌^◌, ℕ, Bool, true, false, List, [], ◌∷◌, cond, refl, ap}
-use Rattle.std.proofs.Common.{◌∙◌, arith, None, Some}
-use Rattle.std.specs.Prelude.{IsTrue, bit_and, option_map, option_and_then}
-use Rattle.std.specs.List.{AllByRecursion}
-use Rattle.std.specs.Option.{option_zip}
-use Rattle.std.proofs.lemmas.Bool.{eqb-true, leb-true}
+use Rattle.room_wire.proofs.Common.{◌≡◌, ◌<◌, ◌^◌, ℕ, Bool, true, false, List, [], ◌∷◌, cond, refl, ap, ◌∙◌, arith}
+use Rattle.room_wire.proofs.Common.{None, Some, IsTrue, bit_and, option_map, option_and_then, AllByRecursion}
+use Rattle.room_wire.proofs.Common.{option_zip, eqb-true, leb-true, as_number, as_u64, EntryModel, names_its_kind}
+use Rattle.room_wire.proofs.Common.{is_who, type_of, who_back, Path, IsPath, path_text, IsWho, IsEntry, who_text, num}
+use Rattle.room_wire.proofs.Common.{entry, entries, flags_from, mask_from, allow_from, principal_from, who_from}
+use Rattle.room_wire.proofs.Common.{entry_from, entry_in, all_among, path_from, list_flags_from}
 use Rattle.std.proofs.lemmas.Nat.{and_le_r}
-use Rattle.serde_json.specs.Find.{as_number, as_u64}
 use Rattle.room_acl.specs.declared.who.Who.{Who}
 use Rattle.room_acl.specs.Bits.{IsFlags, IsListFlags, IsMask, all_list_flags}
-use Rattle.room_acl.specs.Entries.{EntryModel, names_its_kind, is_who, type_of}
 use Rattle.room_acl.specs.Principals.{IsPrincipal}
-use Rattle.room_acl.proofs.WhoTexts.{who_back}
-use Rattle.room_records.specs.Names.{Path, IsPath, path_text}
-use Rattle.room_commands.specs.Lawful.{IsWho, IsEntry}
-use Rattle.room_wire.specs.Forms.Texts.{who_text, num, entry, entries}
-use Rattle.room_wire.specs.Forms.Reading.{flags_from, mask_from, allow_from, principal_from, who_from}
-use Rattle.room_wire.specs.Forms.Reading.{entry_from, entry_in, all_among}
-use Rattle.room_wire.specs.Forms.Commands.{path_from, list_flags_from}
 use Rattle.room_wire.proofs.Lemmas.Forms.CommandPaths.{path_of_text}
 
 pub path_back : (path : Path) → IsPath path → path_from (path_text path) ≡ Some path

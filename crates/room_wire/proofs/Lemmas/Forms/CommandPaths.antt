@@ -1,14 +1,9 @@
 -- The path of a text: the one lawful path with that text, where there is one.
-use Rattle.std.proofs.Common.{◌≡◌, ℕ, true, ◌&&◌, List, [], ◌∷◌, drop, cond, refl, sym, ap, subst, ◌∙◌}
-use Rattle.std.proofs.Common.{arith, Option, None, Some, Result, Ok, Err}
-use Rattle.std.specs.Prelude.{bytes_eq, IfSome, IfOk}
-use Rattle.std.proofs.lemmas.Bool.{and_parts, and_from}
-use Rattle.std.proofs.lemmas.Option.{cond_some}
-use Rattle.std.proofs.lemmas.Slice.Eq.{bytes_eq-Decides}
-use Rattle.room_records.specs.Names.{Path, IsPath, is_path, path_text}
+use Rattle.room_wire.proofs.Common.{◌≡◌, ℕ, true, ◌&&◌, List, [], ◌∷◌, drop, cond, refl, sym, ap, subst, ◌∙◌, arith}
+use Rattle.room_wire.proofs.Common.{Option, None, Some, Result, Ok, Err, bytes_eq, IfSome, IfOk, and_parts, and_from}
+use Rattle.room_wire.proofs.Common.{cond_some, bytes_eq-Decides, Path, IsPath, is_path, path_text, names_in, path_from}
 use Rattle.room_records.proofs.PathParts.{name_parts, path_parts}
 use Rattle.room_records.proofs.PathTexts.{path_of_parts}
-use Rattle.room_wire.specs.Forms.Commands.{names_in, path_from}
 
 -- the names that stand in a path's text are the path's
 names_of_text : (path : Path) → IsPath path → names_in (path_text path) ≡ path

@@ -1,18 +1,14 @@
 -- The text of a value with no float reads as that value.
-use Rattle.std.proofs.Common.{◌≡◌, ◌≤◌, ◌<◌, ◌^◌, ℕ, List, [], ◌∷◌, refl, sym, ap, ◌∙◌, append-nil, Some, decimal}
-use Rattle.std.specs.Prelude.{option_map, option_and_then}
-use Rattle.std.specs.List.{AllByRecursion}
+use Rattle.room_wire.proofs.Common.{◌≡◌, ◌≤◌, ◌<◌, ◌^◌, ℕ, List, [], ◌∷◌, refl, sym, ap, ◌∙◌, append-nil, Some, decimal}
+use Rattle.room_wire.proofs.Common.{option_map, option_and_then, AllByRecursion, json_tokens, HasNumbers, depth, Data}
+use Rattle.room_wire.proofs.Common.{number, object, Items, item, Members, no_members, unsigned, put, read, max_depth}
+use Rattle.room_wire.proofs.Common.{of_json, of_items, of_members, outline, members_outline, compact_text, members, obj}
 use Rattle.json.specs.Lex.{tokens}
 use Rattle.json.specs.Json as json
-use Rattle.json.specs.Tree.{json_tokens, HasNumbers, depth}
 use Rattle.json.proofs.Printed.Tokens.{tokens-print}
 use Rattle.json.proofs.Printed.Trees.{value-json_tokens, ArePrintable-json_tokens}
-use Rattle.serde_json.specs.Data.{Data, number, object, Items, item, Members, no_members, unsigned, put}
-use Rattle.serde_json.specs.Read.{read, max_depth, of_json, of_items, of_members}
-use Rattle.serde_json.specs.Written.{outline, members_outline, compact_text}
 use Rattle.serde_json.proofs.Numbers.{number_of-decimal}
 use Rattle.serde_json.proofs.Texts.{print-outline}
-use Rattle.room_wire.specs.Forms.Texts.{members, obj}
 
 pub text_reads : (d : Data) → HasNumbers (outline d) → depth (outline d) ≤ max_depth
     → of_json (outline d) ≡ Some d → read (compact_text d) ≡ Some d

@@ -1,13 +1,10 @@
 -- A value's text is UTF-8 where its strings are.
-use Rattle.std.proofs.Common.{◌<◌, ◌^◌, ℕ, Bool, true, false, List, [], ◌∷◌, refl}
-use Rattle.std.specs.Prelude.{IsUtf8, decimal}
-use Rattle.std.proofs.lemmas.Str.{IsUtf8-append, IsUtf8-nil, IsUtf8-from_ascii}
+use Rattle.room_wire.proofs.Common.{◌<◌, ◌^◌, ℕ, Bool, true, false, List, [], ◌∷◌, refl, IsUtf8, decimal, IsUtf8-append}
+use Rattle.room_wire.proofs.Common.{IsUtf8-nil, IsUtf8-from_ascii, quoted, Data, null, boolean, number, string, array}
+use Rattle.room_wire.proofs.Common.{object, Items, no_items, item, Members, no_members, member, number_text, comma_if}
+use Rattle.room_wire.proofs.Common.{compact_text, items_text, members_text}
 use Rattle.std.proofs.lemmas.Fmt.{IsAscii-decimal}
-use Rattle.json.specs.Print.{quoted}
 use Rattle.json.proofs.Printed.Utf8.{IsUtf8-are_ascii, IsUtf8-quoted, IsUtf8-boolean}
-use Rattle.serde_json.specs.Data.{Data, null, boolean, number, string, array, object, Items, no_items, item}
-use Rattle.serde_json.specs.Data.{Members, no_members, member}
-use Rattle.serde_json.specs.Written.{number_text, comma_if, compact_text, items_text, members_text}
 
 abbrev mutual
   pub HasUtf8 : Data → Type 0

@@ -1,30 +1,19 @@
 -- Letters of base64: none is escaped, and those of a long message are those of its pieces.
-use Rattle.std.proofs.Common.{◌≡◌, ◌+◌, ◌-◌, ◌*◌, ◌/◌, ◌%◌, ◌<◌, ◌≤◌, ◌==◌, ℕ, zero, suc, true, List, [], ◌∷◌, ◌++◌}
-use Rattle.std.proofs.Common.{length, take, drop, map, replicate, get_or, slice_index}
-use Rattle.std.proofs.Common.{refl, sym, ap, ◌∙◌, arith, inl, inr}
-use Rattle.std.proofs.Common.{append_assoc, codes, cond, Ok, Err, Fits, w8}
-use Rattle.std.specs.Prelude.{Result, OnOk, is_ok}
-use Rattle.std.specs.Prelude.{flat_map}
-use Rattle.std.specs.List.{AllByRecursion}
-use Rattle.std.proofs.Math.Seq.{take-add}
-use Rattle.std.proofs.lemmas.Bool.{or_parts, not-true, eqb-false, ltb-false, cases_lt}
+use Rattle.room_wire.proofs.Common.{◌≡◌, ◌+◌, ◌-◌, ◌*◌, ◌/◌, ◌%◌, ◌<◌, ◌≤◌, ◌==◌, ℕ, zero, suc, true, List, [], ◌∷◌}
+use Rattle.room_wire.proofs.Common.{◌++◌, length, take, drop, map, replicate, get_or, slice_index, refl, sym, ap, ◌∙◌}
+use Rattle.room_wire.proofs.Common.{arith, inl, inr, append_assoc, codes, cond, Ok, Err, Fits, w8, Result, OnOk, is_ok}
+use Rattle.room_wire.proofs.Common.{flat_map, AllByRecursion, take-add, or_parts, not-true, eqb-false, ltb-false}
+use Rattle.room_wire.proofs.Common.{cases_lt, take-take, take-append-drop, take_all, length-take-le, length-drop}
+use Rattle.room_wire.proofs.Common.{length-map, put_mid, string, compact_text, obj, ok, cmd, bytes, get_or_append_left}
+use Rattle.room_wire.proofs.Common.{get_or-append_right, get_or-map, escape_byte, escape, quoted, standard, encode_of}
+use Rattle.room_wire.proofs.Common.{encode_of-append}
 use Rattle.std.proofs.lemmas.Grind.{flat_map-append}
-use Rattle.std.proofs.lemmas.List.{take-take, take-append-drop, take_all, length-take-le, length-drop, length-map}
 use Rattle.std.proofs.lemmas.Slice.{take-put_mid}
-use borrow.Rule.Slice.PartMut.{put_mid}
-use Rattle.serde_json.specs.Data.{string}
-use Rattle.serde_json.specs.Written.{compact_text}
 use Rattle.std.proofs.lemmas.Fmt.{decimal_digit}
-use Rattle.room_wire.specs.Forms.Texts.{obj, ok, cmd, bytes}
-use Rattle.std.proofs.lemmas.List.{get_or_append_left, get_or-append_right, get_or-map}
 use Rattle.json.specs.Run.{is_plain, is_stop}
-use Rattle.json.specs.Print.{escape_byte, escape, quoted}
 use Rattle.json.proofs.Printed.Strings.{escape_byte_plain}
-use Rattle.base64.specs.Engines.{standard}
-use Rattle.base64.specs.GeneralPurpose.{encode_of}
 use Rattle.base64.specs.Rfc4648.{encode_group, encode_symbols, padding_len}
 use Rattle.base64.proofs.Tables.{all_below_at}
-use Rattle.base64.proofs.EngineFacts.{encode_of-append}
 use Rattle.room_wire.specs.declared.forms.letters.TheConstants.{PAIRS}
 
 abbrev letters : List ℕ

@@ -1,14 +1,9 @@
 -- Members and items of JSON values.
-use Rattle.std.proofs.Common.{◌≡◌, ℕ, ◌+◌, false, List, [], ◌∷◌, length, map, refl, sym, ap, ◌∙◌, arith, Some, ◌==◌}
-use Rattle.std.proofs.Common.{String}
-use Rattle.std.specs.Option.{option_map_or}
+use Rattle.room_wire.proofs.Common.{◌≡◌, ℕ, ◌+◌, false, List, [], ◌∷◌, length, map, refl, sym, ap, ◌∙◌, arith, Some}
+use Rattle.room_wire.proofs.Common.{◌==◌, String, option_map_or, length-map, Data, Members, as_object, view, members_of}
+use Rattle.room_wire.proofs.Common.{members_view, count, has_count}
 use Rattle.std.specs.declared.alloc.Global.{Global}
-use Rattle.std.proofs.lemmas.List.{length-map}
-use Rattle.serde_json.specs.Data.{Data, Members}
-use Rattle.serde_json.specs.Find.{as_object}
-use Rattle.serde_json.specs.View.{view, members_of, members_view}
 use Rattle.serde_json.specs.declared.value.Value.{Value}
-use Rattle.room_wire.specs.Forms.Reading.{count, has_count}
 
 count_of : (ms : List (String Global × Data)) → count (members_of ms) ≡ length ms
 count_of [] = refl

@@ -1,23 +1,17 @@
 -- Objects that were written token by token, and the lists in them.
-use Rattle.std.proofs.Common.{◌≡◌, ◌+◌, ◌<◌, ◌≤◌, ℕ, List, [], ◌∷◌, ◌++◌, length, take, get_or, refl, sym, ap, ◌∙◌}
-use Rattle.std.proofs.Common.{append_assoc, append-nil, codes, decimal}
-use Rattle.std.specs.Prelude.{flat_map, Result, Ok, Err, IfOk}
+use Rattle.room_wire.proofs.Common.{◌≡◌, ◌+◌, ◌<◌, ◌≤◌, ℕ, List, [], ◌∷◌, ◌++◌, length, take, get_or, refl, sym, ap}
+use Rattle.room_wire.proofs.Common.{◌∙◌, append_assoc, append-nil, codes, decimal, flat_map, Result, Ok, Err, IfOk}
+use Rattle.room_wire.proofs.Common.{take_more, take_all, IfOk-weaker, Token, begin_object, end_object, begin_array}
+use Rattle.room_wire.proofs.Common.{end_array, key, print, json_tokens, items_tokens, Data, outline, items_outline}
+use Rattle.room_wire.proofs.Common.{compact_text, EntryModel, Name, Path, path_text, entry, entries, named_child, named}
+use Rattle.room_wire.proofs.Common.{command_data}
 use Rattle.std.proofs.lemmas.Grind.{flat_map-append}
-use Rattle.std.proofs.lemmas.List.{take_more, take_all}
-use Rattle.std.proofs.lemmas.Result.{IfOk-weaker}
-use Rattle.json.specs.Token.{Token, begin_object, end_object, begin_array, end_array, key, string, number}
-use Rattle.json.specs.Print.{print}
-use Rattle.json.specs.Tree.{json_tokens, items_tokens}
+use Rattle.json.specs.Token.{string, number}
 use Rattle.json.specs.Written.{Written}
-use Rattle.serde_json.specs.Data.{Data}
-use Rattle.serde_json.specs.Written.{outline, items_outline, compact_text}
 use Rattle.serde_json.proofs.Texts.{print-outline}
 use Rattle.room_acl.specs.declared.subject.Kind.{Kind}
-use Rattle.room_acl.specs.Entries.{EntryModel}
-use Rattle.room_records.specs.Names.{Name, Path, path_text}
 use Rattle.room_commands.specs.CommandModel as C
 use Rattle.room_wire.specs.Forms.Writing.{Adds}
-use Rattle.room_wire.specs.Forms.Texts.{entry, entries, named_child, named, command_data}
 
 -- what was written into an empty buffer, and then these tokens
 infixl 10 ◌then◌

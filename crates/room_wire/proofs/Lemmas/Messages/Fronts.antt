@@ -1,17 +1,14 @@
 -- What stands at the front of a stream.
-use Rattle.std.proofs.Common.{◌≡◌, ◌≤◌, ◌<◌, ℕ, ◌+◌, List, ◌++◌, length, take, drop, map, sym, ap, subst, ◌∙◌, arith}
-use Rattle.std.proofs.Common.{append_assoc, None, Some, append-nil, [], slice_range, min}
-use Rattle.std.proofs.lemmas.List.{take-append-drop, length-append, length-take-le, take_all, length-take, length-map}
+use Rattle.room_wire.proofs.Common.{◌≡◌, ◌≤◌, ◌<◌, ℕ, ◌+◌, List, ◌++◌, length, take, drop, map, sym, ap, subst, ◌∙◌}
+use Rattle.room_wire.proofs.Common.{arith, append_assoc, None, Some, append-nil, [], slice_range, min, take-append-drop}
+use Rattle.room_wire.proofs.Common.{length-append, length-take-le, take_all, length-take, length-map, same_Some}
+use Rattle.room_wire.proofs.Common.{RequestHead, IsRequestHead, print_request, ReadsRequest, HasNoRequest, Field}
+use Rattle.room_wire.proofs.Common.{name_and_value, RequestOverflows, AreFieldsAt, header_bytes, max_fields, max_head}
+use Rattle.room_wire.proofs.Common.{MessageModel, body_after, print_message, Reads, NoMessage, NeverMessage}
 use Rattle.std.proofs.lemmas.List.Folds.{drop_split}
-use Rattle.std.proofs.lemmas.Option.{same_Some}
 use Rattle.httparse.proofs.RunLemmas.{length-slice_range}
-use Rattle.httparse.specs.Grammar.{RequestHead, IsRequestHead, print_request, ReadsRequest, HasNoRequest, Field}
-use Rattle.httparse.specs.Spans.{name_and_value, RequestOverflows, AreFieldsAt, header_bytes}
 use Rattle.httparse.specs.declared.spans.HeaderSpan.{HeaderSpan}
 use Rattle.httparse.proofs.GrammarLemmas.{request_prefix_free}
-use Rattle.room_wire.specs.Messages.Limits.{max_fields, max_head}
-use Rattle.room_wire.specs.Messages.MessageModel.{MessageModel, body_after, print_message, Reads, NoMessage}
-use Rattle.room_wire.specs.Messages.MessageModel.{NeverMessage}
 use Rattle.room_wire.proofs.Lemmas.Messages.Boundaries.{same_front, front_in}
 
 -- the head of a message at the front

@@ -1,15 +1,11 @@
 -- What is lacking of a message.
-use Rattle.std.proofs.Common.{◌≡◌, ◌≤◌, ◌<◌, ℕ, ◌+◌, List, [], ◌∷◌, ◌++◌, length, take, drop, refl, ◌∙◌}
-use Rattle.std.proofs.Common.{subst, arith, Some, inl, ap, true}
-use Rattle.std.proofs.lemmas.List.{take_all, length-drop, length-append}
+use Rattle.room_wire.proofs.Common.{◌≡◌, ◌≤◌, ◌<◌, ℕ, ◌+◌, List, [], ◌∷◌, ◌++◌, length, take, drop, refl, ◌∙◌, subst}
+use Rattle.room_wire.proofs.Common.{arith, Some, inl, ap, true, take_all, length-drop, length-append, IsUtf8-from_ascii}
+use Rattle.room_wire.proofs.Common.{RequestHead, IsRequestHead, is_token_byte, is_uri_byte, lf, print_request}
+use Rattle.room_wire.proofs.Common.{HasNoRequest, MayBecomeRequest, max_fields, max_head, body_after}
 use Rattle.std.proofs.lemmas.List.Elements.{All-nil, All-push}
-use Rattle.std.proofs.lemmas.Str.{IsUtf8-from_ascii}
 use Rattle.std.proofs.lemmas.Str.Ascii.{IsAscii-cons, IsAscii-nil}
-use Rattle.httparse.specs.Grammar.{RequestHead, IsRequestHead, is_token_byte, is_uri_byte, lf, print_request}
-use Rattle.httparse.specs.Grammar.{HasNoRequest, MayBecomeRequest}
 use Rattle.httparse.proofs.OpenLemmas.{letter_is_token}
-use Rattle.room_wire.specs.Messages.Limits.{max_fields, max_head}
-use Rattle.room_wire.specs.Messages.MessageModel.{body_after}
 use Rattle.room_wire.specs.Messages.Taken.{LacksHead, LacksBody}
 use Rattle.room_wire.proofs.Lemmas.Messages.Fronts.{Parsed, after_head, head_size}
 

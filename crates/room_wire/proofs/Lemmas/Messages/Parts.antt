@@ -1,14 +1,12 @@
 -- The parts between commas.
-use Rattle.std.proofs.Common.{◌≡◌, ◌<◌, ℕ, ◌+◌, Bool, true, false, ◌||◌, ◌==◌, List, [], ◌∷◌, ◌++◌, length, take, drop}
-use Rattle.std.proofs.Common.{get_or, refl, sym, ap, ◌∙◌, arith, None, Some, cond, nat_lt, subst, ◌≤◌}
-use Rattle.std.proofs.lemmas.List.{take-append-drop, drop_more, length-take-le, get_or-take}
-use Rattle.std.proofs.Math.Bool.{or-false}
+use Rattle.room_wire.proofs.Common.{◌≡◌, ◌<◌, ℕ, ◌+◌, Bool, true, false, ◌||◌, ◌==◌, List, [], ◌∷◌, ◌++◌, length, take}
+use Rattle.room_wire.proofs.Common.{drop, get_or, refl, sym, ap, ◌∙◌, arith, None, Some, cond, nat_lt, subst, ◌≤◌}
+use Rattle.room_wire.proofs.Common.{take-append-drop, drop_more, length-take-le, get_or-take, or-false, All, position}
+use Rattle.room_wire.proofs.Common.{position_or_len, onto_first, slice_split, list_any, nat_tests, is_close}
+use Rattle.room_wire.proofs.Common.{lists_close}
 use Rattle.std.proofs.lemmas.List.Quantifiers.{position-Some}
 use Rattle.std.proofs.lemmas.List.Elements.{All-from_get_or}
 use Rattle.std.proofs.lemmas.List.Splits.{slice_split_at}
-use Rattle.std.specs.List.{All, position, position_or_len, onto_first, slice_split, list_any}
-use Rattle.std.proofs.lemmas.Bool.Decides.{nat_tests}
-use Rattle.room_wire.specs.Messages.Stream.{is_close, lists_close}
 
 -- the parts, where the first comma is here
 pub parts_at : (xs : List ℕ) (i : ℕ) → position (λ b. b == 44) xs ≡ Some i

@@ -1,9 +1,8 @@
 -- How splits and answers go on.
-use Rattle.std.proofs.Common.{◌≡◌, ℕ, Bool, true, false, List, [], ◌∷◌, ◌++◌, refl, sym, ap, subst, ◌∙◌}
-use Rattle.std.proofs.Common.{append_assoc, append-nil, ◌⊎◌, inl, inr}
+use Rattle.room_wire.proofs.Common.{◌≡◌, ℕ, Bool, true, false, List, [], ◌∷◌, ◌++◌, refl, sym, ap, subst, ◌∙◌}
+use Rattle.room_wire.proofs.Common.{append_assoc, append-nil, ◌⊎◌, inl, inr, MessageModel, Reads, NoMessage}
+use Rattle.room_wire.proofs.Common.{print_message, Follows, Ended, Splits, is_last}
 use Rattle.std.specs.Bool.{MatchBool}
-use Rattle.room_wire.specs.Messages.MessageModel.{MessageModel, Reads, NoMessage, print_message}
-use Rattle.room_wire.specs.Messages.Stream.{Follows, Ended, Splits, is_last}
 use Rattle.room_wire.proofs.Lemmas.Messages.Fronts.{message_prefix_free}
 
 pub follows_then : (ms ks : List MessageModel) (a b c : List ℕ)

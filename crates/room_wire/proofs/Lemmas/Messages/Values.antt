@@ -1,15 +1,10 @@
 -- The values of the fields of one name, field by field.
-use Rattle.std.proofs.Common.{◌≡◌, ◌<◌, ℕ, ◌-◌, ◌+◌, Bool, true, false, ◌||◌, ◌&&◌, append-nil, List, [], ◌∷◌, ◌++◌}
-use Rattle.std.proofs.Common.{length, take, map, get_or, cond, refl, sym, ap, ◌∙◌, arith}
-use Rattle.std.proofs.lemmas.List.{take_more, map-append}
-use Rattle.std.proofs.Math.Bool.{or-false}
+use Rattle.room_wire.proofs.Common.{◌≡◌, ◌<◌, ℕ, ◌-◌, ◌+◌, Bool, true, false, ◌||◌, ◌&&◌, append-nil, List, [], ◌∷◌}
+use Rattle.room_wire.proofs.Common.{◌++◌, length, take, map, get_or, cond, refl, sym, ap, ◌∙◌, arith, take_more}
+use Rattle.room_wire.proofs.Common.{map-append, or-false, nat_tests, list_all, list_any, is_ascii_digit, digit_value}
+use Rattle.room_wire.proofs.Common.{header_bytes, values_named, has_name, IsFound}
 use Rattle.std.proofs.lemmas.List.Folds.{list_all_at, list_any-append}
-use Rattle.std.proofs.lemmas.Bool.Decides.{nat_tests}
-use Rattle.std.specs.List.{list_all, list_any}
-use Rattle.std.specs.Char.{is_ascii_digit, digit_value}
-use Rattle.httparse.specs.Spans.{header_bytes}
 use Rattle.httparse.specs.declared.spans.HeaderSpan.{HeaderSpan}
-use Rattle.room_wire.specs.Messages.Fields.{values_named, has_name, IsFound}
 use Rattle.room_wire.specs.declared.messages.fields.Found.{Found}
 use Rattle.room_wire.specs.declared.messages.fields.Found.TheVariants.{Absent, One, Many}
 

@@ -1,12 +1,7 @@
 -- Bytes that came, and the rounds over them.
-use Rattle.std.proofs.Common.{◌≡◌, ◌<◌, ℕ, ◌+◌, List, [], ◌++◌, length, ap, subst, ◌∙◌, Option, ◌⊎◌}
-use Rattle.std.proofs.Common.{inl, inr, append-nil}
-use Rattle.std.proofs.lemmas.List.{length-append}
-use Rattle.std.proofs.KnownBytes.{Appends-trans}
-use Rattle.std.specs.Io.KnownBytes.{Appends, IsAtEnd}
-use Rattle.room_wire.specs.Messages.MessageModel.{MessageModel, NoMessage, NeverMessage}
-use Rattle.room_wire.specs.Messages.Stream.{Follows, Ended, Splits}
-use Rattle.room_wire.specs.Answers.AnswerModel.{bad_answer}
+use Rattle.room_wire.proofs.Common.{◌≡◌, ◌<◌, ℕ, ◌+◌, List, [], ◌++◌, length, ap, subst, ◌∙◌, Option, ◌⊎◌, inl, inr}
+use Rattle.room_wire.proofs.Common.{append-nil, length-append, Appends-trans, Appends, IsAtEnd, MessageModel, NoMessage}
+use Rattle.room_wire.proofs.Common.{NeverMessage, Follows, Ended, Splits, bad_answer}
 use Rattle.room_wire.specs.Serving.Ends.{Wrote, Refused, Answers}
 use Rattle.room_wire.specs.declared.serving.stop.Why.{Why}
 use Rattle.room_wire.specs.declared.serving.stop.Why.TheVariants.{Closed, BadMessage, ReadFailed, WriteFailed, Memory}

@@ -1,17 +1,11 @@
 -- One message more.
-use Rattle.std.proofs.Common.{◌≡◌, ℕ, ◌+◌, Bool, true, false, ◌||◌, ◌==◌, List, [], ◌∷◌, ◌++◌, length, take, drop, map}
-use Rattle.std.proofs.Common.{refl, sym, ap, subst, ◌∙◌, Option, append_assoc, append-nil, ◌⊎◌, inl, inr}
-use Rattle.std.proofs.lemmas.List.{length-append}
-use Rattle.std.proofs.KnownBytes.{Appends-trans}
-use Rattle.std.specs.Io.KnownBytes.{Appends}
-use Rattle.httparse.specs.Spans.{header_bytes}
+use Rattle.room_wire.proofs.Common.{◌≡◌, ℕ, ◌+◌, Bool, true, false, ◌||◌, ◌==◌, List, [], ◌∷◌, ◌++◌, length, take, drop}
+use Rattle.room_wire.proofs.Common.{map, refl, sym, ap, subst, ◌∙◌, Option, append_assoc, append-nil, ◌⊎◌, inl, inr}
+use Rattle.room_wire.proofs.Common.{length-append, Appends-trans, Appends, header_bytes, AnswerModel, answer_bytes}
+use Rattle.room_wire.proofs.Common.{MessageModel, Reads, AnswersOne, Outputs, Follows, Ended, is_last, asks_to_close}
+use Rattle.room_wire.proofs.Common.{Sent, AppendsFront}
 use Rattle.room_wire.specs.declared.messages.message.Message.{Message}
-use Rattle.room_wire.specs.Answers.AnswerModel.{AnswerModel, answer_bytes}
-use Rattle.room_wire.specs.Messages.MessageModel.{MessageModel, Reads}
 use Rattle.room_wire.specs.Messages.Taken.{Shows}
-use Rattle.room_wire.specs.Serving.Outputs.{AnswersOne, Outputs}
-use Rattle.room_wire.specs.Messages.Stream.{Follows, Ended, is_last, asks_to_close}
-use Rattle.room_records.specs.Writers.{Sent, AppendsFront}
 use Rattle.room_wire.proofs.Lemmas.Messages.Streams.{follows_then, follows_ended, follows_one, ended_one}
 
 pub shown_last : (message : Message) (m : MessageModel) (last : Bool) → Shows message m

@@ -1,7 +1,5 @@
-use Rattle.std.proofs.Common.{◌<◌, ap, sym, ◌∙◌, arith, bit_and}
-use Rattle.std.proofs.lemmas.Bool.{eqb-true}
-use Rattle.std.proofs.lemmas.Nat.{and_le_r}
-use Rattle.room_acl.specs.Bits.{identifier_group, without_inherited}
+use Rattle.room_acl.proofs.Common.{◌<◌, ap, sym, ◌∙◌, arith, bit_and, eqb-true, and_le_r, identifier_group}
+use Rattle.room_acl.proofs.Common.{without_inherited}
 use Rattle.room_acl.proofs.Marks.{cleared_flags, cleared_are_flags, cleared_group}
 use Rattle.room_acl.proofs.flags.Flags.without_inherited.Goals as goal
 

@@ -1,4 +1,4 @@
-use Rattle.std.proofs.Common.{◌∙◌}
+use Rattle.room_acl.proofs.Common.{◌∙◌}
 use Rattle.room_acl.proofs.Steps.{same_decision}
 use Rattle.room_acl.proofs.pending.Pending.end.Goals as goal
 

@@ -1,6 +1,4 @@
-use Rattle.std.proofs.Common.{ℕ, ap, ◌∙◌}
-use Rattle.std.specs.Prelude.{bit_or, []}
-use Rattle.room_acl.specs.Bits.{has_bit}
+use Rattle.room_acl.proofs.Common.{ℕ, ap, ◌∙◌, bit_or, [], has_bit}
 use Rattle.room_acl.specs.Pending.{refuses_with}
 use Rattle.room_acl.proofs.Steps.{refused_at_end}
 use Rattle.room_acl.proofs.pending.Pending.refused.Goals as goal

@@ -1,4 +1,4 @@
-use Rattle.std.proofs.Common.{sym, ◌∙◌}
+use Rattle.room_acl.proofs.Common.{sym, ◌∙◌}
 use Rattle.room_acl.proofs.Steps.{bit_allowed, bit_denied, left_taken, same_decision, IsMask-without}
 use Rattle.room_acl.proofs.pending.Pending.take.Goals as goal
 use Rattle.room_acl.proofs.pending.Pending.take.Goals.{then-not-allow, else-not-allow}

@@ -1,4 +1,4 @@
-use Rattle.std.proofs.Common.{sym, ◌∙◌}
+use Rattle.room_acl.proofs.Common.{sym, ◌∙◌}
 use Rattle.room_acl.proofs.Subjects.{same_subject}
 use Rattle.room_acl.proofs.subject.SubjectPartialEq.eq.Goals as goal
 

@@ -1,4 +1,4 @@
-use Rattle.std.proofs.Common.{sym}
+use Rattle.room_cache.proofs.Common.{sym}
 use Rattle.room_cache.proofs.Remembered.{found_true}
 use Rattle.room_cache.proofs.known.Known.decision.Goals as goal
 

@@ -1,9 +1,6 @@
-use Rattle.std.proofs.Common.{refl, ap, sym, subst, inl, inr, Some, cond, [], ◌∷◌, rules}
-use Rattle.room_records.specs.declared.change.Change.{Change}
-use Rattle.room_records.specs.declared.change.Change.TheVariants.{PutSlot, DropSlots}
-use Rattle.room_records.specs.Changes.{apply_change}
+use Rattle.room_cache.proofs.Common.{refl, ap, sym, subst, inl, inr, Some, cond, [], ◌∷◌, rules, Change, PutSlot}
+use Rattle.room_cache.proofs.Common.{DropSlots, apply_change, IsLeft}
 use Rattle.room_records.proofs.SessionKeys.{name_test}
-use Rattle.room_cache.specs.Known.{IsLeft}
 use Rattle.room_cache.proofs.Keys.{other_name}
 use Rattle.room_cache.proofs.Left.{others_left}
 use Rattle.room_cache.proofs.SlotsKept.{no_slots}

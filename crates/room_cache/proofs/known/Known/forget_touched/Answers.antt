@@ -1,8 +1,6 @@
-use Rattle.std.proofs.Common.{◌≡◌, ◌+◌, ◌≤◌, ℕ, sym, ap, ◌∙◌, subst, List, ◌∷◌, drop, length, arith}
+use Rattle.room_cache.proofs.Common.{◌≡◌, ◌+◌, ◌≤◌, ℕ, sym, ap, ◌∙◌, subst, List, ◌∷◌, drop, length, arith, Change}
+use Rattle.room_cache.proofs.Common.{Known, IsLeft}
 use Rattle.std.proofs.lemmas.List.{drop_more, drop_all}
-use Rattle.room_records.specs.declared.change.Change.{Change}
-use Rattle.room_cache.specs.declared.known.Known.{Known}
-use Rattle.room_cache.specs.Known.{IsLeft}
 use Rattle.room_cache.proofs.Left.{left_itself, left_in_turn, left_true}
 use Rattle.room_cache.proofs.known.Known.forget_touched.Goals as goal
 

@@ -1,6 +1,4 @@
-use Rattle.std.proofs.Common.{drop}
-use Rattle.room_cache.specs.declared.known.Known.{Known}
-use Rattle.room_cache.specs.Known.{IsLeft}
+use Rattle.room_cache.proofs.Common.{drop, Known, IsLeft}
 use Rattle.room_cache.proofs.known.Known.forget_touched.Given as goal
 
 abbrev pub invariant-loop-change : goal.invariant-loop-change

@@ -1,7 +1,6 @@
-use Rattle.std.proofs.Common.{◌≡◌, ℕ, ap, sym, ◌∙◌, subst, inl, inr, List, [], unwrap_or}
+use Rattle.room_cache.proofs.Common.{◌≡◌, ℕ, ap, sym, ◌∙◌, subst, inl, inr, List, [], unwrap_or, IsDecidedBy}
 use Rattle.std.specs.List.{Contains}
 use Rattle.room_cache.specs.declared.decisions.Decided.{Decided}
-use Rattle.room_cache.specs.Known.{IsDecidedBy}
 use Rattle.room_cache.proofs.Remembered.{was_taken, same_number}
 use Rattle.room_cache.proofs.known.Known.keep_decision.Goals as goal
 

@@ -1,6 +1,4 @@
-use Rattle.std.proofs.Common.{sym, subst, rules}
-use Rattle.room_records.specs.Names.{Name}
-use Rattle.room_cache.specs.Slots.{IsKept}
+use Rattle.room_cache.proofs.Common.{sym, subst, rules, Name, IsKept}
 use Rattle.room_cache.proofs.SlotsKept.{one_more_slot}
 use Rattle.room_cache.proofs.known.Known.keep_fact.Goals as goal
 

@@ -1,4 +1,4 @@
-use Rattle.std.proofs.Common.{ap, sym, ◌∙◌, inl, inr, Some}
+use Rattle.room_cache.proofs.Common.{ap, sym, ◌∙◌, inl, inr, Some}
 use Rattle.room_cache.proofs.Keys.{same_name}
 use Rattle.room_cache.proofs.known.Known.keep_session.Goals as goal
 

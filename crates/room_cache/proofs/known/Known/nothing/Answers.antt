@@ -1,4 +1,4 @@
-use Rattle.std.proofs.Common.{refl}
+use Rattle.room_cache.proofs.Common.{refl}
 use Rattle.room_cache.proofs.Left.{nothing_true}
 use Rattle.room_cache.proofs.known.Known.nothing.Goals as goal
 

@@ -1,11 +1,5 @@
-use Rattle.std.proofs.Common.{◌≡◌, ℕ, subst, ◌⊎◌, true, false, Some, rules}
-use Rattle.std.specs.Ordering.{eq_by_cmp}
-use Rattle.room_records.specs.declared.change.Change.TheVariants.{PutSlot}
-use Rattle.room_records.specs.Changes.{apply_change}
-use Rattle.room_records.specs.Names.{Name}
-use Rattle.room_records.specs.Sessions.{slot_cmp}
-use Rattle.room_cache.specs.Rows.{row_at}
-use Rattle.room_cache.specs.declared.slots.SlotFact.{SlotFact}
+use Rattle.room_cache.proofs.Common.{◌≡◌, ℕ, subst, ◌⊎◌, true, false, Some, rules, eq_by_cmp, PutSlot, apply_change}
+use Rattle.room_cache.proofs.Common.{Name, slot_cmp, row_at, SlotFact}
 use Rattle.room_cache.proofs.SlotsKept.{no_slots, slots_elsewhere, slots_here}
 use Rattle.room_cache.proofs.known.Known.replace_slot.Goals as goal
 

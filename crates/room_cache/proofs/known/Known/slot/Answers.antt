@@ -1,4 +1,4 @@
-use Rattle.std.proofs.Common.{ap, sym, ◌∙◌, rules}
+use Rattle.room_cache.proofs.Common.{ap, sym, ◌∙◌, rules}
 use Rattle.std.specs.Option.{option_copied}
 use Rattle.room_cache.proofs.known.Known.slot.Goals as goal
 

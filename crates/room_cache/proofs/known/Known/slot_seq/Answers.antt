@@ -1,4 +1,4 @@
-use Rattle.std.proofs.Common.{ap, sym, ◌∙◌, Some}
+use Rattle.room_cache.proofs.Common.{ap, sym, ◌∙◌, Some}
 use Rattle.std.specs.Option.{option_copied}
 use Rattle.room_slots.specs.Slots.{kept_seq}
 use Rattle.room_cache.proofs.known.Known.slot_seq.Goals as goal

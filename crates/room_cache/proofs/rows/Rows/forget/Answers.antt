@@ -1,5 +1,4 @@
-use Rattle.std.proofs.Common.{◌≤◌, sym, subst}
-use Rattle.room_cache.specs.Rows.{weight}
+use Rattle.room_cache.proofs.Common.{◌≤◌, sym, subst, weight}
 use Rattle.room_cache.proofs.Weights.{removed}
 use Rattle.room_cache.proofs.rows.Rows.forget.Goals as goal
 

@@ -1,5 +1,4 @@
-use Rattle.std.proofs.Common.{◌≤◌, ◌+◌, subst, arith}
-use Rattle.room_cache.specs.Rows.{weight}
+use Rattle.room_cache.proofs.Common.{◌≤◌, ◌+◌, subst, arith, weight}
 use Rattle.room_cache.proofs.Weights.{put}
 use Rattle.room_cache.proofs.rows.Rows.keep.Goals as goal
 

@@ -1,9 +1,4 @@
-use Rattle.std.proofs.Common.{◌≡◌, ℕ, false, Some, subst}
-use Rattle.std.specs.Ordering.{eq_by_cmp}
-use Rattle.room_records.specs.Names.{Name}
-use Rattle.room_records.specs.Sessions.{slot_cmp}
-use Rattle.room_cache.specs.Rows.{row_at}
-use Rattle.room_cache.specs.declared.slots.SlotFact.{SlotFact}
+use Rattle.room_cache.proofs.Common.{◌≡◌, ℕ, false, Some, subst, eq_by_cmp, Name, slot_cmp, row_at, SlotFact}
 use Rattle.room_cache.proofs.slots.SlotRows.forget.Goals as goal
 
 pub returns : goal.returns

@@ -1,10 +1,5 @@
-use Rattle.std.proofs.Common.{◌≡◌, ◌⊎◌, ℕ, true, Some, subst, inl, inr, arith, rules}
-use Rattle.std.specs.Ordering.{eq_by_cmp}
-use Rattle.room_records.specs.Names.{Name}
-use Rattle.room_records.specs.Sessions.{slot_cmp}
-use Rattle.room_cache.specs.Rows.{row_at}
-use Rattle.room_cache.specs.Slots.{fact_size}
-use Rattle.room_cache.specs.declared.slots.SlotFact.{SlotFact}
+use Rattle.room_cache.proofs.Common.{◌≡◌, ◌⊎◌, ℕ, true, Some, subst, inl, inr, arith, rules, eq_by_cmp, Name, slot_cmp}
+use Rattle.room_cache.proofs.Common.{row_at, fact_size, SlotFact}
 use Rattle.room_cache.proofs.Left.{none_some}
 use Rattle.room_cache.proofs.slots.SlotRows.keep.Goals as goal
 

@@ -1,4 +1,4 @@
-use Rattle.room_wire.specs.Asks.EventModel.{event_model}
+use Rattle.room_desk.proofs.Common.{event_model}
 use Rattle.room_desk.proofs.Allowed.{had_rights}
 use Rattle.room_desk.proofs.Trying.{answered_ok, answered_err}
 use Rattle.room_desk.proofs.desk.Desk.handle.Goals as goal

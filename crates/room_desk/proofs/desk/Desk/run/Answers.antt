@@ -1,9 +1,6 @@
-use Rattle.std.proofs.Common.{◌≡◌, [], ◌∷◌, ◌++◌, length, ap, ◌∙◌, arith, map, refl, sym}
-use Rattle.std.proofs.lemmas.List.{take_all, map-append, length_push, same_from_push}
-use Rattle.room_wire.specs.Asks.EventModel.{event_model}
-use Rattle.room_desk.specs.AnswerModel.{answer_model}
-use Rattle.room_desk.specs.Serving.{EventAnswered, Step}
-use Rattle.room_records.proofs.Shelves.{no_call, calls_then}
+use Rattle.room_desk.proofs.Common.{◌≡◌, [], ◌∷◌, ◌++◌, length, ap, ◌∙◌, arith, map, refl, sym, take_all, map-append}
+use Rattle.room_desk.proofs.Common.{length_push, same_from_push, event_model, answer_model, EventAnswered, Step}
+use Rattle.room_desk.proofs.Common.{no_call, calls_then}
 use Rattle.room_desk.proofs.Runs.{in_turn_at}
 use Rattle.room_desk.proofs.desk.Desk.run.Goals as goal
 

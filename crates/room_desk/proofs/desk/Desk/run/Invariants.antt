@@ -1,13 +1,6 @@
-use Rattle.std.proofs.Common.{◌≡◌, ◌≢◌, ◌≤◌, List, [], ◌∷◌, ◌++◌, length, map, take, vec_len, vec_capacity}
-use Rattle.room_records.specs.Room.{Room}
-use Rattle.room_records.specs.Shelf.{ShelfFrame}
-use Rattle.room_wire.specs.Asks.EventModel.{event_model}
-use Rattle.room_wire.specs.declared.answers.code.Code.TheVariants.{Delay}
-use Rattle.room_wire.specs.Serving.Outputs.{InTurn}
-use Rattle.room_desk.specs.AnswerModel.{AnswerModel, Refused, answer_model}
-use Rattle.room_desk.specs.History.{History}
-use Rattle.room_desk.specs.Representation.{StandsFor}
-use Rattle.room_desk.specs.Serving.{EventAnswered, Run}
+use Rattle.room_desk.proofs.Common.{◌≡◌, ◌≢◌, ◌≤◌, List, [], ◌∷◌, ◌++◌, length, map, take, vec_len, vec_capacity, Room}
+use Rattle.room_desk.proofs.Common.{ShelfFrame, event_model, Delay, InTurn, AnswerModel, Refused, answer_model, History}
+use Rattle.room_desk.proofs.Common.{StandsFor, EventAnswered, Run}
 use Rattle.room_desk.proofs.desk.Desk.run.Given as goal
 
 -- the answers so far are a run over the events so far

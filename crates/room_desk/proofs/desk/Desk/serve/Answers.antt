@@ -1,4 +1,4 @@
-use Rattle.room_records.proofs.Shelves.{no_call}
+use Rattle.room_desk.proofs.Common.{no_call}
 use Rattle.room_desk.proofs.Messages.{memory_end, served_stream}
 use Rattle.room_desk.proofs.desk.Desk.serve.Goals as goal
 

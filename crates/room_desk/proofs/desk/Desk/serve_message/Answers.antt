@@ -1,8 +1,5 @@
-use Rattle.std.proofs.Common.{sym, subst}
+use Rattle.room_desk.proofs.Common.{sym, subst, ask_of, Refused, Answered}
 use Rattle.room_wire.specs.declared.answers.code.Code.{Code}
-use Rattle.room_wire.specs.Asks.AskOf.{ask_of}
-use Rattle.room_desk.specs.AnswerModel.{Refused}
-use Rattle.room_desk.specs.Serving.{Answered}
 use Rattle.room_desk.proofs.Messages.{refusal_stays}
 use Rattle.room_desk.proofs.desk.Desk.serve_message.Goals as goal
 

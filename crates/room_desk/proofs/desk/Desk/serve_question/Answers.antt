@@ -1,5 +1,5 @@
 use Rattle.room_wire.specs.Questions.QuestionModel.{question_model}
-use Rattle.room_desk.specs.AnswerModel.{answer_model}
+use Rattle.room_desk.proofs.Common.{answer_model}
 use Rattle.room_desk.proofs.Messages.{question_stays}
 use Rattle.room_desk.proofs.desk.Desk.serve_question.Goals as goal
 

@@ -1,11 +1,5 @@
-use Rattle.std.proofs.Common.{◌≡◌, ap, sym, ◌∙◌, [], ◌∷◌}
-use Rattle.std.specs.Prelude.{unwrap_or}
-use Rattle.std.specs.Option.{option_map}
-use Rattle.room_records.specs.declared.change.Change.{Change}
-use Rattle.room_records.specs.Records.{Records}
-use Rattle.room_records.specs.Changes.{apply_change, Untouched}
-use Rattle.room_records.specs.Sessions.{session_in, kept_in}
-use Rattle.room_records.specs.Mem.{mem_records}
+use Rattle.room_records.proofs.Common.{◌≡◌, ap, sym, ◌∙◌, [], ◌∷◌, unwrap_or, option_map, Change, Records, apply_change}
+use Rattle.room_records.proofs.Common.{Untouched, session_in, kept_in, mem_records}
 use Rattle.room_records.proofs.MemRecords.{read_put}
 use Rattle.room_records.proofs.Untouched.{untouched_by}
 use Rattle.room_records.proofs.mem.MemShelf.apply.Goals as goal

@@ -1,7 +1,5 @@
-use Rattle.std.proofs.Common.{◌≡◌, ◌∷◌, ap, ◌∙◌, arith, length}
-use Rattle.std.proofs.lemmas.List.{nil_from_length}
+use Rattle.room_records.proofs.Common.{◌≡◌, ◌∷◌, ap, ◌∙◌, arith, length, nil_from_length, mem_records}
 use Rattle.std.specs.Vec.Iter.{into_iter_items}
-use Rattle.room_records.specs.Mem.{mem_records}
 use Rattle.room_records.proofs.MemRecords.{spaces_kept}
 use Rattle.room_records.proofs.Untouched.{untouched_in_turn, untouched_itself}
 use Rattle.room_records.proofs.mem.MemShelf.apply_all.Goals as goal

@@ -1,9 +1,6 @@
-use Rattle.std.proofs.Common.{◌≡◌, length}
-use Rattle.std.specs.List.{AllByRecursion}
+use Rattle.room_records.proofs.Common.{◌≡◌, length, AllByRecursion, Records, apply_changes, RulesHoldAfterEach}
+use Rattle.room_records.proofs.Common.{Untouched, mem_records, HasSpaceFor}
 use Rattle.std.specs.Vec.Iter.{into_iter_items, into_iter_len}
-use Rattle.room_records.specs.Records.{Records}
-use Rattle.room_records.specs.Changes.{apply_changes, RulesHoldAfterEach, Untouched}
-use Rattle.room_records.specs.Mem.{mem_records, HasSpaceFor}
 use Rattle.room_records.proofs.mem.MemShelf.apply_all.Given as goal
 
 abbrev pub invariant-loop-step : goal.invariant-loop-step

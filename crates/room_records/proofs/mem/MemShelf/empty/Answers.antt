@@ -1,9 +1,4 @@
-use Rattle.std.proofs.Common.{ap, [], nat_cmp}
-use Rattle.std.specs.Prelude.{unwrap_or}
-use Rattle.std.specs.Map.{lookup}
-use Rattle.std.specs.BTreeMap.{is_at}
-use Rattle.std.specs.Option.{option_map}
-use Rattle.room_records.specs.Table.{value_in}
+use Rattle.room_records.proofs.Common.{ap, [], nat_cmp, unwrap_or, lookup, is_at, option_map, value_in}
 use Rattle.room_records.proofs.mem.MemShelf.empty.Goals as goal
 
 pub returns : goal.returns

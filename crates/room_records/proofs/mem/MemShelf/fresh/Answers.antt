@@ -1,9 +1,5 @@
-use Rattle.std.proofs.Common.{◌≡◌, ℕ, ap, ◌∙◌, cond, [], None, Some, nat_cmp}
-use Rattle.std.specs.Prelude.{◌==◌, unwrap_or}
-use Rattle.std.specs.Option.{option_map}
-use Rattle.room_records.specs.Records.{Records}
-use Rattle.room_records.specs.Table.{held}
-use Rattle.room_records.specs.NodeIndex.{node_in}
+use Rattle.room_records.proofs.Common.{◌≡◌, ℕ, ap, ◌∙◌, cond, [], None, Some, nat_cmp, ◌==◌, unwrap_or, option_map}
+use Rattle.room_records.proofs.Common.{Records, held, node_in}
 use Rattle.room_records.proofs.MemRecords.{read_put}
 use Rattle.room_records.proofs.FreshRows.{free_of_none, rules_of, represents_of}
 use Rattle.room_records.proofs.mem.MemShelf.fresh.Goals as goal

@@ -1,6 +1,4 @@
-use Rattle.std.proofs.Common.{◌≡◌, ◌∷◌, ◌++◌, ◌+◌, [], ap, sym, ◌∙◌, rules, take}
-use Rattle.std.proofs.lemmas.List.{take_more}
-use Rattle.room_records.specs.Mem.{HasSpaceFor}
+use Rattle.room_records.proofs.Common.{◌≡◌, ◌∷◌, ◌++◌, ◌+◌, [], ap, sym, ◌∙◌, rules, take, take_more, HasSpaceFor}
 use Rattle.room_records.proofs.Lists.{all_append}
 use Rattle.room_records.proofs.MemRecords.{spaces_kept, same_push}
 use Rattle.room_records.proofs.mem.MemShelf.prepare.Goals as goal

@@ -1,6 +1,4 @@
-use Rattle.std.proofs.Common.{◌≡◌, take}
-use Rattle.std.specs.List.{AllByRecursion}
-use Rattle.room_records.specs.Mem.{mem_records, HasSpaceFor, AreSameChanges}
+use Rattle.room_records.proofs.Common.{◌≡◌, take, AllByRecursion, mem_records, HasSpaceFor, AreSameChanges}
 use Rattle.room_records.proofs.mem.MemShelf.prepare.Given as goal
 
 abbrev pub invariant-loop-change : goal.invariant-loop-change

@@ -1,6 +1,4 @@
-use Rattle.std.proofs.Common.{◌≢◌, refl, sym, ◌∙◌, None, Some}
-use Rattle.room_records.specs.NodeIndex.{node_in}
-use Rattle.room_records.specs.Fresh.{no_records}
+use Rattle.room_records.proofs.Common.{◌≢◌, refl, sym, ◌∙◌, None, Some, node_in, no_records}
 use Rattle.room_records.proofs.RoomsMap.{none_is_some}
 use Rattle.room_records.proofs.RulesKept.{if_same, if_other}
 use Rattle.room_records.proofs.mem.MemShelf.put_node.Goals as goal

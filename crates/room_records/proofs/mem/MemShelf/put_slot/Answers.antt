@@ -1,9 +1,5 @@
-use Rattle.std.proofs.Common.{inl, inr, refl, ap, sym, ◌∙◌, arith}
-use Rattle.std.specs.Str.{bytes_eq}
-use Rattle.std.proofs.lemmas.Bool.{and_right, cases_lt, cond-false, ne_eqb}
-use Rattle.room_records.specs.Limits.{max_slots}
-use Rattle.room_records.specs.Sessions.{session_in, kept_in}
-use Rattle.room_records.specs.Mem.{mem_records}
+use Rattle.room_records.proofs.Common.{inl, inr, refl, ap, sym, ◌∙◌, arith, bytes_eq, and_right, cases_lt, cond-false}
+use Rattle.room_records.proofs.Common.{ne_eqb, max_slots, session_in, kept_in, mem_records}
 use Rattle.room_records.proofs.MemRecords.{low_slot}
 use Rattle.room_records.proofs.mem.MemShelf.put_slot.Goals as goal
 

@@ -1,8 +1,5 @@
-use Rattle.std.proofs.Common.{◌≡◌, List, ◌∙◌, inr}
-use Rattle.room_records.specs.Records.{Records}
-use Rattle.room_records.specs.declared.change.Change.{Change}
-use Rattle.room_records.specs.Changes.{apply_changes, RulesHoldAfterEach}
-use Rattle.room_records.specs.Mem.{AreSameChanges}
+use Rattle.room_records.proofs.Common.{◌≡◌, List, ◌∙◌, inr, Records, Change, apply_changes, RulesHoldAfterEach}
+use Rattle.room_records.proofs.Common.{AreSameChanges}
 use Rattle.room_records.proofs.MemRecords.{same_rules, same_after}
 use Rattle.room_records.proofs.Untouched.{untouched_by_same}
 use Rattle.room_records.proofs.mem.MemShelfShelf.commit.Goals as goal

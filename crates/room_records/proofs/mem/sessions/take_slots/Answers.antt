@@ -1,7 +1,4 @@
-use Rattle.std.proofs.Common.{refl}
-use Rattle.std.specs.Str.{bytes_eq}
-use Rattle.room_records.specs.Table.{held}
-use Rattle.room_records.specs.Sessions.{slot_cmp, kept_in}
+use Rattle.room_records.proofs.Common.{refl, bytes_eq, held, slot_cmp, kept_in}
 use Rattle.room_records.proofs.SessionKeys.{one_more, none_taken}
 use Rattle.room_records.proofs.mem.sessions.take_slots.Goals as goal
 

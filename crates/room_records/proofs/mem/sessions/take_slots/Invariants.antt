@@ -1,8 +1,4 @@
-use Rattle.std.proofs.Common.{◌≡◌, ℕ, List, cond, None}
-use Rattle.std.specs.Prelude.{◌&&◌, nat_lt}
-use Rattle.std.specs.Str.{bytes_eq}
-use Rattle.room_records.specs.Table.{HasSpace}
-use Rattle.room_records.specs.Sessions.{slot_cmp, kept_in}
+use Rattle.room_records.proofs.Common.{◌≡◌, ℕ, List, cond, None, ◌&&◌, nat_lt, bytes_eq, HasSpace, slot_cmp, kept_in}
 use Rattle.room_records.proofs.mem.sessions.take_slots.Given as goal
 
 abbrev pub invariant-loop-slot : goal.invariant-loop-slot

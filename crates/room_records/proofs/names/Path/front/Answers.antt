@@ -1,5 +1,4 @@
-use Rattle.std.proofs.Common.{subst, ap, sym, ◌∙◌, take}
-use Rattle.room_records.specs.Names.{IsPath}
+use Rattle.room_records.proofs.Common.{subst, ap, sym, ◌∙◌, take, IsPath}
 use Rattle.room_records.proofs.PathParts.{front_is_path}
 use Rattle.room_records.proofs.names.Path.front.Goals as goal
 

@@ -1,9 +1,6 @@
-use Rattle.std.proofs.Common.{◌≡◌, ℕ, List, map, length, [], ◌∷◌, rules, sym, ap, subst, ◌∙◌, Some, Bor}
-use Rattle.std.proofs.lemmas.List.{length-map}
+use Rattle.room_records.proofs.Common.{◌≡◌, ℕ, List, map, length, [], ◌∷◌, rules, sym, ap, subst, ◌∙◌, Some, Bor}
+use Rattle.room_records.proofs.Common.{length-map, slice_split, ◌==◌, IsPath}
 use Rattle.std.proofs.lemmas.Slice.Eq.{bytes_eq-Decides}
-use Rattle.std.specs.List.{slice_split}
-use Rattle.std.specs.Prelude.{◌==◌}
-use Rattle.room_records.specs.Names.{IsPath}
 use Rattle.room_records.proofs.Options.{none_is_not_some}
 use Rattle.room_records.proofs.PathParts.{root_is_path}
 use Rattle.room_records.proofs.PathTexts.{only_root, parts_are_path, text_of_names}

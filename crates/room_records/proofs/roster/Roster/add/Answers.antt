@@ -1,7 +1,4 @@
-use Rattle.std.proofs.Common.{◌≡◌, ◌<◌, ap, ◌∙◌, arith, rules, length}
-use Rattle.std.specs.List.{insert}
-use Rattle.room_acl.specs.SubjectModel.{SubjectModel}
-use Rattle.room_records.specs.Limits.{max_users}
+use Rattle.room_records.proofs.Common.{◌≡◌, ◌<◌, ap, ◌∙◌, arith, rules, length, insert, SubjectModel, max_users}
 use Rattle.room_records.proofs.Rosters.{present, absent, inserted, roster_with, joins, joins_not}
 use Rattle.room_records.proofs.roster.Roster.add.Goals as goal
 

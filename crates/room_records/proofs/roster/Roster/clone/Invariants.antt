@@ -1,4 +1,4 @@
-use Rattle.std.proofs.Common.{◌≡◌, take}
+use Rattle.room_records.proofs.Common.{◌≡◌, take}
 use Rattle.room_records.proofs.roster.Roster.clone.Given as goal
 
 abbrev pub invariant-loop-user : goal.invariant-loop-user

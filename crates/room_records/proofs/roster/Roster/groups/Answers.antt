@@ -1,6 +1,4 @@
-use Rattle.std.proofs.Common.{ap, sym, ◌∙◌, Some}
-use Rattle.std.specs.Option.{option_map}
-use Rattle.room_acl.specs.SubjectModel.{SubjectModel}
+use Rattle.room_records.proofs.Common.{ap, sym, ◌∙◌, Some, option_map, SubjectModel}
 use Rattle.room_records.proofs.Rosters.{absent, groups_read}
 use Rattle.room_records.proofs.roster.Roster.groups.Goals as goal
 

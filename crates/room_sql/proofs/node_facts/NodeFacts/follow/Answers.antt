@@ -1,6 +1,5 @@
-use Rattle.std.proofs.Common.{◌≡◌, ◌<◌, ◌+◌, length, drop, sym, subst, arith}
-use Rattle.std.proofs.lemmas.List.{length-drop, nil_from_length}
-use Rattle.room_sql.specs.NodeRows.{AfterAll}
+use Rattle.room_sql.proofs.Common.{◌≡◌, ◌<◌, ◌+◌, length, drop, sym, subst, arith, length-drop, nil_from_length}
+use Rattle.room_sql.proofs.Common.{AfterAll}
 use Rattle.room_sql.proofs.NodeRows.{next_change}
 use Rattle.room_sql.proofs.node_facts.NodeFacts.follow.Goals as goal
 

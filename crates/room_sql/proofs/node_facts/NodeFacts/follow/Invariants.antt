@@ -1,7 +1,4 @@
-use Rattle.std.proofs.Common.{List, drop}
-use Rattle.sqlite_value.specs.Order.{Row}
-use Rattle.room_sql.specs.declared.new_object.NewObject.TheVariants.{Unknown}
-use Rattle.room_sql.specs.NodeRows.{AfterAll}
+use Rattle.room_sql.proofs.Common.{List, drop, Row, Unknown, AfterAll}
 use Rattle.room_sql.specs.NodeFacts.{KnowsRows}
 use Rattle.room_sql.proofs.node_facts.NodeFacts.follow.Given as goal
 

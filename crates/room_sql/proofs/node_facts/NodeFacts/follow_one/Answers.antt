@@ -1,4 +1,4 @@
-use Rattle.std.proofs.Common.{◌∙◌, sym}
+use Rattle.room_sql.proofs.Common.{◌∙◌, sym}
 use Rattle.room_sql.proofs.node_facts.NodeFacts.follow_one.Goals as goal
 
 pub returns-in-PutNode : goal.returns-in-PutNode

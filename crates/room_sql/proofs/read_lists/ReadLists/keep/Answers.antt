@@ -1,5 +1,4 @@
-use Rattle.std.proofs.Common.{◌≡◌, ◌∙◌, true, sym, subst, rules}
-use Rattle.room_sql.specs.ReadLists.{IsStored}
+use Rattle.room_sql.proofs.Common.{◌≡◌, ◌∙◌, true, sym, subst, rules, IsStored}
 use Rattle.room_sql.proofs.ReadLists.{more_stored}
 use Rattle.room_sql.proofs.read_lists.ReadLists.keep.Goals as goal
 

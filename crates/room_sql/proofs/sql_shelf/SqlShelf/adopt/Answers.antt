@@ -1,8 +1,5 @@
-use Rattle.std.proofs.Common.{◌∙◌, inl, inr, not, true≢false, sym, ap}
-use Rattle.sqlite.specs.State.{HasCleanDisk}
-use Rattle.sqlite.specs.Held.{state}
-use Rattle.sqlite.proofs.StateLemmas.{survives_then, survives_weaker}
-use Rattle.room_tables.specs.Rows.{IsVersion}
+use Rattle.room_sql.proofs.Common.{◌∙◌, inl, inr, not, true≢false, sym, ap, HasCleanDisk, state, survives_then}
+use Rattle.room_sql.proofs.Common.{survives_weaker, IsVersion}
 use Rattle.room_sql.specs.Taken.{MayBeTaken, SaysFirst}
 use Rattle.room_sql.proofs.Frames.{was_clean}
 use Rattle.room_sql.proofs.Taken.{says, second_version, first_version, no_second_version, no_first_version, no_version}

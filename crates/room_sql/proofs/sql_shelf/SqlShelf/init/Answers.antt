@@ -1,7 +1,4 @@
-use Rattle.std.proofs.Common.{◌≡◌, false, rules, subst}
-use Rattle.sqlite.specs.State.{HasCleanDisk}
-use Rattle.sqlite.specs.Held.{state}
-use Rattle.room_tables.specs.Tables.{has_a_table}
+use Rattle.room_sql.proofs.Common.{◌≡◌, false, rules, subst, HasCleanDisk, state, has_a_table}
 use Rattle.room_sql.proofs.sql_shelf.SqlShelf.init.Goals as goal
 
 -- the shelf holds the connection in which the room was made

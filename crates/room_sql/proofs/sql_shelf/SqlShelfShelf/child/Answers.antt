@@ -1,7 +1,5 @@
-use Rattle.std.proofs.Common.{◌∙◌, ap, option_map, slice_get, ◌≡◌, Err, not, rules}
+use Rattle.room_sql.proofs.Common.{◌∙◌, ap, option_map, slice_get, ◌≡◌, Err, not, rules, node_of, named_found}
 use Rattle.room_records.proofs.PathParts.{name_parts}
-use Rattle.room_tables.specs.Rows.{node_of}
-use Rattle.room_tables.proofs.Children.{named_found}
 use Rattle.room_sql.proofs.Calls.{read, read_err, read_told}
 use Rattle.room_sql.proofs.sql_shelf.SqlShelfShelf.child.Goals as goal
 

@@ -1,10 +1,5 @@
-use Rattle.room_sql.specs.Facts.{AreTrueOf}
-use Rattle.sqlite.specs.Held.{state}
-use Rattle.std.proofs.Common.{◌≡◌, ◌∙◌, Err, sym, subst, not, ap, rules}
-use Rattle.std.proofs.lemmas.List.{length-map}
-use Rattle.room_records.specs.Shelf.{IsChildCount}
-use Rattle.room_tables.specs.Rows.{shown_node}
-use Rattle.room_tables.proofs.Children.{count_children}
+use Rattle.room_sql.proofs.Common.{AreTrueOf, state, ◌≡◌, ◌∙◌, Err, sym, subst, not, ap, rules, length-map}
+use Rattle.room_sql.proofs.Common.{IsChildCount, shown_node, count_children}
 use Rattle.room_sql.proofs.Calls.{read_ok, read_err, read_told}
 use Rattle.room_sql.proofs.sql_shelf.SqlShelfShelf.child_count.Goals as goal
 

@@ -1,5 +1,4 @@
-use Rattle.std.proofs.Common.{◌≡◌, ◌∙◌, Err, ap, not, rules}
-use Rattle.room_tables.proofs.Children.{are_children}
+use Rattle.room_sql.proofs.Common.{◌≡◌, ◌∙◌, Err, ap, not, rules, are_children}
 use Rattle.room_sql.proofs.Calls.{read, read_err, read_told}
 use Rattle.room_sql.proofs.sql_shelf.SqlShelfShelf.children.Goals as goal
 

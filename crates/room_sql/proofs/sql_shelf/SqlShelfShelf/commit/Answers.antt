@@ -1,4 +1,4 @@
-use Rattle.std.proofs.Common.{◌≡◌, ◌∙◌, ap, sym, not, Err, rules}
+use Rattle.room_sql.proofs.Common.{◌≡◌, ◌∙◌, ap, sym, not, Err, rules}
 use Rattle.room_records.proofs.Untouched.{untouched_by}
 use Rattle.room_sql.proofs.Calls.{commit_err}
 use Rattle.room_sql.proofs.sql_shelf.SqlShelfShelf.commit.Goals as goal

@@ -1,4 +1,4 @@
-use Rattle.std.proofs.Common.{◌∙◌, ap, not}
+use Rattle.room_sql.proofs.Common.{◌∙◌, ap, not}
 use Rattle.room_sql.proofs.Calls.{read_asked}
 use Rattle.room_sql.proofs.sql_shelf.SqlShelfShelf.decide_at.Goals as goal
 

@@ -1,5 +1,4 @@
-use Rattle.std.proofs.Common.{refl, ◌∙◌, ◌≡◌, Err, ap, not, rules}
-use Rattle.room_tables.proofs.Queries.{only_permuted}
+use Rattle.room_sql.proofs.Common.{refl, ◌∙◌, ◌≡◌, Err, ap, not, rules, only_permuted}
 use Rattle.room_sql.proofs.Calls.{read, read_err, read_told}
 use Rattle.room_sql.proofs.sql_shelf.SqlShelfShelf.doc.Goals as goal
 

@@ -1,6 +1,4 @@
-use Rattle.std.proofs.Common.{◌∙◌, ◌≡◌, Err, ap, not, rules}
-use Rattle.sqlite.specs.Held.{state}
-use Rattle.room_tables.proofs.Queries.{only_permuted}
+use Rattle.room_sql.proofs.Common.{◌∙◌, ◌≡◌, Err, ap, not, rules, state, only_permuted}
 use Rattle.room_tables.proofs.Sizes.{same_size}
 use Rattle.room_sql.proofs.Calls.{read, read_err, read_told}
 use Rattle.room_sql.proofs.sql_shelf.SqlShelfShelf.doc_size.Goals as goal

@@ -1,7 +1,4 @@
-use Rattle.room_sql.specs.Facts.{AreTrueOf}
-use Rattle.std.proofs.Common.{◌≡◌, ◌∙◌, Err, refl, ap, not, rules}
-use Rattle.sqlite.specs.Held.{state}
-use Rattle.room_tables.proofs.InPlace.{rows_stored}
+use Rattle.room_sql.proofs.Common.{AreTrueOf, ◌≡◌, ◌∙◌, Err, refl, ap, not, rules, state, rows_stored}
 use Rattle.room_sql.proofs.Calls.{read_ok, read_err}
 use Rattle.room_sql.proofs.sql_shelf.SqlShelfShelf.entries.Goals as goal
 

@@ -1,10 +1,5 @@
-use Rattle.room_sql.specs.Facts.{AreTrueOf}
-use Rattle.sqlite.specs.Held.{state}
-use Rattle.std.proofs.Common.{◌≡◌, ◌∙◌, Err, sym, subst, not, ap, rules}
-use Rattle.std.specs.List.{filter_map}
-use Rattle.room_records.specs.Shelf.{AreNames}
-use Rattle.room_tables.specs.Rows.{listed_of}
-use Rattle.room_tables.proofs.Names.{are_names}
+use Rattle.room_sql.proofs.Common.{AreTrueOf, state, ◌≡◌, ◌∙◌, Err, sym, subst, not, ap, rules, filter_map, AreNames}
+use Rattle.room_sql.proofs.Common.{listed_of, are_names}
 use Rattle.room_sql.proofs.Calls.{read_ok, read_err, read_told}
 use Rattle.room_sql.proofs.sql_shelf.SqlShelfShelf.names.Goals as goal
 

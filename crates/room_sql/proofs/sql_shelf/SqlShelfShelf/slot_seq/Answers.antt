@@ -1,6 +1,4 @@
-use Rattle.std.proofs.Common.{◌∙◌, ◌≡◌, Err, ap, not, rules}
-use Rattle.room_tables.proofs.Names.{same_seq}
-use Rattle.room_tables.proofs.Queries.{only_permuted}
+use Rattle.room_sql.proofs.Common.{◌∙◌, ◌≡◌, Err, ap, not, rules, same_seq, only_permuted}
 use Rattle.room_sql.proofs.Calls.{read, read_err, read_told}
 use Rattle.room_sql.proofs.sql_shelf.SqlShelfShelf.slot_seq.Goals as goal
 

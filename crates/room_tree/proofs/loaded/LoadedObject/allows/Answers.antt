@@ -1,7 +1,4 @@
-use Rattle.std.proofs.Common.{ap, sym, ◌∙◌, Option}
-use Rattle.std.specs.Prelude.{not, is_some}
-use Rattle.room_commands.specs.ReplyModel.{Refusal}
-use Rattle.room_commands.specs.Checks.{denied_at}
+use Rattle.room_tree.proofs.Common.{ap, sym, ◌∙◌, Option, not, is_some, Refusal, denied_at}
 use Rattle.room_tree.proofs.loaded.LoadedObject.allows.Goals as goal
 
 pub returns-in-Allowed-clause-value : goal.returns-in-Allowed-clause-value

@@ -1,6 +1,4 @@
-use Rattle.std.proofs.Common.{sym, ap, ◌∙◌, Some}
-use Rattle.room_commands.specs.Checks.{first_refusal, check_file, check_folder}
-use Rattle.room_tree.specs.LoadedObjects.{kind_checks}
+use Rattle.room_tree.proofs.Common.{sym, ap, ◌∙◌, Some, first_refusal, check_file, check_folder, kind_checks}
 use Rattle.room_tree.proofs.Checking.{first_alone}
 use Rattle.room_tree.proofs.loaded.LoadedObject.check_kind.Goals as goal
 

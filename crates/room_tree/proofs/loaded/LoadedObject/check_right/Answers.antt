@@ -1,7 +1,5 @@
-use Rattle.std.proofs.Common.{ap, sym, ◌∙◌}
+use Rattle.room_tree.proofs.Common.{ap, sym, ◌∙◌, Path, denied_at}
 use Rattle.room_acl.specs.declared.access.Decision.TheVariants.{Denied}
-use Rattle.room_records.specs.Names.{Path}
-use Rattle.room_commands.specs.Checks.{denied_at}
 use Rattle.room_tree.proofs.loaded.LoadedObject.check_right.Goals as goal
 
 pub returns-in-Allowed-clause-value : goal.returns-in-Allowed-clause-value

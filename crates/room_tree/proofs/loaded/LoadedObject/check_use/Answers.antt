@@ -1,8 +1,5 @@
-use Rattle.std.proofs.Common.{sym, ap, ◌∙◌, take, length, arith, [], ◌∷◌}
-use Rattle.std.proofs.lemmas.List.{take_all}
-use Rattle.room_records.specs.Names.{Path}
-use Rattle.room_commands.specs.Checks.{first_refusal, check_right}
-use Rattle.room_tree.specs.LoadedObjects.{kind_checks, use_checks}
+use Rattle.room_tree.proofs.Common.{sym, ap, ◌∙◌, take, length, arith, [], ◌∷◌, take_all, Path, first_refusal}
+use Rattle.room_tree.proofs.Common.{check_right, kind_checks, use_checks}
 use Rattle.room_tree.proofs.Checking.{first_alone, some_stays, none_passes}
 use Rattle.room_tree.proofs.Stops.{handed_on, passes_by}
 use Rattle.room_tree.proofs.loaded.LoadedObject.check_use.Goals as goal

@@ -1,5 +1,4 @@
-use Rattle.std.proofs.Common.{sym, ◌∙◌, [], ◌∷◌}
-use Rattle.room_commands.specs.Checks.{check_folder, check_right, prefix_refusal}
+use Rattle.room_tree.proofs.Common.{sym, ◌∙◌, [], ◌∷◌, check_folder, check_right, prefix_refusal}
 use Rattle.room_tree.proofs.Checking.{way_check, skip, stop, first_alone}
 use Rattle.room_tree.proofs.Stops.{handed_on, passes_by}
 use Rattle.room_tree.proofs.loaded.LoadedObject.check_way.Goals as goal

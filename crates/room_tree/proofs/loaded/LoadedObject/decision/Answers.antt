@@ -1,9 +1,5 @@
-use Rattle.std.proofs.Common.{◌≡◌, sym, ap, ◌∙◌}
-use Rattle.std.proofs.lemmas.Result.{IfOk-weaker}
+use Rattle.room_tree.proofs.Common.{◌≡◌, sym, ap, ◌∙◌, IfOk-weaker, decision, ObjectRecords, check_right, denied_at}
 use Rattle.room_acl.specs.declared.access.Decision.{Decision}
-use Rattle.room_acl.specs.Access.{decision}
-use Rattle.room_records.specs.Records.{ObjectRecords}
-use Rattle.room_commands.specs.Checks.{check_right, denied_at}
 use Rattle.room_tree.proofs.Checking.{right_check}
 use Rattle.room_tree.proofs.loaded.LoadedObject.decision.Goals as goal
 

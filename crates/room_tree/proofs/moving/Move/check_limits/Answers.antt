@@ -1,10 +1,5 @@
-use Rattle.std.proofs.Common.{ap, sym, ◌∙◌, arith, cond, [], ◌∷◌, None}
-use Rattle.std.specs.Prelude.{nat_le}
-use Rattle.room_records.specs.Limits.{max_children}
-use Rattle.room_records.specs.Names.{path_eq}
-use Rattle.room_records.specs.Room.{parent_of}
-use Rattle.room_commands.specs.declared.reply.RefusalCode.TheVariants.{FolderFull}
-use Rattle.room_commands.specs.Checks.{refuse_if, check_depth, check_folder_full}
+use Rattle.room_tree.proofs.Common.{ap, sym, ◌∙◌, arith, cond, [], ◌∷◌, None, nat_le, max_children, path_eq, parent_of}
+use Rattle.room_tree.proofs.Common.{FolderFull, refuse_if, check_depth, check_folder_full}
 use Rattle.room_tree.proofs.Checking.{skip, first_alone}
 use Rattle.room_tree.proofs.Renamed.{same_folder, other_folder}
 use Rattle.room_tree.proofs.Stops.{handed_on, at_head}

@@ -1,9 +1,5 @@
-use Rattle.std.proofs.Common.{◌≡◌, ℕ, ◌-◌, ap, sym, ◌∙◌, [], ◌∷◌, take, length}
-use Rattle.room_records.specs.Names.{Path}
-use Rattle.room_records.specs.Room.{parent_of}
-use Rattle.room_commands.specs.Checks.{first_refusal, check_removal, check_right, right_to_add, object_or_default}
-use Rattle.room_commands.proofs.Shorthands.{kind_of}
-use Rattle.room_tree.specs.Renames.{move_rights}
+use Rattle.room_tree.proofs.Common.{◌≡◌, ℕ, ◌-◌, ap, sym, ◌∙◌, [], ◌∷◌, take, length, Path, parent_of, first_refusal}
+use Rattle.room_tree.proofs.Common.{check_removal, check_right, right_to_add, object_or_default, kind_of, move_rights}
 use Rattle.room_tree.proofs.Checking.{skip, first_alone}
 use Rattle.room_tree.proofs.Stops.{handed_on, at_head, passes_by}
 use Rattle.room_tree.proofs.InTurn.{both_tell}

@@ -1,6 +1,5 @@
-use Rattle.std.specs.Prelude.{codes, decimal}
+use Rattle.room_wire.proofs.Common.{codes, decimal, phrase, end_text}
 use Rattle.http.specs.StatusCode.{code_digits}
-use Rattle.room_wire.specs.Answers.AnswerModel.{phrase, end_text}
 use Rattle.room_wire.proofs.Lemmas.Answers.Heads.{seven_parts}
 use Rattle.room_wire.proofs.answers.sending.head_of.Goals as goal
 

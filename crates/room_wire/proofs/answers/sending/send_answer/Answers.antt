@@ -1,5 +1,4 @@
-use Rattle.std.proofs.Common.{◌≤◌, ◌++◌, length, sym, subst, ◌∙◌}
-use Rattle.room_wire.specs.Answers.AnswerModel.{answer_model, phrase, head_text}
+use Rattle.room_wire.proofs.Common.{◌≤◌, ◌++◌, length, sym, subst, ◌∙◌, answer_model, phrase, head_text}
 use Rattle.room_wire.proofs.Lemmas.Answers.Heads.{phrase_fits}
 use Rattle.room_wire.proofs.Lemmas.Answers.Sends.{sent_is}
 use Rattle.room_wire.proofs.answers.sending.send_answer.Goals as goal

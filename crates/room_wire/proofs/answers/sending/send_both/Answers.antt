@@ -1,5 +1,4 @@
-use Rattle.std.proofs.Common.{sym, subst}
-use Rattle.room_records.specs.Writers.{Sent}
+use Rattle.room_wire.proofs.Common.{sym, subst, Sent}
 use Rattle.room_records.proofs.Writers.{front_of_more}
 use Rattle.room_wire.proofs.Lemmas.Answers.Sends.{sent_then}
 use Rattle.room_wire.proofs.answers.sending.send_both.Goals as goal

@@ -1,4 +1,4 @@
-use Rattle.std.proofs.Common.{sym}
+use Rattle.room_wire.proofs.Common.{sym}
 use Rattle.room_wire.proofs.Lemmas.Asks.Numerals.{no_principal}
 use Rattle.room_wire.proofs.asks.caller.principal_of.Goals as goal
 

@@ -1,4 +1,4 @@
-use Rattle.std.proofs.Common.{subst}
+use Rattle.room_wire.proofs.Common.{subst}
 use Rattle.room_wire.specs.Asks.CheckAsk.{Decodes, check_of}
 use Rattle.room_wire.proofs.asks.check_ask.decode_check.Goals as goal
 

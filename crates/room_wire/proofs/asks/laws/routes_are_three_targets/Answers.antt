@@ -1,4 +1,4 @@
-use Rattle.std.proofs.Common.{sym, ◌∙◌}
+use Rattle.room_wire.proofs.Common.{sym, ◌∙◌}
 use Rattle.room_wire.proofs.Lemmas.Asks.RoomTargets.{room_target_is}
 use Rattle.room_wire.proofs.Lemmas.Asks.Routes.{ascii_text, routes_are, asked_is}
 use Rattle.room_wire.proofs.asks.laws.routes_are_three_targets.Goals as goal

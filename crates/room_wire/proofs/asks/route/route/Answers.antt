@@ -1,7 +1,4 @@
-use Rattle.std.proofs.Common.{subst, codes}
-use Rattle.room_wire.specs.Asks.AskOf.{RoutesAsk, ask_for, caller_by}
-use Rattle.room_wire.specs.Asks.Targets.{room_target}
-use Rattle.room_wire.specs.Messages.Fields.{values_named}
+use Rattle.room_wire.proofs.Common.{subst, codes, RoutesAsk, ask_for, caller_by, room_target, values_named}
 use Rattle.room_wire.proofs.asks.route.route.Goals as goal
 
 -- what was lent of the message is the message's

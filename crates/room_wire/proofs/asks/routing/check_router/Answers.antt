@@ -1,4 +1,4 @@
-use Rattle.matchit.proofs.OnLiterals.{matchit_on_literals}
+use Rattle.room_wire.proofs.Common.{matchit_on_literals}
 use Rattle.room_wire.proofs.asks.routing.check_router.Goals as goal
 
 pub returns : goal.returns

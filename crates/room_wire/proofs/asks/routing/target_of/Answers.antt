@@ -1,5 +1,4 @@
-use Rattle.std.proofs.Common.{◌≡◌, true, ap, sym, ◌∙◌}
-use Rattle.room_wire.specs.Asks.Routing.{is_ascii}
+use Rattle.room_wire.proofs.Common.{◌≡◌, true, ap, sym, ◌∙◌, is_ascii}
 use Rattle.room_wire.proofs.Lemmas.Asks.TargetTexts.{walk_texts}
 use Rattle.room_wire.proofs.asks.routing.target_of.Goals as goal
 

@@ -1,5 +1,4 @@
-use Rattle.std.proofs.Common.{◌≡◌, true, ap, sym, ◌∙◌}
-use Rattle.room_wire.specs.Asks.AskOf.{is_number}
+use Rattle.room_wire.proofs.Common.{◌≡◌, true, ap, sym, ◌∙◌, is_number}
 use Rattle.room_wire.proofs.Lemmas.Asks.Numerals.{number_read, number_none}
 use Rattle.room_wire.proofs.asks.target_parts.number_in.Goals as goal
 

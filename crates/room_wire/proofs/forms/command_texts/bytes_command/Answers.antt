@@ -1,8 +1,4 @@
-use Rattle.std.proofs.Common.{◌≡◌, ◌++◌, codes, ap, ◌∙◌}
-use Rattle.json.specs.Print.{quoted}
-use Rattle.base64.specs.Engines.{standard}
-use Rattle.base64.specs.GeneralPurpose.{encode_of}
-use Rattle.room_records.specs.Names.{path_text}
+use Rattle.room_wire.proofs.Common.{◌≡◌, ◌++◌, codes, ap, ◌∙◌, quoted, standard, encode_of, path_text}
 use Rattle.room_wire.proofs.Lemmas.Forms.Letters.{bytes_text}
 use Rattle.room_wire.proofs.forms.command_texts.bytes_command.Goals as goal
 

@@ -1,6 +1,5 @@
-use Rattle.std.proofs.Common.{◌∙◌, refl}
+use Rattle.room_wire.proofs.Common.{◌∙◌, refl, command_data}
 use Rattle.room_commands.specs.CommandModel as C
-use Rattle.room_wire.specs.Forms.Texts.{command_data}
 use Rattle.room_wire.proofs.Lemmas.Forms.Written.{text_of, ◌then◌}
 use Rattle.room_wire.proofs.forms.command_texts.chown_command.Goals as goal
 

@@ -1,6 +1,4 @@
-use Rattle.std.proofs.Common.{ap, ◌∙◌}
-use Rattle.room_commands.specs.CommandModel.{command_model}
-use Rattle.room_wire.specs.Forms.Commands.{command_of_body}
+use Rattle.room_wire.proofs.Common.{ap, ◌∙◌, command_model, command_of_body}
 use Rattle.room_wire.proofs.Lemmas.Forms.CommandBack.{text_back}
 use Rattle.room_wire.proofs.Lemmas.Forms.Written.{both_ok}
 use Rattle.room_wire.proofs.forms.command_texts.command_text.Goals as goal

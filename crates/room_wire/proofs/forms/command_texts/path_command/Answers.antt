@@ -1,5 +1,4 @@
-use Rattle.std.proofs.Common.{[], ◌∷◌, ◌∙◌, refl}
-use Rattle.room_wire.specs.Forms.Texts.{obj, cmd, at}
+use Rattle.room_wire.proofs.Common.{[], ◌∷◌, ◌∙◌, refl, obj, cmd, at}
 use Rattle.room_wire.proofs.Lemmas.Forms.Written.{text_of, ◌then◌}
 use Rattle.room_wire.proofs.forms.command_texts.path_command.Goals as goal
 

@@ -1,6 +1,5 @@
-use Rattle.std.proofs.Common.{◌≡◌, ◌∙◌, rules}
+use Rattle.room_wire.proofs.Common.{◌≡◌, ◌∙◌, rules, command_data}
 use Rattle.room_commands.specs.CommandModel as C
-use Rattle.room_wire.specs.Forms.Texts.{command_data}
 use Rattle.room_wire.proofs.Lemmas.Forms.Written.{set_list_tokens, text_of, ◌then◌}
 use Rattle.room_wire.proofs.forms.command_texts.set_list_command.Goals as goal
 

@@ -1,10 +1,6 @@
-use Rattle.std.proofs.Common.{◌≡◌, true, None, cond, codes, sym, ap, ◌∙◌}
-use Rattle.std.specs.Prelude.{option_map}
-use Rattle.std.specs.Option.{option_zip}
-use Rattle.serde_json.specs.View.{view}
+use Rattle.room_wire.proofs.Common.{◌≡◌, true, None, cond, codes, sym, ap, ◌∙◌, option_map, option_zip, view}
+use Rattle.room_wire.proofs.Common.{principal_at, has_parts, path_at}
 use Rattle.room_commands.specs.CommandModel as C
-use Rattle.room_wire.specs.Forms.Reading.{principal_at}
-use Rattle.room_wire.specs.Forms.Commands.{has_parts, path_at}
 use Rattle.room_wire.proofs.forms.commands.chown_command.Goals as goal
 
 pub returns : goal.returns

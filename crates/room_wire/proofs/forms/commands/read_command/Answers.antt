@@ -1,6 +1,4 @@
-use Rattle.std.proofs.Common.{rules, ◌≡◌, Some}
-use Rattle.room_commands.specs.CommandModel.{command_model}
-use Rattle.room_wire.specs.Forms.Commands.{command_of_body}
+use Rattle.room_wire.proofs.Common.{rules, ◌≡◌, Some, command_model, command_of_body}
 use Rattle.room_wire.proofs.Lemmas.Forms.CommandLawful.{asked_is_lawful}
 use Rattle.room_wire.proofs.forms.commands.read_command.Goals as goal
 

@@ -1,10 +1,6 @@
-use Rattle.std.proofs.Common.{◌≡◌, true, None, cond, codes, sym, ap, ◌∙◌}
-use Rattle.std.specs.Prelude.{option_map, option_and_then}
-use Rattle.std.specs.Option.{option_zip}
-use Rattle.serde_json.specs.View.{view}
+use Rattle.room_wire.proofs.Common.{◌≡◌, true, None, cond, codes, sym, ap, ◌∙◌, option_map, option_and_then, option_zip}
+use Rattle.room_wire.proofs.Common.{view, number_at, entry_in, all_at, has_parts, list_flags_from, path_at}
 use Rattle.room_commands.specs.CommandModel as C
-use Rattle.room_wire.specs.Forms.Reading.{number_at, entry_in, all_at}
-use Rattle.room_wire.specs.Forms.Commands.{has_parts, list_flags_from, path_at}
 use Rattle.room_wire.proofs.forms.commands.set_list_command.Goals as goal
 
 pub returns : goal.returns

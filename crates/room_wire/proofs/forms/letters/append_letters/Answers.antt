@@ -1,6 +1,5 @@
-use Rattle.std.proofs.Common.{◌≡◌, ℕ, ◌+◌, ◌-◌, ◌*◌, ◌/◌, ◌++◌, sym, ap, arith, ◌∙◌, append-nil}
-use Rattle.base64.specs.Engines.{standard}
-use Rattle.base64.proofs.EngineFacts.{encode_of-nil}
+use Rattle.room_wire.proofs.Common.{◌≡◌, ℕ, ◌+◌, ◌-◌, ◌*◌, ◌/◌, ◌++◌, sym, ap, arith, ◌∙◌, append-nil, standard}
+use Rattle.room_wire.proofs.Common.{encode_of-nil}
 use Rattle.room_wire.proofs.Lemmas.Forms.Letters.{block_written, rest_written}
 use Rattle.room_wire.proofs.forms.letters.append_letters.Goals as goal
 

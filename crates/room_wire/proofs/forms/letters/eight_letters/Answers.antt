@@ -1,4 +1,4 @@
-use Rattle.std.proofs.Common.{◌≡◌, ℕ, ◌+◌, ◌*◌, length, slice_index, sym, arith, rules}
+use Rattle.room_wire.proofs.Common.{◌≡◌, ℕ, ◌+◌, ◌*◌, length, slice_index, sym, arith, rules}
 use Rattle.room_wire.proofs.Lemmas.Forms.Letters.{letters_of_six, twelve_high, twelve_low, places_first, places_second}
 use Rattle.room_wire.proofs.forms.letters.eight_letters.Goals as goal
 

@@ -1,8 +1,5 @@
-use Rattle.std.proofs.Common.{◌≡◌, ◌≤◌, ℕ, ◌+◌, ◌-◌, ◌*◌, length, sym, arith, rules, ◌∙◌}
-use Rattle.std.proofs.lemmas.List.{take_all}
-use borrow.Rule.Slice.PartMut.{same_len_mid}
-use Rattle.base64.specs.Engines.{standard}
-use Rattle.base64.proofs.EngineFacts.{encode_of-nil}
+use Rattle.room_wire.proofs.Common.{◌≡◌, ◌≤◌, ℕ, ◌+◌, ◌-◌, ◌*◌, length, sym, arith, rules, ◌∙◌, take_all, same_len_mid}
+use Rattle.room_wire.proofs.Common.{standard, encode_of-nil}
 use Rattle.room_wire.proofs.Lemmas.Forms.Letters.{six_written}
 use Rattle.room_wire.proofs.forms.letters.fill_block.Goals as goal
 

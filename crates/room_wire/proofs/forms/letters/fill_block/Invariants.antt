@@ -1,6 +1,4 @@
-use Rattle.std.proofs.Common.{◌≡◌, ◌*◌, length, take}
-use Rattle.base64.specs.Engines.{standard}
-use Rattle.base64.specs.GeneralPurpose.{encode_of}
+use Rattle.room_wire.proofs.Common.{◌≡◌, ◌*◌, length, take, standard, encode_of}
 use Rattle.room_wire.proofs.forms.letters.fill_block.Given as goal
 
 abbrev pub invariant-loop-six : goal.invariant-loop-six

@@ -1,7 +1,4 @@
-use Rattle.std.proofs.Common.{◌≡◌, ◌++◌, List, drop, option_map}
-use Rattle.serde_json.specs.View.{items_view}
-use Rattle.room_acl.specs.Entries.{EntryModel}
-use Rattle.room_wire.specs.Forms.Reading.{all_among, entry_in}
+use Rattle.room_wire.proofs.Common.{◌≡◌, ◌++◌, List, drop, option_map, items_view, EntryModel, all_among, entry_in}
 use Rattle.room_wire.proofs.forms.reading.entries_in.Given as goal
 
 abbrev pub invariant-loop-value : goal.invariant-loop-value

@@ -1,4 +1,4 @@
-use Rattle.std.proofs.Common.{◌==◌, sym, ap, ◌∙◌}
+use Rattle.room_wire.proofs.Common.{◌==◌, sym, ap, ◌∙◌}
 use Rattle.room_wire.proofs.Lemmas.Forms.Objects.{count_view, object_is}
 use Rattle.room_wire.proofs.forms.reading.has_count.Goals as goal
 

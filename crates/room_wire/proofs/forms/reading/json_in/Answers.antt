@@ -1,4 +1,4 @@
-use Rattle.std.proofs.Common.{◌≡◌, true, false, sym, ◌∙◌}
+use Rattle.room_wire.proofs.Common.{◌≡◌, true, false, sym, ◌∙◌}
 use Rattle.room_wire.proofs.Lemmas.Forms.Bodies.{json_some, json_none}
 use Rattle.room_wire.proofs.forms.reading.json_in.Goals as goal
 

@@ -1,6 +1,4 @@
-use Rattle.std.proofs.Common.{◌≡◌, ◌++◌, ℕ, List, drop, option_map}
-use Rattle.serde_json.specs.View.{items_view}
-use Rattle.room_wire.specs.Forms.Reading.{all_among, principal_in}
+use Rattle.room_wire.proofs.Common.{◌≡◌, ◌++◌, ℕ, List, drop, option_map, items_view, all_among, principal_in}
 use Rattle.room_wire.proofs.forms.reading.principals_in.Given as goal
 
 abbrev pub invariant-loop-value : goal.invariant-loop-value

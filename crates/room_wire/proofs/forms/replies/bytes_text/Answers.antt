@@ -1,6 +1,4 @@
-use Rattle.std.proofs.Common.{◌++◌, codes, ap, ◌∙◌}
-use Rattle.base64.specs.Engines.{standard}
-use Rattle.base64.specs.GeneralPurpose.{encode_of}
+use Rattle.room_wire.proofs.Common.{◌++◌, codes, ap, ◌∙◌, standard, encode_of}
 use Rattle.room_wire.proofs.Lemmas.Forms.Letters.{read_text}
 use Rattle.room_wire.proofs.forms.replies.bytes_text.Goals as goal
 

@@ -1,6 +1,4 @@
-use Rattle.std.proofs.Common.{List, [], ◌∷◌, ◌++◌, codes, ap, ◌∙◌, arith}
-use Rattle.std.proofs.lemmas.Result.{IfOk-weaker}
-use Rattle.json.specs.Token.{Token, key, begin_array}
+use Rattle.room_wire.proofs.Common.{List, [], ◌∷◌, ◌++◌, codes, ap, ◌∙◌, arith, IfOk-weaker, Token, key, begin_array}
 use Rattle.room_wire.proofs.Lemmas.Forms.Written.{name_tokens, names_tokens, items_ended}
 use Rattle.room_wire.proofs.forms.replies.names_member.Goals as goal
 

@@ -1,6 +1,4 @@
-use Rattle.std.proofs.Common.{◌≡◌, ◌∷◌, ◌++◌, take, codes}
-use Rattle.std.specs.Prelude.{flat_map}
-use Rattle.json.specs.Token.{key, begin_array}
+use Rattle.room_wire.proofs.Common.{◌≡◌, ◌∷◌, ◌++◌, take, codes, flat_map, key, begin_array}
 use Rattle.room_wire.proofs.Lemmas.Forms.Written.{name_tokens}
 use Rattle.room_wire.proofs.forms.replies.names_member.Given as goal
 

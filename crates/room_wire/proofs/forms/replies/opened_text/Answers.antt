@@ -1,6 +1,5 @@
-use Rattle.std.proofs.Common.{◌≡◌, refl, rules}
+use Rattle.room_wire.proofs.Common.{◌≡◌, refl, rules, reply_data}
 use Rattle.room_commands.specs.ReplyModel as R
-use Rattle.room_wire.specs.Forms.Texts.{reply_data}
 use Rattle.room_wire.proofs.Lemmas.Forms.Written.{text_of, ◌then◌}
 use Rattle.room_wire.proofs.forms.replies.opened_text.Goals as goal
 

@@ -1,5 +1,4 @@
-use Rattle.std.proofs.Common.{◌≡◌, ◌∙◌, Some, refl, rules}
-use Rattle.room_wire.specs.Forms.Texts.{refusal_data}
+use Rattle.room_wire.proofs.Common.{◌≡◌, ◌∙◌, Some, refl, rules, refusal_data}
 use Rattle.room_wire.proofs.Lemmas.Forms.Written.{text_of, ◌then◌}
 use Rattle.room_wire.proofs.forms.replies.refused_at_text.Goals as goal
 

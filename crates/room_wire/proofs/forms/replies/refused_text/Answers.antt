@@ -1,5 +1,4 @@
-use Rattle.std.proofs.Common.{None, refl}
-use Rattle.room_wire.specs.Forms.Texts.{refusal_data}
+use Rattle.room_wire.proofs.Common.{None, refl, refusal_data}
 use Rattle.room_wire.proofs.Lemmas.Forms.Written.{text_of, ◌then◌}
 use Rattle.room_wire.proofs.forms.replies.refused_text.Goals as goal
 

@@ -1,6 +1,4 @@
-use Rattle.std.proofs.Common.{◌≡◌, [], ◌∷◌, codes, refl, rules}
-use Rattle.serde_json.specs.Data.{string}
-use Rattle.room_wire.specs.Forms.Texts.{num, obj, ok}
+use Rattle.room_wire.proofs.Common.{◌≡◌, [], ◌∷◌, codes, refl, rules, string, num, obj, ok}
 use Rattle.room_wire.proofs.Lemmas.Forms.Written.{text_of, ◌then◌}
 use Rattle.room_wire.proofs.forms.replies.stat_text.Goals as goal
 

@@ -1,8 +1,4 @@
-use Rattle.std.proofs.Common.{◌≡◌, ◌∷◌, ◌++◌, take, codes}
-use Rattle.std.specs.Prelude.{flat_map}
-use Rattle.std.specs.List.{AllByRecursion}
-use Rattle.json.specs.Token.{key, begin_array}
-use Rattle.room_acl.specs.Entries.{IsEntry}
+use Rattle.room_wire.proofs.Common.{◌≡◌, ◌∷◌, ◌++◌, take, codes, flat_map, AllByRecursion, key, begin_array, IsEntry}
 use Rattle.room_wire.proofs.Lemmas.Forms.Written.{entry_tokens}
 use Rattle.room_wire.proofs.forms.writing.entries_member.Given as goal
 

@@ -1,5 +1,4 @@
-use Rattle.std.proofs.Common.{rules, ◌≡◌, ◌∙◌, append_assoc}
-use Rattle.std.proofs.lemmas.Result.{IfOk-weaker}
+use Rattle.room_wire.proofs.Common.{rules, ◌≡◌, ◌∙◌, append_assoc, IfOk-weaker}
 use Rattle.room_wire.proofs.forms.writing.entry_item.Goals as goal
 
 pub returns : goal.returns

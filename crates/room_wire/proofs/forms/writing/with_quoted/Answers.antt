@@ -1,6 +1,5 @@
-use Rattle.std.proofs.Common.{◌≡◌, [], ◌∷◌, ◌++◌, ap, ◌∙◌, append-nil}
+use Rattle.room_wire.proofs.Common.{◌≡◌, [], ◌∷◌, ◌++◌, ap, ◌∙◌, append-nil, print, print_from, quoted}
 use Rattle.json.specs.Token.{string}
-use Rattle.json.specs.Print.{print, print_from, quoted}
 use Rattle.room_wire.proofs.forms.writing.with_quoted.Goals as goal
 
 pub returns : goal.returns

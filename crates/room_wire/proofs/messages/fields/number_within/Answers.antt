@@ -1,9 +1,6 @@
-use Rattle.std.proofs.Common.{◌<◌, ◌+◌, arith}
-use Rattle.std.specs.Str.Parse.{digits_value}
+use Rattle.room_wire.proofs.Common.{◌<◌, ◌+◌, arith, digits_value, nat_tests, max_body}
 use Rattle.std.proofs.lemmas.Int.Digits.{digits_value_more}
 use Rattle.std.proofs.lemmas.Str.Parse.{digits_value-take-le}
-use Rattle.std.proofs.lemmas.Bool.Decides.{nat_tests}
-use Rattle.room_wire.specs.Messages.Limits.{max_body}
 use Rattle.room_wire.proofs.Lemmas.Messages.Values.{digit_at}
 use Rattle.room_wire.proofs.messages.fields.number_within.Goals as goal
 

@@ -1,9 +1,6 @@
-use Rattle.std.proofs.Common.{◌≡◌, Bool, ◌∷◌, ◌++◌, [], true, false, take, map, get_or, ap, cond, sym}
-use Rattle.std.proofs.Common.{subst, ◌∙◌, append-nil}
-use Rattle.std.specs.Char.{to_ascii_lowercase}
-use Rattle.std.specs.Prelude.{bytes_eq}
-use Rattle.httparse.specs.Spans.{header_bytes}
-use Rattle.room_wire.specs.Messages.Fields.{IsFound, values_named, has_name}
+use Rattle.room_wire.proofs.Common.{◌≡◌, Bool, ◌∷◌, ◌++◌, [], true, false, take, map, get_or, ap, cond, sym, subst, ◌∙◌}
+use Rattle.room_wire.proofs.Common.{append-nil, to_ascii_lowercase, bytes_eq, header_bytes, IsFound, values_named}
+use Rattle.room_wire.proofs.Common.{has_name}
 use Rattle.room_wire.specs.declared.messages.fields.Found.TheVariants.{Many}
 use Rattle.room_wire.proofs.Lemmas.Messages.Values.{values_more, found_other, no_header}
 use Rattle.room_wire.proofs.messages.fields.values_of.Goals.{then-same_name+in-Absent, then-same_name+in_default}

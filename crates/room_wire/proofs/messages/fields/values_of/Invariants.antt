@@ -1,6 +1,4 @@
-use Rattle.std.proofs.Common.{map, take}
-use Rattle.httparse.specs.Spans.{header_bytes}
-use Rattle.room_wire.specs.Messages.Fields.{values_named, IsFound}
+use Rattle.room_wire.proofs.Common.{map, take, header_bytes, values_named, IsFound}
 use Rattle.room_wire.proofs.messages.fields.values_of.Given as goal
 
 abbrev pub invariant-loop-header : goal.invariant-loop-header

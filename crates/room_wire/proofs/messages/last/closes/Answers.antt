@@ -1,12 +1,6 @@
-use Rattle.std.proofs.Common.{◌≡◌, ℕ, Bool, List, ◌∷◌, ◌++◌, [], true, false, take, map, get_or, ap}
-use Rattle.std.proofs.Common.{cond, sym, ◌∙◌, codes, refl}
-use Rattle.std.proofs.Math.Bool.{or-true, or-false}
-use Rattle.std.specs.List.{list_any}
-use Rattle.std.specs.Char.{to_ascii_lowercase}
-use Rattle.std.specs.Prelude.{bytes_eq}
-use Rattle.httparse.specs.Spans.{header_bytes}
-use Rattle.room_wire.specs.Messages.Fields.{values_named, has_name}
-use Rattle.room_wire.specs.Messages.Stream.{lists_close}
+use Rattle.room_wire.proofs.Common.{◌≡◌, ℕ, Bool, List, ◌∷◌, ◌++◌, [], true, false, take, map, get_or, ap, cond, sym}
+use Rattle.room_wire.proofs.Common.{◌∙◌, codes, refl, or-true, or-false, list_any, to_ascii_lowercase, bytes_eq}
+use Rattle.room_wire.proofs.Common.{header_bytes, values_named, has_name, lists_close}
 use Rattle.room_wire.proofs.Lemmas.Messages.Values.{values_more, no_header, any_more}
 use Rattle.room_wire.proofs.messages.last.closes.Goals.{then-same_name+then-lists_close, else-same_name}
 use Rattle.room_wire.proofs.messages.last.closes.Goals.{else-same_name-via-then-same_name+else-lists_close}

@@ -1,6 +1,4 @@
-use Rattle.std.proofs.Common.{sym, ap, ◌∙◌, ◌+◌, ◌||◌, drop}
-use Rattle.std.proofs.lemmas.List.{take_rest}
-use Rattle.room_wire.specs.Messages.Stream.{lists_close}
+use Rattle.room_wire.proofs.Common.{sym, ap, ◌∙◌, ◌+◌, ◌||◌, drop, take_rest, lists_close}
 use Rattle.room_wire.proofs.Lemmas.Messages.Parts.{close_at, close_none}
 use Rattle.room_wire.proofs.messages.last.lists_close.Goals as goal
 

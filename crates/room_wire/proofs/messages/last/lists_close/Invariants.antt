@@ -1,5 +1,4 @@
-use Rattle.std.proofs.Common.{◌≡◌, length}
-use Rattle.room_wire.specs.Messages.Stream.{lists_close}
+use Rattle.room_wire.proofs.Common.{◌≡◌, length, lists_close}
 use Rattle.room_wire.proofs.messages.last.lists_close.Given as goal
 
 abbrev pub invariant-parts : goal.invariant-parts

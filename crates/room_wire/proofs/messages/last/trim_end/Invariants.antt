@@ -1,5 +1,4 @@
-use Rattle.std.proofs.Common.{◌≡◌, length, reverse}
-use Rattle.httparse.specs.Grammar.{skip_ows}
+use Rattle.room_wire.proofs.Common.{◌≡◌, length, reverse, skip_ows}
 use Rattle.room_wire.proofs.messages.last.trim_end.Given as goal
 
 abbrev pub invariant-loop-s : goal.invariant-loop-s

@@ -1,5 +1,4 @@
-use Rattle.std.proofs.Common.{rules}
-use Rattle.httparse.specs.Grammar.{trim_ows}
+use Rattle.room_wire.proofs.Common.{rules, trim_ows}
 use Rattle.room_wire.proofs.messages.last.trim_ows.Goals as goal
 
 pub returns : goal.returns

@@ -1,5 +1,4 @@
-use Rattle.std.proofs.Common.{◌++◌, ◌∷◌, [], sym, ◌∙◌, arith, inl, inr}
-use Rattle.std.proofs.lemmas.List.{take_rest}
+use Rattle.room_wire.proofs.Common.{◌++◌, ◌∷◌, [], sym, ◌∙◌, arith, inl, inr, take_rest}
 use Rattle.room_wire.proofs.Lemmas.Messages.Fronts.{reads_shorter}
 use Rattle.room_wire.proofs.Lemmas.Serving.Joins.{never_none}
 use Rattle.room_wire.proofs.Lemmas.Serving.Rounds.{shown_last, ends}

@@ -1,6 +1,4 @@
-use Rattle.std.proofs.Common.{List, length}
-use Rattle.room_wire.specs.Messages.MessageModel.{MessageModel}
-use Rattle.room_wire.specs.Messages.Stream.{Follows}
+use Rattle.room_wire.proofs.Common.{List, length, MessageModel, Follows}
 use Rattle.room_wire.proofs.messages.splitting.rest_of_stream.Given as goal
 
 abbrev pub invariant-messages : goal.invariant-messages

@@ -1,6 +1,5 @@
-use Rattle.std.proofs.Common.{◌≤◌, ◌+◌, length, arith, refl, sym, subst, ap, ◌∙◌, slice_range, inr}
-use Rattle.std.specs.Prelude.{IsUtf8}
-use Rattle.room_wire.specs.Messages.Fields.{body_length}
+use Rattle.room_wire.proofs.Common.{◌≤◌, ◌+◌, length, arith, refl, sym, subst, ap, ◌∙◌, slice_range, inr, IsUtf8}
+use Rattle.room_wire.proofs.Common.{body_length}
 use Rattle.room_wire.proofs.Lemmas.Messages.Fronts.{Parsed, never_by_fields, none_yet, message_at, message_size}
 use Rattle.room_wire.proofs.Lemmas.Messages.Fronts.{few_fields, window_length}
 use Rattle.room_wire.proofs.Lemmas.Messages.Lacking.{lacks_body}

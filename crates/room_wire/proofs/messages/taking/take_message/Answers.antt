@@ -1,4 +1,4 @@
-use Rattle.std.proofs.Common.{arith, inl}
+use Rattle.room_wire.proofs.Common.{arith, inl}
 use Rattle.room_wire.proofs.Lemmas.Messages.Boundaries.{window_is, some_when, none_when}
 use Rattle.room_wire.proofs.Lemmas.Messages.Fronts.{none_empty, none_by_head, never_by_overflow, never_by_head}
 use Rattle.room_wire.proofs.Lemmas.Messages.Lacking.{lacks_head, lacks_all}

@@ -1,5 +1,4 @@
-use Rattle.std.proofs.Common.{◌≡◌, refl, rules}
-use Rattle.room_wire.specs.Questions.CheckAnswers.{allowed_data}
+use Rattle.room_wire.proofs.Common.{◌≡◌, refl, rules, allowed_data}
 use Rattle.room_wire.proofs.Lemmas.Forms.Written.{text_of, ◌then◌}
 use Rattle.room_wire.proofs.questions.answering.allowed_text.Goals as goal
 

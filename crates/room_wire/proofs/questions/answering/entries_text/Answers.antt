@@ -1,5 +1,4 @@
-use Rattle.std.proofs.Common.{refl}
-use Rattle.room_wire.specs.Questions.CheckAnswers.{entries_data}
+use Rattle.room_wire.proofs.Common.{refl, entries_data}
 use Rattle.room_wire.proofs.Lemmas.Forms.Written.{text_of, ◌then◌}
 use Rattle.room_wire.proofs.questions.answering.entries_text.Goals as goal
 

@@ -1,7 +1,4 @@
-use Rattle.std.proofs.Common.{◌∙◌, ap, bit_and}
-use Rattle.std.proofs.lemmas.Result.{IfOk-weaker}
-use Rattle.serde_json.specs.Written.{compact_text}
-use Rattle.room_wire.specs.Questions.CheckAnswers.{allowed_data, bit_of}
+use Rattle.room_wire.proofs.Common.{◌∙◌, ap, bit_and, IfOk-weaker, compact_text, allowed_data, bit_of}
 use Rattle.room_wire.proofs.questions.answering.list_answer.Goals as goal
 
 pub returns : goal.returns

@@ -1,8 +1,5 @@
-use Rattle.std.proofs.Common.{◌≡◌, true, None, cond, codes, sym, ap, ◌∙◌}
-use Rattle.std.specs.Prelude.{option_map}
-use Rattle.std.specs.Option.{option_zip}
-use Rattle.serde_json.specs.View.{view}
-use Rattle.room_wire.specs.Forms.Reading.{has_count, principal_at, principal_in, entry_in, mask_at, all_at}
+use Rattle.room_wire.proofs.Common.{◌≡◌, true, None, cond, codes, sym, ap, ◌∙◌, option_map, option_zip, view, has_count}
+use Rattle.room_wire.proofs.Common.{principal_at, principal_in, entry_in, mask_at, all_at}
 use Rattle.room_wire.specs.Questions.QuestionModel.{of_list}
 use Rattle.room_wire.proofs.questions.asking.list_question_in.Goals as goal
 

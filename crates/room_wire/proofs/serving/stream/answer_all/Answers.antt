@@ -1,5 +1,4 @@
-use Rattle.std.proofs.Common.{◌++◌, ◌∷◌, [], true, false, refl, sym, ◌∙◌, arith}
-use Rattle.std.proofs.KnownBytes.{Appends-nil, Appends-trans}
+use Rattle.room_wire.proofs.Common.{◌++◌, ◌∷◌, [], true, false, refl, sym, ◌∙◌, arith, Appends-nil, Appends-trans}
 use Rattle.room_wire.proofs.Lemmas.Serving.Rounds.{shown_last, shown_answer, reads_at, begun, ends, breaks}
 use Rattle.room_wire.proofs.Lemmas.Serving.Rounds.{outputs_then, one_more}
 use Rattle.room_wire.proofs.Lemmas.Messages.Fronts.{reads_shorter}

@@ -1,8 +1,4 @@
-use Rattle.std.proofs.Common.{◌≡◌, ◌+◌, ◌-◌, ◌^◌, ℕ, List, min, length}
-use Rattle.std.specs.Io.KnownBytes.{Appends}
-use Rattle.room_wire.specs.Messages.MessageModel.{MessageModel}
-use Rattle.room_wire.specs.Serving.Outputs.{Outputs}
-use Rattle.room_wire.specs.Messages.Stream.{Follows}
+use Rattle.room_wire.proofs.Common.{◌≡◌, ◌+◌, ◌-◌, ◌^◌, ℕ, List, min, length, Appends, MessageModel, Outputs, Follows}
 use Rattle.room_wire.proofs.serving.stream.answer_all.Given as goal
 
 abbrev pub invariant-rounds : goal.invariant-rounds

@@ -1,7 +1,6 @@
-use Rattle.std.proofs.Common.{◌<◌, ◌≢◌, ◌++◌, [], refl, sym, ap, subst, ◌∙◌, arith, length, length-append, inl, inr}
-use Rattle.std.proofs.KnownBytes.{Appends-nil, Appends-trans, Consumes-nil, Consumes-trans, Consumes-kept}
-use Rattle.room_wire.specs.Messages.MessageModel.{NoMessage}
-use Rattle.room_wire.specs.Messages.Stream.{Follows}
+use Rattle.room_wire.proofs.Common.{◌<◌, ◌≢◌, ◌++◌, [], refl, sym, ap, subst, ◌∙◌, arith, length, length-append, inl}
+use Rattle.room_wire.proofs.Common.{inr, Appends-nil, Appends-trans, Consumes-nil, Consumes-trans, Consumes-kept}
+use Rattle.room_wire.proofs.Common.{NoMessage, Follows}
 use Rattle.room_wire.proofs.Lemmas.Messages.Fronts.{none_empty}
 use Rattle.room_wire.proofs.Lemmas.Serving.Joins.{more_follows, more_ended, more_begun, more_count}
 use Rattle.room_wire.proofs.Lemmas.Serving.Joins.{refused_ends, never_none}

@@ -1,9 +1,5 @@
-use Rattle.std.proofs.Common.{◌≡◌, ◌-◌, ◌^◌, ◌<◌, ◌≤◌, ℕ, List, min, length}
-use Rattle.std.specs.Io.KnownBytes.{Appends, Consumes}
-use Rattle.room_wire.specs.Messages.Limits.{max_message}
-use Rattle.room_wire.specs.Messages.MessageModel.{MessageModel, NoMessage}
-use Rattle.room_wire.specs.Serving.Outputs.{Outputs}
-use Rattle.room_wire.specs.Messages.Stream.{Follows}
+use Rattle.room_wire.proofs.Common.{◌≡◌, ◌-◌, ◌^◌, ◌<◌, ◌≤◌, ℕ, List, min, length, Appends, Consumes, max_message}
+use Rattle.room_wire.proofs.Common.{MessageModel, NoMessage, Outputs, Follows}
 use Rattle.room_wire.proofs.serving.stream.serve_with.Given as goal
 
 abbrev pub invariant-reads : goal.invariant-reads

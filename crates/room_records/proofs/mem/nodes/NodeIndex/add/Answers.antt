@@ -1,5 +1,4 @@
-use Rattle.std.proofs.Common.{ap}
-use Rattle.std.specs.Option.{option_map}
+use Rattle.room_records.proofs.Common.{ap, option_map}
 use Rattle.room_records.proofs.Keys.{put_number}
 use Rattle.room_records.proofs.NodePlaces.{index_of, index_with}
 use Rattle.room_records.proofs.mem.nodes.NodeIndex.add.Goals as goal

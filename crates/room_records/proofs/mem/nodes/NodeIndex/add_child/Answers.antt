@@ -1,9 +1,6 @@
-use Rattle.std.proofs.Common.{◌≡◌, arith, ap, sym, ◌∙◌, None, Some, nat_cmp, Option, ℕ, List, cond, refl, true, false}
-use Rattle.std.proofs.Common.{Bor}
-use Rattle.std.specs.Ordering.{eq_by_cmp}
-use Rattle.std.specs.Option.{option_copied, is_some}
-use Rattle.room_records.specs.declared.node.Node.{Node}
-use Rattle.room_records.specs.NodeIndex.{node_in, place_of}
+use Rattle.room_records.proofs.Common.{◌≡◌, arith, ap, sym, ◌∙◌, None, Some, nat_cmp, Option, ℕ, List, cond, refl, true}
+use Rattle.room_records.proofs.Common.{false, Bor, eq_by_cmp, option_copied, Node, node_in, place_of}
+use Rattle.std.specs.Option.{is_some}
 use Rattle.room_records.proofs.Keys.{put_number, put_place}
 use Rattle.room_records.proofs.NodePlaces.{index_of, index_with_child, taken_is_not_free}
 use Rattle.room_records.proofs.mem.nodes.NodeIndex.add_child.Goals as goal

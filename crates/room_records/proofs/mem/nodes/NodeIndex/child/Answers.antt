@@ -1,6 +1,4 @@
-use Rattle.std.proofs.Common.{◌≡◌, sym, ◌∙◌, None, Some}
-use Rattle.room_records.specs.Shelf.{IsChildNamed}
-use Rattle.room_records.specs.NodeIndex.{node_in, id_at}
+use Rattle.room_records.proofs.Common.{◌≡◌, sym, ◌∙◌, None, Some, IsChildNamed, node_in, id_at}
 use Rattle.room_records.proofs.Children.{named_child}
 use Rattle.room_records.proofs.Options.{ok_of_value}
 use Rattle.room_records.proofs.NodePlaces.{index_of}

@@ -1,5 +1,4 @@
-use Rattle.std.proofs.Common.{◌≡◌, length, arith}
-use Rattle.room_records.specs.NodeIndex.{node_in}
+use Rattle.room_records.proofs.Common.{◌≡◌, length, arith, node_in}
 use Rattle.room_records.proofs.Children.{children_are, shown, places_between}
 use Rattle.room_records.proofs.NodePlaces.{index_of}
 use Rattle.room_records.proofs.mem.nodes.NodeIndex.child_count.Goals as goal

@@ -1,5 +1,4 @@
-use Rattle.std.proofs.Common.{◌≡◌, ◌+◌, ◌^◌, ◌<◌, length}
-use Rattle.room_records.specs.NodeIndex.{node_in}
+use Rattle.room_records.proofs.Common.{◌≡◌, ◌+◌, ◌^◌, ◌<◌, length, node_in}
 use Rattle.room_records.proofs.Children.{shown, places_between}
 use Rattle.room_records.proofs.mem.nodes.NodeIndex.child_count.Given as goal
 

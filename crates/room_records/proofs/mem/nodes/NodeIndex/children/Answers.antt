@@ -1,6 +1,4 @@
-use Rattle.std.proofs.Common.{◌≡◌, sym, ◌∙◌}
-use Rattle.std.proofs.lemmas.List.{append-nil}
-use Rattle.room_records.specs.NodeIndex.{node_in}
+use Rattle.room_records.proofs.Common.{◌≡◌, sym, ◌∙◌, append-nil, node_in}
 use Rattle.room_records.proofs.Children.{children_are, shown, places_between}
 use Rattle.room_records.proofs.NodePlaces.{index_of}
 use Rattle.room_records.proofs.mem.nodes.NodeIndex.children.Goals as goal

@@ -1,5 +1,4 @@
-use Rattle.std.proofs.Common.{◌≡◌, ◌++◌}
-use Rattle.room_records.specs.NodeIndex.{node_in}
+use Rattle.room_records.proofs.Common.{◌≡◌, ◌++◌, node_in}
 use Rattle.room_records.proofs.Children.{shown, places_between}
 use Rattle.room_records.proofs.mem.nodes.NodeIndex.children.Given as goal
 

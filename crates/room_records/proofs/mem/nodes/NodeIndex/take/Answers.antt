@@ -1,6 +1,5 @@
-use Rattle.std.proofs.Common.{◌≡◌, ap, sym, ◌∙◌, None, Some, rules}
-use Rattle.std.specs.Option.{option_map, option_and_then}
-use Rattle.room_records.specs.NodeIndex.{node_in, place_of}
+use Rattle.room_records.proofs.Common.{◌≡◌, ap, sym, ◌∙◌, None, Some, rules, option_map, option_and_then, node_in}
+use Rattle.room_records.proofs.Common.{place_of}
 use Rattle.room_records.proofs.Keys.{put_number, put_place}
 use Rattle.room_records.proofs.NodePlaces.{index_of, index_without, index_without_child}
 use Rattle.room_records.proofs.mem.nodes.NodeIndex.take.Goals as goal

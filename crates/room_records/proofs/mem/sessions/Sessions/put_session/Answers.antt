@@ -1,4 +1,4 @@
-use Rattle.std.proofs.Common.{refl}
+use Rattle.room_records.proofs.Common.{refl}
 use Rattle.room_records.proofs.SessionKeys.{put_row, still_counted}
 use Rattle.room_records.proofs.mem.sessions.Sessions.put_session.Goals as goal
 

@@ -1,4 +1,4 @@
-use Rattle.std.proofs.Common.{arith}
+use Rattle.room_records.proofs.Common.{arith}
 use Rattle.room_records.proofs.SessionKeys.{put_slot_row, still_few}
 use Rattle.room_records.proofs.mem.sessions.Sessions.put_slot.Goals as goal
 

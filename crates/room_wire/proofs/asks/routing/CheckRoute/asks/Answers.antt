@@ -1,5 +1,4 @@
-use Rattle.std.proofs.Common.{◌≡◌, rules, ap, sym, ◌∙◌, codes, bytes_eq}
-use Rattle.matchit.specs.Seek.{first}
+use Rattle.room_wire.proofs.Common.{◌≡◌, rules, ap, sym, ◌∙◌, codes, bytes_eq, first}
 use Rattle.room_wire.proofs.Lemmas.Asks.Targets.{asks_found, asks_missing}
 use Rattle.room_wire.proofs.asks.routing.CheckRoute.asks.Goals as goal
 

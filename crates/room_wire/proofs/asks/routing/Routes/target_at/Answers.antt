@@ -1,6 +1,4 @@
-use Rattle.std.proofs.Common.{◌<◌, ap, subst, ◌∙◌}
-use Rattle.std.specs.List.{AllByRecursion}
-use Rattle.room_wire.specs.Asks.Routing.{target_at}
+use Rattle.room_wire.proofs.Common.{◌<◌, ap, subst, ◌∙◌, AllByRecursion, target_at}
 use Rattle.room_wire.proofs.Lemmas.Asks.RoomTargets.{room_target_is}
 use Rattle.room_wire.proofs.Lemmas.Asks.Routes.{bytes_text}
 use Rattle.room_wire.proofs.asks.routing.Routes.target_at.Goals as goal

@@ -1,6 +1,5 @@
-use Rattle.std.proofs.Common.{◌≡◌, ◌≤◌, ◌-◌, ◌+◌, take, length, List, ◌++◌, ℕ, ap, arith, ◌∙◌, slice_range}
-use borrow.Rule.Slice.PartMut.{put_mid}
-use Rattle.std.proofs.lemmas.List.{with_items_is, length-take-le}
+use Rattle.room_wire.proofs.Common.{◌≡◌, ◌≤◌, ◌-◌, ◌+◌, take, length, List, ◌++◌, ℕ, ap, arith, ◌∙◌, slice_range}
+use Rattle.room_wire.proofs.Common.{put_mid, with_items_is, length-take-le}
 use Rattle.room_wire.proofs.Lemmas.Messages.Boundaries.{front_then, whole_length}
 use Rattle.room_wire.proofs.serving.input.Input.read_from.Goals as goal
 
