@@ -1,37 +1,18 @@
 -- One room from run to run over files of any disk.
-use Rattle.std.proofs.Common.{◌≡◌, ◌⊎◌, ℕ, List, [], Bool, true, false, ◌&&◌, IsTrue, refl, sym, subst, inl, inr}
-use Rattle.std.proofs.Common.{true≢false}
-use Rattle.std.proofs.Math.Logic.{∥∥₁_map}
-use Rattle.sqlite_disk.specs.declared.Disk.{Ghosts}
+use Rattle.room_program.proofs.Common.{◌≡◌, ◌⊎◌, ℕ, List, [], Bool, true, false, ◌&&◌, IsTrue, refl, sym, subst, inl}
+use Rattle.room_program.proofs.Common.{inr, true≢false, ∥∥₁_map, Ghosts, FileStore, HasCleanDisk, IsLive, Survives}
+use Rattle.room_program.proofs.Common.{Held, file_state, over_files, image_of, Records, Room, fresh_room, View, Known}
+use Rattle.room_program.proofs.Common.{cached_view, has_room, has_first_room, SqlShelf, IsTaken, MayBeTaken, sql_view}
+use Rattle.room_program.proofs.Common.{was_clean, EventModel, AnswerModel, History, leaves_no_reply, Adopted, Made}
+use Rattle.room_program.proofs.Common.{stand_at_first, Copied, IsOpenedOver, HoldsNothing, HoldsRoom, AnsweredThenLeft}
+use Rattle.room_program.proofs.Common.{HoldsRoomWith, ActsOnce}
 use Rattle.sqlite_disk.specs.declared.Files.{Files}
 use Rattle.sqlite.specs.WalReads.{AreClean}
-use Rattle.sqlite.specs.declared.FileStore.{FileStore}
 use Rattle.sqlite.specs.Closing.{IsCopied}
-use Rattle.sqlite.specs.State.{HasCleanDisk, IsLive, Survives}
 use Rattle.sqlite_trees.specs.declared.store.Store as trees
-use Rattle.sqlite.specs.Held.{Held, state}
-use Rattle.sqlite.specs.Files.{file_state, over_files, image_of}
-use Rattle.room_records.specs.Records.{Records}
-use Rattle.room_records.specs.Room.{Room, fresh_room}
-use Rattle.room_records.specs.Shelf.{View}
-use Rattle.room_cache.specs.declared.known.Known.{Known}
+use Rattle.sqlite.specs.Held.{state}
 use Rattle.room_cache.specs.Known.{IsTrueOf}
-use Rattle.room_cache.specs.Cached.{cached_view}
-use Rattle.room_tables.specs.Tables.{has_room, has_first_room}
-use Rattle.room_sql.specs.declared.sql_shelf.SqlShelf.{SqlShelf}
 use Rattle.room_sql.specs.Facts.{KnowsNothing}
-use Rattle.room_sql.specs.Taken.{IsTaken, MayBeTaken}
-use Rattle.room_sql.specs.SqlView.{sql_view}
-use Rattle.room_sql.proofs.Frames.{was_clean}
-use Rattle.room_wire.specs.Asks.EventModel.{EventModel}
-use Rattle.room_desk.specs.AnswerModel.{AnswerModel}
-use Rattle.room_desk.specs.History.{History, leaves_no_reply}
-use Rattle.room_program.specs.Files.{Adopted, Made}
-use Rattle.room_desk.proofs.Beginnings.{stand_at_first}
-use Rattle.room_program.specs.declared.left.Left.TheVariants.{Copied}
-use Rattle.room_program.specs.Found.{IsOpenedOver, HoldsNothing, HoldsRoom}
-use Rattle.room_program.specs.Halts.{AnsweredThenLeft, HoldsRoomWith}
-use Rattle.room_program.specs.Restarts.{ActsOnce}
 use Rattle.room_program.proofs.Found.{stands, found_nothing, closed_holds}
 use Rattle.room_program.proofs.Restarts.{again}
 use Rattle.room_program.proofs.Stopped.{old_or_new}

@@ -1,137 +1,179 @@
 -- A client over several runs over files.
-use Rattle.std.proofs.Common.{◌≡◌, ◌∙◌, ◌+◌, ℕ, zero, suc, ◌^◌, ◌<◌, List, [], ◌∷◌, ◌++◌, length, IsTrue}
-use Rattle.std.proofs.Common.{Result, Ok, Err, false, refl, sym, ap, subst, inl, inr}
-use Rattle.std.specs.Prelude.{flat_map}
-use Rattle.std.proofs.Math.Logic.{∥∥₁_map, ∥∥₁_elim}
-use Rattle.sqlite_disk.specs.declared.Disk.{Ghosts}
-use Rattle.sqlite_trees.specs.Tree.{Trees}
-use Rattle.sqlite.specs.FileStore.{recovers, view}
-use Rattle.sqlite.proofs.Theorems.{opens_again}
-use Rattle.sqlite_store.specs.Laws.{stays_at}
-use Rattle.sqlite.specs.Recovery.{Image}
-use Rattle.sqlite.specs.declared.FileStore.{FileStore}
-use Rattle.sqlite.specs.State.{HasCleanDisk}
-use Rattle.sqlite.specs.Held.{Held, AreDatabases}
-use Rattle.sqlite.specs.Files.{file_state, over_files, HoldsDatabase}
-use Rattle.room_acl.specs.SubjectModel.{SubjectModel}
-use Rattle.room_records.specs.Room.{Room}
-use Rattle.room_records.specs.Shelf.{View, LeavesNew}
+use Rattle.room_program.proofs.Common.{◌≡◌, ◌+◌, ℕ, zero, suc, ◌^◌, ◌<◌, ◌⊎◌, List, [], ◌∷◌, ◌++◌, length}
+use Rattle.room_program.proofs.Common.{IsTrue, true, false, Result, Ok, Err, Some, refl, sym, subst, inl, inr}
+use Rattle.room_program.proofs.Common.{flat_map, ∥∥₁_map, ∥∥₁_elim}
+use Rattle.room_program.proofs.Common.{Ghosts, Trees, recovers, view, opens_again, stays_at, Image, FileStore}
+use Rattle.room_program.proofs.Common.{HasCleanDisk, Held, AreDatabases, file_state, over_files, HoldsDatabase}
+use Rattle.room_program.proofs.Common.{SubjectModel, Records, Room, View, LeavesNew, Known, records_of, SqlShelf}
+use Rattle.room_program.proofs.Common.{EventModel, AnswerModel, History, StandsFor, MayAnswer, Lane}
+use Rattle.room_program.proofs.Common.{HoldsSlot, ran, Attempt, HearsLess, Client, idle, KeepsRule, HasDone, Taken}
+use Rattle.room_program.proofs.Common.{is_lost, IsAsk, IsTold, LeadsBy, attempts_in, Left, ServesEach, Adopted}
+use Rattle.room_program.proofs.Common.{Closes, Holds, IsLeftBy, IsOpenedOver, HoldsRoom, HoldsStill, MayBeLeft}
+use Rattle.room_program.proofs.Common.{HoldsRoomWith, ServedTo, Steps, Visit}
+use Rattle.std.specs.List.{Contains}
 use Rattle.room_commands.specs.CommandModel.{CommandModel}
-use Rattle.room_cache.specs.declared.known.Known.{Known}
-use Rattle.room_tables.specs.Rows.{records_of}
-use Rattle.room_sql.specs.declared.sql_shelf.SqlShelf.{SqlShelf}
-use Rattle.room_wire.specs.declared.fault.WireFault.{WireFault}
-use Rattle.room_wire.specs.Asks.AskOf.{AskModel, Check, Event, ask_of}
 use Rattle.room_wire.specs.Messages.MessageModel.{MessageModel}
 use Rattle.room_wire.specs.Serving.Outputs.{InTurn}
-use Rattle.room_desk.specs.AnswerModel.{AnswerModel}
-use Rattle.room_desk.specs.History.{History}
-use Rattle.room_desk.specs.Representation.{StandsFor}
-use Rattle.room_desk.specs.Serving.{AnswersMessage, MayAnswer}
-use Rattle.room_desk.specs.Client.{Lane, HoldsSlot, ran, Attempt, HearsLess, Client, idle, KeepsRule, HasDone}
-use Rattle.room_desk.specs.Client.{Taken, is_lost, IsAsk, IsTold}
-use Rattle.room_desk.specs.ClientRuns.{Leads, LeadsBy, attempts_in}
 use Rattle.room_desk.proofs.Attempts.{client_did, client_told}
 use Rattle.room_desk.proofs.AttemptRuns.{taken_in_turn, taken_unheard}
-use Rattle.room_desk.proofs.ClientStreams.{messages_lead, stream_is_taken, with_attempt}
-use Rattle.room_program.specs.declared.left.Left.{Left}
-use Rattle.room_program.specs.Calls.{Exchange, ServesEach}
-use Rattle.room_program.specs.Files.{Adopted}
-use Rattle.room_program.specs.Found.{Closes, Holds, IsLeftBy, IsOpenedOver, HoldsRoom, HoldsStill, MayBeLeft}
-use Rattle.room_program.specs.Halts.{HoldsRoomWith}
-use Rattle.room_program.specs.Streams.{Served}
-use Rattle.room_program.specs.Restarts.{Steps}
+use Rattle.room_desk.proofs.AttemptRuns.{delay_step, in_none, one_of}
+use Rattle.room_desk.proofs.ClientStreams.{stream_is_taken, with_attempt}
+use Rattle.room_desk.proofs.Stops.{at_rest}
+use Rattle.room_desk.proofs.StreamStops.{after_ask}
+use Rattle.room_desk.specs.Serving.{AnswersOrDelays}
+use Rattle.room_desk.specs.Stops.{Doubt, no_doubt, StandsInDoubt, doubt_after, is_delay}
+use Rattle.room_wire.specs.declared.fault.WireFault.{WireFault}
+use Rattle.room_wire.specs.Asks.AskOf.{AskModel, Check, Event, ask_of}
+use Rattle.std.proofs.lemmas.Bool.{cases_Bool}
 use Rattle.room_program.specs.ClientFiles.{TakesAttempts, sent_over}
 use Rattle.room_program.proofs.Found.{stands, closed_in, closed_holds}
 use Rattle.room_program.proofs.Restarts.{databases, settled, leaves_laid_out, shelf_view}
 
--- ---- messages in turn
+-- ---- what was sent
 
--- some, and then others
-turn_then : {S Asked : Type 0} (may : S → Asked → AnswerModel → S → Type 0) (a b c : S) (ms more : List Asked)
-    (answers later : List AnswerModel) → InTurn may a ms answers b → InTurn may b more later c
-    → InTurn may a (ms ++ more) (answers ++ later) c
-turn_then may a b c [] more [] later same then = subst (λ s. InTurn may s more later c) same then
-turn_then may a b c [] more (one ∷ answers) later none then = absurd none
-turn_then may a b c (m ∷ ms) more [] later none then = absurd none
-turn_then may a b c (m ∷ ms) more (one ∷ answers) later (mid, step, run) then =
-    (mid, step, turn_then may mid b c ms more answers later run then)
+-- the rows stand for a history, and a crash leaves such rows, or with one of the events in doubt, and laid out
+abbrev LeavesInDoubt : {S : Type 0} (view : S → View) → Room → Doubt → S → Type 0
+LeavesInDoubt view start known s = StandsFor start known.past (view s)
+    × LeavesNew (view s) (StandsInDoubt start known.past known.doubted) × (view s).leaves_laid_out
 
-one_more : (ask : Result AskModel WireFault) (answered : AnswerModel) (rest more : List Attempt)
-    → with_attempt ask answered (rest ++ more) ≡ with_attempt ask answered rest ++ more
-one_more (Ok (Event event)) answered rest more = refl
-one_more (Ok (Check question)) answered rest more = refl
-one_more (Err fault) answered rest more = refl
+-- attempts lead from a history to another, or from it with an event that was in doubt
+abbrev TakenWith : Room → History → List Attempt → History → (doubted : List EventModel) → EventModel → Type 0
+TakenWith start past sent last doubted event =
+    Taken start past sent last ⊎ (Contains doubted event × Taken start (event ∷ past) sent last)
 
-attempts_then : {S : Type 0} (may : S → MessageModel → AnswerModel → S → Type 0) (users : List SubjectModel) (a b : S)
-    (ms more : List MessageModel) (answers later : List AnswerModel) → InTurn may a ms answers b
-    → attempts_in users (ms ++ more) (answers ++ later) ≡ attempts_in users ms answers ++ attempts_in users more later
-attempts_then may users a b [] more [] later same = refl
-attempts_then may users a b [] more (one ∷ answers) later none = absurd none
-attempts_then may users a b (m ∷ ms) more [] later none = absurd none
-attempts_then may users a b (m ∷ ms) more (one ∷ answers) later (mid, step, run) =
-    ap (with_attempt (ask_of users m) one) (attempts_then may users mid b ms more answers later run)
-    ∙ one_more (ask_of users m) one (attempts_in users ms answers) (attempts_in users more later)
+-- what was sent between two states of a shelf: it leads from the history that the rows stood for to that which they
+-- stand for then, and, where some events were in doubt, to it with any that is then, or it was before
+pub record Brings {S : Type 0} (view : S → View) (before after : S) (sent : List Attempt) : Type 0 where
+  pub was_intact : (view after).is_intact → (view before).is_intact
+  pub on : (view after).is_intact → (start : Room) (past : History) → StandsFor start past (view before)
+      → (next : History) × Taken start past sent next × StandsFor start next (view after)
+  pub in_doubt : (view after).is_intact → (start : Room) (known : Doubt) → LeavesInDoubt view start known before
+      → (next : Doubt) × LeavesInDoubt view start next after × Taken start known.past sent next.past
+      × ((event : EventModel) → Contains next.doubted event
+      → TakenWith start known.past sent (event ∷ next.past) known.doubted event)
 
--- what was sent between two states of a shelf: messages that were answered in turn, and their attempts
-abbrev pub Brings : {S : Type 0} (view : S → View) → List SubjectModel → S → S → List Attempt → Type 0
-Brings view users before after sent = (ms : List MessageModel) × (answers : List AnswerModel)
-    × InTurn (MayAnswer view users) before ms answers after × (attempts_in users ms answers ≡ sent)
+one_more : (ask : Result AskModel WireFault) (answered : AnswerModel) (more : List Attempt)
+    → with_attempt ask answered more ≡ with_attempt ask answered [] ++ more
+one_more (Ok (Event event)) answered more = refl
+one_more (Ok (Check question)) answered more = refl
+one_more (Err fault) answered more = refl
 
-module _ {S : Type 0} (view : S → View) (users : List SubjectModel) where
-  pub brings_then : (before between after : S) (sent more : List Attempt) → Brings view users before between sent
-      → Brings view users between after more → Brings view users before after (sent ++ more)
-  brings_then before between after sent more (ms, answers, run, same) (ks, replies, then, is) = (
-    ms ++ ks,
-    answers ++ replies,
-    turn_then (MayAnswer view users) before between after ms ks answers replies run then,
-    attempts_then (MayAnswer view users) users before between ms ks answers replies run
-        ∙ ap (λ t. t ++ attempts_in users ks replies) same ∙ ap (λ t. sent ++ t) is,
-  )
+-- an event that is in doubt after a message joined there, or was in doubt before
+doubt_step : (start : Room) (past mid last : History) (ask : Result AskModel WireFault) (answered : AnswerModel)
+    (doubted : List EventModel) (event : EventModel) (rest : List Attempt)
+    → AnswersOrDelays start past ask answered mid → Contains (doubt_after doubted ask answered) event
+    → Taken start (event ∷ mid) rest last → TakenWith start past (with_attempt ask answered rest) last doubted event
+doubt_step start past mid last (Ok (Event one)) answered doubted event rest step among taken =
+    elim (cases_Bool (is_delay answered)) [
+      | inl delay ↦ (let stays = delay_step start past mid one answered delay step in
+          let lost : is_lost (Some answered) ≡ true = delay in
+          elim (one_of one doubted event (rw delay at among)) [
+            | inl is ↦ inl (
+              one ∷ past,
+              inr (lost, inr refl),
+              subst (λ e. Taken start (e ∷ past) rest last) is (rw stays at taken),
+            )
+            | inr old ↦ inr (old, (event ∷ past, inr (lost, inl refl), rw stays at taken))
+          ])
+      | inr other ↦ absurd (in_none event (rw other at among))
+    ]
+doubt_step start past mid last (Ok (Check question)) answered doubted event rest (inl (is, same)) among taken =
+    inr (among, rw same at taken)
+doubt_step start past mid last (Ok (Check question)) answered doubted event rest (inr (is, same)) among taken =
+    inr (among, rw same at taken)
+doubt_step start past mid last (Err fault) answered doubted event rest (inl (is, same)) among taken =
+    inr (among, rw same at taken)
+doubt_step start past mid last (Err fault) answered doubted event rest (inr (is, same)) among taken =
+    inr (among, rw same at taken)
+
+module _ {S : Type 0} (view : S → View) where
+  -- nothing
+  pub brings_none : (s : S) → Brings view s s []
+  brings_none s = record {
+    was_intact = λ intact. intact;
+    on = λ intact start past stand. (past, refl, stand);
+    in_doubt = λ intact start known leaves. (known, leaves, refl, λ event among. inr (among, refl));
+  }
+
+  -- some, and then more
+  pub brings_then : (before between after : S) (sent more : List Attempt) → Brings view before between sent
+      → Brings view between after more → Brings view before after (sent ++ more)
+  brings_then before between after sent more a b = record {
+    was_intact = λ intact. a.was_intact (b.was_intact intact);
+    on = λ intact start past stand.
+        let (mid, first, there) = a.on (b.was_intact intact) start past stand in
+        let (next, later, last) = b.on intact start mid there in
+        (next, taken_in_turn start past mid next sent more first later, last);
+    in_doubt = λ intact start known leaves.
+        let (mid, kept, first, before_it) = a.in_doubt (b.was_intact intact) start known leaves in
+        let (next, left, later, then) = b.in_doubt intact start mid kept in (
+          next,
+          left,
+          taken_in_turn start known.past mid.past next.past sent more first later,
+          λ event among. elim (then event among) [
+            | inl taken ↦
+                inl (taken_in_turn start known.past mid.past (event ∷ next.past) sent more first taken)
+            | inr (was, taken) ↦ elim (before_it event was) [
+              | inl joined ↦ inl (taken_in_turn start known.past (event ∷ mid.past) (event ∷ next.past) sent more
+                  joined taken)
+              | inr (old, none) ↦ inr (
+                old,
+                taken_in_turn start (event ∷ known.past) (event ∷ mid.past)
+                    (event ∷ next.past) sent more none taken,
+              )
+            ]
+          ],
+        );
+  }
+
+  module _ (settled : (s : S) (left : Records) → (view s).is_available → (view s).crash_may_leave left
+      → left ≡ (view s).records) (users : List SubjectModel) where
+    -- a message of these users, and its answer
+    brings_message : (before after : S) (m : MessageModel) (answered : AnswerModel)
+        → MayAnswer view users before m answered after
+        → Brings view before after (with_attempt (ask_of users m) answered [])
+    brings_message before after m answered call = record {
+      was_intact = λ intact. call.frame.was_intact intact;
+      on = λ intact start past stand.
+          let (next, step, there) = call.step intact start past stand in
+          (next, stream_is_taken start users past next (m ∷ []) (answered ∷ []) (next, step, refl), there);
+      in_doubt = λ intact start known leaves.
+          let (stand, left, laid) = leaves in
+          let (next, step, there, then) = after_ask view settled start known.past known.doubted before after answered
+          intact stand left (ask_of users m) call in (
+            record { past = next; doubted = doubt_after known.doubted (ask_of users m) answered },
+            (there, then, call.stays_laid_out intact start known.past stand laid),
+            stream_is_taken start users known.past next (m ∷ []) (answered ∷ []) (next, step, refl),
+            λ event among. doubt_step start known.past next (event ∷ next) (ask_of users m) answered known.doubted
+                event [] step among refl,
+          );
+    }
+
+    -- and several
+    pub brings_messages : (before after : S) (ms : List MessageModel) (answers : List AnswerModel)
+        → InTurn (MayAnswer view users) before ms answers after
+        → Brings view before after (attempts_in users ms answers)
+    brings_messages before after [] [] same = subst (λ s. Brings view before s []) (sym same) (brings_none before)
+    brings_messages before after [] (answered ∷ answers) none = absurd none
+    brings_messages before after (m ∷ ms) [] none = absurd none
+    brings_messages before after (m ∷ ms) (answered ∷ answers) (mid, call, run) =
+        subst (λ (sent : List Attempt). Brings view before after sent)
+        (sym (one_more (ask_of users m) answered (attempts_in users ms answers)))
+        (brings_then before mid after (with_attempt (ask_of users m) answered []) (attempts_in users ms answers)
+        (brings_message before mid m answered call) (brings_messages mid after ms answers run))
 
   -- so many connections
-  pub brings_over : {L : Type 0} (accepts : L → Exchange → L → Type 0) (n : ℕ) (old new : L) (before after : S)
-      (each : ServesEach accepts (Served view users) n old new before after)
-      → Brings view users before after (sent_over accepts view users n old new before after each)
-  brings_over accepts zero old new before after none = ([], [], none.1, refl)
-  brings_over accepts (suc n) old new before after (last, between, each, (e, took, served)) =
-      brings_then before between after (sent_over accepts view users n old last before between each)
-      (attempts_in users served.messages.2 served.messages.5.0)
-      (brings_over accepts n old last before between each)
-      (served.messages.2, served.messages.5.0, served.messages.5.1, refl)
-
-  was_intact : (before after : S) (ms : List MessageModel) (answers : List AnswerModel)
-      → InTurn (MayAnswer view users) before ms answers after → (view after).is_intact → (view before).is_intact
-  was_intact before after [] [] same intact = subst (λ s. (view s).is_intact) same intact
-  was_intact before after [] (one ∷ answers) none intact = absurd none
-  was_intact before after (m ∷ ms) [] none intact = absurd none
-  was_intact before after (m ∷ ms) (one ∷ answers) (mid, call, run) intact =
-      call.frame.was_intact (was_intact mid after ms answers run intact)
-
-  -- its rows stand for a history to which they lead
-  goes_on : (start : Room) (past : History) (before after : S) (ms : List MessageModel) (answers : List AnswerModel)
-      → InTurn (MayAnswer view users) before ms answers after → (view after).is_intact
-      → StandsFor start past (view before)
-      → (next : History) × InTurn (AnswersMessage users start) past ms answers next × StandsFor start next (view after)
-  goes_on start past before after [] [] same intact stand =
-      (past, refl, subst (λ s. StandsFor start past (view s)) (sym same) stand)
-  goes_on start past before after [] (one ∷ answers) none intact stand = absurd none
-  goes_on start past before after (m ∷ ms) [] none intact stand = absurd none
-  goes_on start past before after (m ∷ ms) (one ∷ answers) (mid, call, run) intact stand =
-      let (then, step, there) = call.step (was_intact mid after ms answers run intact) start past stand in
-      let (next, later, last) = goes_on start then mid after ms answers run intact there in
-      (next, (then, step, later), last)
-
-  pub leads_on : (start : Room) (past : History) (before after : S) (sent : List Attempt)
-      → Brings view users before after sent → (view after).is_intact → StandsFor start past (view before)
-      → (next : History) × Taken start past sent next × StandsFor start next (view after)
-  leads_on start past before after sent (ms, answers, run, same) intact stand =
-      let (next, turn, last) = goes_on start past before after ms answers run intact stand in (
-        next,
-        subst (λ (s : List Attempt). Taken start past s next) same
-            (stream_is_taken start users past next ms answers turn),
-        last,
-      )
+  pub brings_over : (settled : (s : S) (left : Records) → (view s).is_available → (view s).crash_may_leave left
+      → left ≡ (view s).records) {L : Type 0} (comes : L → Visit → L → Type 0) (n : ℕ) (old new : L)
+      (before after : S) (each : ServesEach comes (ServedTo view) n old new before after)
+      → Brings view before after (sent_over comes view n old new before after each)
+  brings_over settled comes zero old new before after none =
+      subst (λ s. Brings view before s []) (sym none.1) (brings_none before)
+  brings_over settled comes (suc n) old new before after (last, between, each, (v, took, served)) =
+      brings_then before between after (sent_over comes view n old last before between each)
+      (attempts_in v.users served.messages.2 served.messages.5.0)
+      (brings_over settled comes n old last before between each)
+      (brings_messages settled v.users between after served.messages.2 served.messages.5.0 served.messages.5.1)
 
 -- ---- one run over files that held a room
 
@@ -142,14 +184,25 @@ still_takes found left still start past held = ∥∥₁_map (still start past h
 module _ {D : Type 0} (g : Ghosts D) (stays : (file : D) → g.may_leave file (g.seen file)) (found : Image)
     (opened : Held (FileStore D g)) (taken last : SqlShelf (FileStore D g) over_files × Known)
     (is : IsOpenedOver found opened) (adopted : Adopted over_files opened taken) where
-  pub leads_by : (users : List SubjectModel) (sent : List Attempt) → Brings (shelf_view g stays) users taken last sent
+  pub leads_by : (sent : List Attempt) → Brings (shelf_view g stays) taken last sent
       → (shelf_view g stays last).is_intact → LeadsBy (shelf_view g stays) sent taken last
-  leads_by users sent (ms, answers, run, same) intact start past stand =
-      let was = was_intact (shelf_view g stays) users taken last ms answers run intact in
-      subst (λ (s : List Attempt). LeavesNew (shelf_view g stays last) (Leads start past s)
-      × (shelf_view g stays last).leaves_laid_out) same
-      (messages_lead start (shelf_view g stays) (settled g stays) users taken last ms answers past
-      (leaves_laid_out g stays taken) (was, (adopted.1 was).0) run intact stand)
+  leads_by sent brings intact start past stand =
+      let was = brings.was_intact intact in
+      let there : (shelf_view g stays taken).is_available = (was, (adopted.1 was).0) in
+      let (next, (stands_then, left_so, laid), taken_so, doubted) = brings.in_doubt intact start (no_doubt past) (
+        stand,
+        (λ left may. inl (at_rest (shelf_view g stays) (settled g stays) taken start past there stand left may)),
+        leaves_laid_out g stays taken there (stand there).0,
+      ) in (
+        λ left may. elim (left_so left may) [
+          | inl rows ↦ (next.past, taken_so, rows)
+          | inr (event, among, with_it) ↦ elim (doubted event among) [
+            | inl joined ↦ (event ∷ next.past, joined, with_it.1)
+            | inr (none, joined) ↦ absurd (in_none event none)
+          ]
+        ],
+        laid,
+      )
 
   module _ (left : Image) (clean : HasCleanDisk (file_state last.0.conn)) (sent : List Attempt)
       (leads : LeadsBy (shelf_view g stays) sent taken last) where
@@ -198,12 +251,12 @@ module _ {D : Type 0} (g : Ghosts D) (stays : (file : D) → g.may_leave file (g
         by_trees start past held one.0 (only one.0 one.1) one.2)
 
   -- it was closed
-  pub close_takes : (users : List SubjectModel) (sent : List Attempt)
-      → Brings (shelf_view g stays) users taken last sent → (closed : Left D g) → Closes last.0.conn closed
+  pub close_takes : (sent : List Attempt) → Brings (shelf_view g stays) taken last sent → (closed : Left D g)
+      → Closes last.0.conn closed
       → (image : Image) → IsLeftBy found closed image → TakesAttempts sent found image
-  close_takes users sent brings closed did image at =
+  close_takes sent brings closed did image at =
       let (clean, either) = closed_in g last.0.conn closed found image did at in
-      let leads = leads_by users sent brings clean in
+      let leads = leads_by sent brings clean in
       elim either [
         | inl is_open ↦ open_takes image clean sent leads is_open
             (closed_holds g stays last.0.conn closed found image did is_open (last.0.rests is_open) at)
@@ -211,12 +264,12 @@ module _ {D : Type 0} (g : Ghosts D) (stays : (file : D) → g.may_leave file (g
       ]
 
   -- its files were cut off
-  pub cut_off_takes : (users : List SubjectModel) (sent : List Attempt)
-      → Brings (shelf_view g stays) users taken last sent → (shelf_view g stays last).is_intact → (image : Image)
+  pub cut_off_takes : (sent : List Attempt) → Brings (shelf_view g stays) taken last sent
+      → (shelf_view g stays last).is_intact → (image : Image)
       → ((shelf_view g stays last).leaves_laid_out
       → HoldsRoomWith image (shelf_view g stays last).crash_may_leave) → TakesAttempts sent found image
-  cut_off_takes users sent brings intact image held_so start past held =
-      let leads = leads_by users sent brings intact in
+  cut_off_takes sent brings intact image held_so start past held =
+      let leads = leads_by sent brings intact in
       let laid = (leads start past (stands g found start past held opened taken is adopted)).1 in
       room_with image intact sent leads (held_so laid) start past held
 
@@ -292,16 +345,15 @@ module _ (start : Room) (lane : Lane) (past : History) (sent later : List Attemp
   -- and in a run that goes on
   pub told_meanwhile : {D : Type 0} (g : Ghosts D) (stays : (file : D) → g.may_leave file (g.seen file))
       (runs : List (List Attempt)) (found now : Image) (opened : Held (FileStore D g))
-      (taken last : SqlShelf (FileStore D g) over_files × Known) (users : List SubjectModel) (so_far : List Attempt)
+      (taken last : SqlShelf (FileStore D g) over_files × Known) (so_far : List Attempt)
       → HoldsRoom found start past → Steps TakesAttempts runs found now → IsOpenedOver now opened
-      → Adopted over_files opened taken → Brings (shelf_view g stays) users taken last so_far
+      → Adopted over_files opened taken → Brings (shelf_view g stays) taken last so_far
       → (shelf_view g stays last).is_intact → HearsLess (of_all runs ++ so_far) (sent ++ (asked ∷ later))
       → ∥ WasTold lane start client past command sent later asked
       (λ next. StandsFor start next (shelf_view g stays last)) ∥₁
-  told_meanwhile g stays runs found now opened taken last users so_far held steps is adopted brings intact less =
+  told_meanwhile g stays runs found now opened taken last so_far held steps is adopted brings intact less =
       ∥∥₁_map (all_attempts runs found now steps start past held) (λ all.
       let (mid, before, there) = all in
-      let (next, then, stand) = leads_on (shelf_view g stays) users start mid taken last so_far brings intact
-      (stands g now start mid there opened taken is adopted) in
+      let (next, then, stand) = brings.on intact start mid (stands g now start mid there opened taken is adopted) in
       told_then (λ next. StandsFor start next (shelf_view g stays last)) (of_all runs ++ so_far) next
       (taken_in_turn start past mid next (of_all runs) so_far before then) less stand)

@@ -1,13 +1,10 @@
 -- A worked example of a client over files: a reply that is lost as the run stops.
-use Rattle.std.proofs.Common.{ℕ, refl, inl, inr, true, List, [], ◌∷◌, Option, None, Some}
-use Rattle.std.specs.Prelude.{codes, flat_map}
+use Rattle.room_program.proofs.Common.{ℕ, refl, inl, inr, true, List, [], ◌∷◌, Option, None, Some, codes, flat_map}
+use Rattle.room_program.proofs.Common.{Slot, AnswerModel, Reply, Refused, Lane, Attempt, HearsLess, idle, KeepsRule}
 use Rattle.room_records.proofs.PathParts.{root_is_path}
 use Rattle.room_commands.specs.CommandModel as C
 use Rattle.room_commands.specs.Lawful.{IsLawful}
 use Rattle.room_wire.specs.declared.answers.code.Code.TheVariants.{BadSession}
-use Rattle.room_wire.specs.Asks.EventModel.{Slot}
-use Rattle.room_desk.specs.AnswerModel.{AnswerModel, Reply, Refused}
-use Rattle.room_desk.specs.Client.{Lane, Attempt, HearsLess, idle, KeepsRule}
 
 abbrev lane : Lane
 lane = record { user = codes "ann"; sid = codes "a"; slot = 2 }

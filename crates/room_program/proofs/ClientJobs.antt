@@ -1,31 +1,16 @@
 -- A run of the program, whatever it is asked: it takes the attempts that it was sent.
-use Rattle.std.proofs.Common.{◌≡◌, ℕ, List, [], Result, Ok, Err, ap, refl, inl, inr}
-use Rattle.std.specs.Prelude.{string_bytes}
-use Rattle.sqlite_disk.specs.declared.Disk.{Ghosts}
-use Rattle.sqlite.specs.Recovery.{Image}
-use Rattle.sqlite.specs.declared.FileStore.{FileStore}
-use Rattle.sqlite.specs.Held.{Held}
-use Rattle.sqlite.specs.Files.{over_files}
+use Rattle.room_program.proofs.Common.{◌≡◌, ℕ, List, [], Result, Ok, Err, ap, sym, subst, inl, inr, string_bytes}
+use Rattle.room_program.proofs.Common.{Comes, Ghosts, Image, FileStore, Held, over_files, SubjectModel, Known, SqlShelf}
+use Rattle.room_program.proofs.Common.{Check, Init}
+use Rattle.room_program.proofs.Common.{Replay, Serve, Report, Selftest, Attempt, Fault, Left, Nothing, Exchange, Call}
+use Rattle.room_program.proofs.Common.{closes, Takes, TakesRoom, TakesRoster, Made, Unmade, HoldsStill, IsLeftBy}
+use Rattle.room_program.proofs.Common.{ActsOn, SeesSums, Means, Streams, Runs, means}
 use Rattle.clap.specs.Words.{Text}
-use Rattle.room_acl.specs.SubjectModel.{SubjectModel}
-use Rattle.room_cache.specs.declared.known.Known.{Known}
-use Rattle.room_sql.specs.declared.sql_shelf.SqlShelf.{SqlShelf}
-use Rattle.room_words.specs.declared.job.Job.TheVariants.{Check, Init, Replay, Serve, Report, Selftest}
-use Rattle.room_desk.specs.Client.{Attempt}
-use Rattle.room_program.specs.declared.fault.Fault.{Fault}
-use Rattle.room_program.specs.declared.left.Left.{Left}
-use Rattle.room_program.specs.declared.left.Left.TheVariants.{Nothing}
-use Rattle.room_program.specs.Calls.{Exchange}
-use Rattle.room_program.specs.Machines.{Call}
-use Rattle.room_program.specs.Machines.Call.{closes}
-use Rattle.room_program.specs.Files.{Takes, TakesRoom, TakesRoster, Made, Unmade}
-use Rattle.room_program.specs.Found.{HoldsStill, IsLeftBy, ActsOn, SeesSums}
-use Rattle.room_program.specs.Runs.{Means, Streams, Runs, means}
 use Rattle.room_program.specs.ClientFiles.{TakesAttempts, sent_to_run}
 use Rattle.room_program.proofs.Found.{roster_left}
-use Rattle.room_program.proofs.Restarts.{took, shelf_view}
+use Rattle.room_program.proofs.Restarts.{took, settled, shelf_view}
 use Rattle.room_program.proofs.Keeps.{as_it_was, untaken_keeps, others_keep}
-use Rattle.room_program.proofs.ClientFiles.{Brings, brings_over, close_takes, still_takes}
+use Rattle.room_program.proofs.ClientFiles.{Brings, brings_none, brings_over, close_takes, still_takes}
 
 module _ {D M : Type 0} (g : Ghosts D) (image : Image) (does : M → Call (Held (FileStore D g)) → M → Type 0)
     (left : M → Left D g) (stays : (file : D) → g.may_leave file (g.seen file))
@@ -52,13 +37,13 @@ module _ {D M : Type 0} (g : Ghosts D) (image : Image) (does : M → Call (Held 
   still : HoldsStill image one → TakesAttempts [] image one
   still = still_takes image one
 
-  closed_takes : (db : List ℕ) (users : List SubjectModel) (read taken over : M) (shelf last : Shelf)
+  closed_takes : (db : List ℕ) (read taken over : M) (shelf last : Shelf)
       (sent : List Attempt) → TakesRoom does takes db read taken (Ok shelf)
-      → Brings (shelf_view g stays) users shelf last sent → does over (closes last.0.conn) later
+      → Brings (shelf_view g stays) shelf last sent → does over (closes last.0.conn) later
       → TakesAttempts sent image one
-  closed_takes db users read taken over shelf last sent room brings closed =
+  closed_takes db read taken over shelf last sent room brings closed =
       let (opened, is, adopted) = took g image does left stays tells db read taken shelf room in
-      close_takes g stays image opened shelf last is adopted users sent brings (left later)
+      close_takes g stays image opened shelf last is adopted sent brings (left later)
       (tells over later (closes last.0.conn) closed) one at
 
   no_roster : (roster : List ℕ) (why : Fault) → TakesRoster does roster before later (Err why)
@@ -73,6 +58,11 @@ module _ {D M : Type 0} (g : Ghosts D) (image : Image) (does : M → Call (Held 
       still (untaken_keeps g image does left stays tells accepts fails accepts_so fails_so before later one none sees at
       roster db users read why took_roster untook)
 
+  -- nothing was served
+  brings_same : (shelf last : Shelf) → last ≡ shelf → Brings (shelf_view g stays) shelf last []
+  brings_same shelf last same =
+      subst (λ s. Brings (shelf_view g stays) shelf s []) (sym same) (brings_none (shelf_view g stays) shelf)
+
   pub run_takes : (words : List Text) (old new : Streams) (status : ℕ)
       (ran : Runs program before later words old new status)
       → TakesAttempts (sent_to_run program before later words old new status ran) image one
@@ -82,9 +72,10 @@ module _ {D M : Type 0} (g : Ghosts D) (image : Image) (does : M → Call (Held 
   run_takes words old new status (
     Ok (Serve db roster port count),
     reads,
-    (input, output, (Ok done, inr (users, read, took_roster, inl (why, is, untook)), told)),
+    (input, output, (Ok done, inr (first, read, took_roll, inl (why, is, untook)), told)),
   ) =
-      no_room (string_bytes roster) (string_bytes db) users read why took_roster untook
+      no_room (string_bytes roster) (string_bytes db) first.users read why
+      (first.text, took_roll.read, took_roll.gives) untook
   run_takes words old new status (
     Ok (Serve db roster port count),
     reads,
@@ -93,12 +84,12 @@ module _ {D M : Type 0} (g : Ghosts D) (image : Image) (does : M → Call (Held 
       output,
       (
         Ok done,
-        inr (users, read, took_roster, inr (shelf, last, taken, over, room, inl (is, same, unbound), closed)),
+        inr (first, read, took_roll, inr (shelf, last, taken, over, room, inl (is, same, unbound), closed)),
         told,
       ),
     ),
   ) =
-      closed_takes (string_bytes db) users read taken over shelf last [] room ([], [], same, refl) closed
+      closed_takes (string_bytes db) read taken over shelf last [] room (brings_same shelf last same) closed
   run_takes words old new status (
     Ok (Serve db roster port count),
     reads,
@@ -107,22 +98,24 @@ module _ {D M : Type 0} (g : Ghosts D) (image : Image) (does : M → Call (Held 
       output,
       (
         Ok done,
-        inr (users, read, took_roster, inr (shelf, last, taken, over, room, inr (bound, did, all), closed)),
+        inr (first, read, took_roll, inr (shelf, last, taken, over, room, inr (bound, did, all), closed)),
         told,
       ),
     ),
   ) =
-      closed_takes (string_bytes db) users read taken over shelf last _ room
-      (brings_over (shelf_view g stays) users accepts count bound over shelf last all.served) closed
+      closed_takes (string_bytes db) read taken over shelf last _ room
+      (brings_over (shelf_view g stays) (settled g stays) (Comes does accepts (string_bytes roster)) count
+      (bound, first) (over, all.served.0) shelf last all.served.1) closed
   run_takes words old new status
       (Ok (Serve db roster port count), reads, (input, output, (Err fault, inl (why, is, untook), told))) =
       no_roster (string_bytes roster) why untook
   run_takes words old new status (
     Ok (Serve db roster port count),
     reads,
-    (input, output, (Err fault, inr (users, read, took_roster, inl (why, is, untook)), told)),
+    (input, output, (Err fault, inr (first, read, took_roll, inl (why, is, untook)), told)),
   ) =
-      no_room (string_bytes roster) (string_bytes db) users read why took_roster untook
+      no_room (string_bytes roster) (string_bytes db) first.users read why
+      (first.text, took_roll.read, took_roll.gives) untook
   run_takes words old new status (
     Ok (Serve db roster port count),
     reads,
@@ -131,12 +124,12 @@ module _ {D M : Type 0} (g : Ghosts D) (image : Image) (does : M → Call (Held 
       output,
       (
         Err fault,
-        inr (users, read, took_roster, inr (shelf, last, taken, over, room, inl (is, same, unbound), closed)),
+        inr (first, read, took_roll, inr (shelf, last, taken, over, room, inl (is, same, unbound), closed)),
         told,
       ),
     ),
   ) =
-      closed_takes (string_bytes db) users read taken over shelf last [] room ([], [], same, refl) closed
+      closed_takes (string_bytes db) read taken over shelf last [] room (brings_same shelf last same) closed
   run_takes words old new status (
     Ok (Serve db roster port count),
     reads,
@@ -145,13 +138,14 @@ module _ {D M : Type 0} (g : Ghosts D) (image : Image) (does : M → Call (Held 
       output,
       (
         Err fault,
-        inr (users, read, took_roster, inr (shelf, last, taken, over, room, inr (bound, did, all), closed)),
+        inr (first, read, took_roll, inr (shelf, last, taken, over, room, inr (bound, did, all), closed)),
         told,
       ),
     ),
   ) =
-      closed_takes (string_bytes db) users read taken over shelf last _ room
-      (brings_over (shelf_view g stays) users accepts all.fewer.0 bound all.fewer.2 shelf last all.fewer.3) closed
+      closed_takes (string_bytes db) read taken over shelf last _ room
+      (brings_over (shelf_view g stays) (settled g stays) (Comes does accepts (string_bytes roster)) all.fewer.1.0
+      (bound, first) all.fewer.1.2 shelf last all.fewer.1.3) closed
   run_takes words old new status (Ok Check, reads, ran) =
       still (others_keep g image does left stays tells accepts fails accepts_so fails_so before later one none sees at
       Check old new status ran)

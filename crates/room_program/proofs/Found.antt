@@ -1,69 +1,41 @@
 -- A room that is served over the files that held it, and what the files hold then.
-use Rattle.std.proofs.Common.{◌≡◌, ◌∙◌, ℕ, zero, suc, List, [], ◌∷◌, Bool, true, false, Option, None, Some}
-use Rattle.std.proofs.Common.{Result, Ok, Err, IsTrue, OnOk, inl, inr, refl, sym, ap, subst, true≢false, ◌⊎◌, arith}
+use Rattle.room_program.proofs.Common.{◌≡◌, ◌∙◌, ℕ, zero, suc, List, [], ◌∷◌, Bool, true, false, Option, None, Some}
+use Rattle.room_program.proofs.Common.{Result, Ok, Err, IsTrue, OnOk, inl, inr, refl, sym, ap, subst, true≢false, ◌⊎◌}
+use Rattle.room_program.proofs.Common.{arith, ∥∥₁_map, ∥∥₁_elim, Ghosts, Trees, Database, IsDatabase, Image, recovers}
+use Rattle.room_program.proofs.Common.{view, opens_again, settled_at, FileStore, HasCleanDisk, IsLive, State, Survives}
+use Rattle.room_program.proofs.Common.{Held, AreDatabases, file_state, over_files, HoldsDatabase, IsClosed}
+use Rattle.room_program.proofs.Common.{SubjectModel, Room, fresh_room, View, Known, cached_view, Layout, Fresh}
+use Rattle.room_program.proofs.Common.{Upgraded, has_room, has_a_table, schema_0, room_schema, first_schema}
+use Rattle.room_program.proofs.Common.{IsRoomOfVersion1, IsRoomOfVersion2, under, records_of, SqlShelf, sql_view}
+use Rattle.room_program.proofs.Common.{MayBeTaken, was_clean, History, state_after, RepresentsHistory, StandsFor}
+use Rattle.room_program.proofs.Common.{stand_at_first, ReportKind, Fault, Left, Nothing, Unopened, Copied, Uncopied}
+use Rattle.room_program.proofs.Common.{Kept, Call, opens, closes, leaves, reads, looks, asks, hears, Exchange}
+use Rattle.room_program.proofs.Common.{AcceptsEach, Adopted, Takes, Untaken, Made, Unmade, TakesRoster, OpensStore}
+use Rattle.room_program.proofs.Common.{TakesRoom, IsUnopened, InitEnds, IsAnswered, SelftestEnds, first_sent}
+use Rattle.room_program.proofs.Common.{second_sent, due_answers, Listens, WritesReport, report_text, IsOpenedOver}
+use Rattle.room_program.proofs.Common.{Holds, HoldsRoom, HoldsNothing, MayBeLeft, IsLeftBy, Closes, LetsGo, ActsOn}
+use Rattle.room_program.proofs.Common.{StayUnopened, IsSparedIn, SparesRoom, IsTakenOut, GoesOnBy, ServesSome}
+use Rattle.room_program.proofs.Common.{Comes, Roll, rosters_in}
 use Rattle.std.specs.List.{AllZip}
-use Rattle.std.proofs.Math.Logic.{∥∥₁_map, ∥∥₁_elim}
-use Rattle.sqlite_disk.specs.declared.Disk.{Ghosts}
-use Rattle.sqlite_trees.specs.Tree.{Trees}
 use Rattle.sqlite_trees.specs.Objects.{catalog_tree}
 use Rattle.sqlite_trees.specs.Props.{Trees-set}
 use Rattle.sqlite_tied.specs.Compute.{everything}
 use Rattle.sqlite_schema.specs.Names.{same_name}
 use Rattle.sqlite_catalog.specs.Listing.{Lists, IsTableRow, IsIndexRow, IsViewRow}
 use Rattle.sqlite_catalog.proofs.ReadLemmas.{lists_once}
-use Rattle.sqlite.specs.Effect.{Database, IsDatabase}
 use Rattle.sqlite.specs.Schema.{Schema}
-use Rattle.sqlite.specs.Recovery.{Image}
 use Rattle.sqlite.specs.Closing.{HoldsAlone}
-use Rattle.sqlite.specs.FileStore.{recovers, view}
-use Rattle.sqlite.proofs.Theorems.{opens_again}
-use Rattle.sqlite_store.specs.Laws.{settled_at}
-use Rattle.sqlite.specs.declared.FileStore.{FileStore}
-use Rattle.sqlite.specs.State.{HasCleanDisk, IsLive, State, Survives}
-use Rattle.sqlite.specs.Held.{Held, AreDatabases}
 use Rattle.sqlite.specs.declared.error.Error.{Error}
-use Rattle.sqlite.specs.Files.{file_state, over_files, HoldsDatabase, IsClosed}
 use Rattle.sqlite.specs.View.{IsClean}
-use Rattle.room_acl.specs.SubjectModel.{SubjectModel}
-use Rattle.room_records.specs.Room.{Room, fresh_room}
-use Rattle.room_records.specs.Shelf.{View}
-use Rattle.room_cache.specs.declared.known.Known.{Known}
-use Rattle.room_cache.specs.Cached.{cached_view}
-use Rattle.room_tables.specs.Tables.{Layout, Fresh, Upgraded, has_room, has_a_table}
-use Rattle.room_tables.specs.Tables.{schema_0, room_schema, first_schema}
-use Rattle.room_tables.specs.Layout.{IsRoomOfVersion1, IsRoomOfVersion2, under}
-use Rattle.room_tables.specs.Rows.{records_of}
 use Rattle.room_tables.proofs.Meaning.{room_has_room, first_has_no_kept}
 use Rattle.room_tables.specs.Upgrade.{IsUpgraded}
-use Rattle.room_sql.specs.declared.sql_shelf.SqlShelf.{SqlShelf}
-use Rattle.room_sql.specs.SqlView.{sql_view}
-use Rattle.room_sql.specs.Taken.{MayBeTaken}
-use Rattle.room_sql.proofs.Frames.{was_clean}
-use Rattle.room_desk.specs.History.{History, state_after}
-use Rattle.room_desk.specs.Representation.{RepresentsHistory, StandsFor}
-use Rattle.room_desk.proofs.Beginnings.{stand_at_first}
 use Rattle.room_report.specs.declared.reports.ReportFault.{ReportFault}
 use Rattle.room_report.specs.declared.reports.ReportFault.TheVariants as report
-use Rattle.room_words.specs.declared.job.ReportKind.{ReportKind}
 use Rattle.std.specs.Io.KnownBytes.{Appends}
-use Rattle.room_program.specs.declared.fault.Fault.{Fault}
 use Rattle.room_program.specs.declared.fault.Fault.TheVariants as fault
-use Rattle.room_program.specs.declared.left.Left.{Left}
-use Rattle.room_program.specs.declared.left.Left.TheVariants.{Nothing, Unopened, Copied, Uncopied, Kept}
-use Rattle.room_program.specs.Machines.{Call}
-use Rattle.room_program.specs.Machines.Call.{opens, closes, leaves, reads, looks, asks, hears}
-use Rattle.room_program.specs.Calls.{Exchange, AcceptsEach}
-use Rattle.room_program.specs.Files.{Adopted, Takes, Untaken, Made, Unmade}
-use Rattle.room_program.specs.Files.{TakesRoster, OpensStore, TakesRoom, IsUnopened}
 use Rattle.room_program.specs.Faults.{done_of_report}
-use Rattle.room_program.specs.Ends.{InitEnds, IsAnswered, SelftestEnds, first_sent, second_sent, due_answers}
 use Rattle.room_program.specs.Replays.{Replays}
-use Rattle.room_program.specs.Rooms.{Listens, WritesReport, report_text}
-use Rattle.room_program.specs.Found.{IsOpenedOver, Holds, HoldsRoom, HoldsNothing, MayBeLeft, IsLeftBy}
-use Rattle.room_program.specs.Found.{Closes, LetsGo, ActsOn, StayUnopened, IsSparedIn, SparesRoom}
-use Rattle.room_program.specs.Halts.{IsTakenOut}
-use Rattle.room_program.specs.Streams.{GoesOn, ServesSome}
-use Rattle.room_program.proofs.Streams.{serves_none, serves_all}
+use Rattle.room_program.proofs.Streams.{serves_none, serves_each}
 use Rattle.room_program.proofs.Unopened.{may_hold, stay_unopened}
 
 -- a room of version 2 is not taken for one of version 1
@@ -121,14 +93,17 @@ unopened None taken is = is
 
 -- connections were served, or none where the port could not be listened on
 pub served : {M C Shelf : Type 0} (does : M → Call C → M → Type 0) (view : Shelf → View)
-    (accepts : M → Exchange → M → Type 0) (fails : M → M → Type 0) (users : List SubjectModel)
+    (accepts : M → Exchange → M → Type 0) (fails : M → M → Type 0) (roster : List ℕ) (first : Roll)
     (port count : ℕ) (taken over : M) (before after : Shelf) (done : Result (Unit {0}) Fault)
-    → Listens does accepts fails view users port count taken over before after done
-    → ServesSome view users before after
-served does view accepts fails users port count taken over before after done (inl (is, same, bound)) =
-    subst (ServesSome view users before) (sym same) (serves_none view users before)
-served does view accepts fails users port count taken over before after done (inr (bound, did, all)) =
-    serves_all view users accepts fails bound over before count after done all
+    (listens : Listens does accepts fails view roster first port count taken over before after done)
+    → ServesSome view (rosters_in does accepts fails view roster first port count taken over before after done listens)
+    before after
+served does view accepts fails roster first port count taken over before after done (inl (is, same, bound)) =
+    subst (ServesSome view [] before) (sym same) (serves_none view before)
+served does view accepts fails roster first port count taken over before after (Ok done) (inr (bound, did, all)) =
+    serves_each view (Comes does accepts roster) (bound, first) before count (over, all.served.0) after all.served.1
+served does view accepts fails roster first port count taken over before after (Err why) (inr (bound, did, all)) =
+    serves_each view (Comes does accepts roster) (bound, first) before all.fewer.1.0 all.fewer.1.2 after all.fewer.1.3
 
 -- a report leaves the history that the rows stand for
 pub read_stands : {S : Type 0} (view : S → View) (kind : ReportKind) (users : List SubjectModel) (taken last : S)
@@ -463,16 +438,17 @@ module _ {D M : Type 0} (g : Ghosts D) (image : Image) (does : M → Call (Held 
         stands g image start past held opened taken (tells seen begun (opens path (Ok opened)) is).0 adopted
 
     -- a `serve` over it goes on with its history
-    pub served_on : (accepts : M → Exchange → M → Type 0) (fails : M → M → Type 0) (db : List ℕ)
-        (users : List SubjectModel) (port count : ℕ) (read taken over later : M) (shelf last : Taken)
+    pub served_on : (accepts : M → Exchange → M → Type 0) (fails : M → M → Type 0) (db roster : List ℕ)
+        (first : Roll) (port count : ℕ) (read taken over later : M) (shelf last : Taken)
         (done : Result (Unit {0}) Fault) → TakesRoom does takes db read taken (Ok shelf)
-        → Listens does accepts fails shown users port count taken over shelf last done
+        → (listens : Listens does accepts fails shown roster first port count taken over shelf last done)
         → does over (closes last.0.conn) later → HasCleanDisk (file_state last.0.conn)
-        → (next : History) × GoesOn users start past next × (IsTrue (file_state last.0.conn).is_open
+        → (next : History) × GoesOnBy (rosters_in does accepts fails shown roster first port count taken over shelf last
+        done listens) start past next × (IsTrue (file_state last.0.conn).is_open
         → RepresentsHistory start (records_of (file_state last.0.conn).now.trees) next
         × ((one : Image) → IsLeftBy image (left later) one → HoldsRoom one start next))
-    served_on accepts fails db users port count read taken over later shelf last done room listens closed clean =
-        let some = served does shown accepts fails users port count taken over shelf last done listens in
+    served_on accepts fails db roster first port count read taken over later shelf last done room listens closed clean =
+        let some = served does shown accepts fails roster first port count taken over shelf last done listens in
         let gone = some.run clean start past (taken_stands db read taken shelf room) in (
           gone.0,
           gone.1,

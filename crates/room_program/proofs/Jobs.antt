@@ -1,20 +1,12 @@
 -- What the function of a job promises, said of the job and its texts.
-use Rattle.std.proofs.Common.{◌≡◌, ℕ, List, true, false, Option, String, Result, Ok, Err, refl, sym, subst, inr}
-use Rattle.std.specs.Prelude.{string_bytes, IfOk, IfErr}
+use Rattle.room_program.proofs.Common.{◌≡◌, ℕ, List, false, Option, String, Result, Ok, Err, refl, sym, subst}
+use Rattle.room_program.proofs.Common.{inr, string_bytes, IfOk, IfErr, Init, Replay, Serve, Report, ReportKind, Held}
+use Rattle.room_program.proofs.Common.{Fault, Call, opens, leaves, InitEnds, OpensStore, Reports, ServesRoom, Ends}
+use Rattle.room_program.proofs.Common.{Means, RunsJob, streams}
 use Rattle.std.specs.declared.alloc.Global.{Global}
 use Rattle.room_words.specs.declared.job.Job.{Job}
-use Rattle.room_words.specs.declared.job.Job.TheVariants.{Init, Replay, Serve, Report}
-use Rattle.room_words.specs.declared.job.ReportKind.{ReportKind}
-use Rattle.sqlite.specs.Held.{Held}
-use Rattle.room_program.specs.declared.fault.Fault.{Fault}
 use Rattle.room_program.specs.declared.fault.Fault.TheVariants.{StoreFailed}
-use Rattle.room_program.specs.Machines.{Call}
-use Rattle.room_program.specs.Machines.Call.{opens, leaves}
-use Rattle.room_program.specs.Ends.{InitEnds}
-use Rattle.room_program.specs.Files.{OpensStore}
 use Rattle.room_program.specs.Replays.{Replays}
-use Rattle.room_program.specs.Rooms.{Reports, ServesRoom}
-use Rattle.room_program.specs.Runs.{Ends, Means, RunsJob, streams}
 
 -- what is said of two texts is said of the texts that they equal
 of_two : (P : List ℕ → List ℕ → Type 0) (a b x y : List ℕ) → a ≡ x → b ≡ y → P a b → P x y

@@ -1,34 +1,16 @@
 -- A run, whatever it is asked: a room that the files held is in those that it leaves.
-use Rattle.std.proofs.Common.{◌≡◌, ◌∙◌, ◌⊎◌, ℕ, List, Option, Result, Ok, Err, ap, inl, inr}
-use Rattle.std.specs.Prelude.{string_bytes}
-use Rattle.sqlite_disk.specs.declared.Disk.{Ghosts}
-use Rattle.sqlite.specs.Recovery.{Image}
-use Rattle.sqlite.specs.declared.FileStore.{FileStore}
-use Rattle.sqlite.specs.Held.{Held}
-use Rattle.sqlite.specs.Files.{over_files}
+use Rattle.room_program.proofs.Common.{◌≡◌, ◌∙◌, ◌⊎◌, ℕ, List, Option, Result, Ok, Err, ap, inl, inr, string_bytes}
+use Rattle.room_program.proofs.Common.{Ghosts, Image, FileStore, Held, over_files, SubjectModel, View, Known}
+use Rattle.room_program.proofs.Common.{cached_view, SqlShelf, sql_view, Check, Init, Replay, Serve, Report, Selftest}
+use Rattle.room_program.proofs.Common.{ReportKind, Fault, Left, Nothing, Exchange, Call, closes, InitEnds, Takes}
+use Rattle.room_program.proofs.Common.{TakesRoom, TakesRoster, Made, Unmade, Reports, ServesRoom, HoldsStill, IsLeftBy}
+use Rattle.room_program.proofs.Common.{ActsOn, SeesSums, KeepsRoomOrMore, Means, Streams, Runs, RunsJob, means}
+use Rattle.room_program.proofs.Common.{GaveOnce, Rosters, rosters_in}
+use Rattle.std.specs.List.{AllByRecursion}
 use Rattle.clap.specs.Words.{Text}
-use Rattle.room_acl.specs.SubjectModel.{SubjectModel}
-use Rattle.room_records.specs.Shelf.{View}
-use Rattle.room_cache.specs.declared.known.Known.{Known}
-use Rattle.room_cache.specs.Cached.{cached_view}
-use Rattle.room_sql.specs.declared.sql_shelf.SqlShelf.{SqlShelf}
-use Rattle.room_sql.specs.SqlView.{sql_view}
 use Rattle.room_words.specs.declared.job.Job.{Job}
-use Rattle.room_words.specs.declared.job.Job.TheVariants.{Check, Init, Replay, Serve, Report, Selftest}
-use Rattle.room_words.specs.declared.job.ReportKind.{ReportKind}
-use Rattle.room_program.specs.declared.fault.Fault.{Fault}
-use Rattle.room_program.specs.declared.left.Left.{Left}
-use Rattle.room_program.specs.declared.left.Left.TheVariants.{Nothing}
-use Rattle.room_program.specs.Calls.{Exchange}
-use Rattle.room_program.specs.Machines.{Call}
-use Rattle.room_program.specs.Machines.Call.{closes}
-use Rattle.room_program.specs.Ends.{InitEnds}
-use Rattle.room_program.specs.Files.{Takes, TakesRoom, TakesRoster, Made, Unmade}
-use Rattle.room_program.specs.Rooms.{Reports, ServesRoom}
-use Rattle.room_program.specs.Found.{HoldsStill, IsLeftBy, ActsOn, SeesSums}
-use Rattle.room_program.specs.Restarts.{KeepsRoomOrMore}
-use Rattle.room_program.specs.Runs.{Means, Streams, Runs, RunsJob, means}
 use Rattle.room_program.proofs.Found.{closed_in, made_on, roster_left, replay_left, selftest_left}
+use Rattle.room_program.proofs.Rolls.{gave_all, gave_first}
 use Rattle.room_program.proofs.Restarts.{as_found, unopened_still, served_shut, reported_run, untaken_run, unmade_run}
 
 module _ {D M : Type 0} (g : Ghosts D) (image : Image) (does : M → Call (Held (FileStore D g)) → M → Type 0)
@@ -56,8 +38,8 @@ module _ {D M : Type 0} (g : Ghosts D) (image : Image) (does : M → Call (Held 
   program = means does accepts fails takes (λ taken. taken.0.conn) (Made over_files) (Unmade over_files) shown
 
   abbrev Keeps : Type 0
-  Keeps = HoldsStill image one ⊎ ((roster : List ℕ) × (users : List SubjectModel) × (read : M)
-      × TakesRoster does roster before read (Ok users) × KeepsRoomOrMore users image one)
+  Keeps = HoldsStill image one ⊎ ((roster : List ℕ) × (rosters : Rosters)
+      × AllByRecursion (GaveOnce does roster) rosters × KeepsRoomOrMore rosters image one)
 
   pub as_it_was : left later ≡ left before → HoldsStill image one
   as_it_was same = as_found g image does left stays tells one
@@ -87,16 +69,16 @@ module _ {D M : Type 0} (g : Ghosts D) (image : Image) (does : M → Call (Held 
       → ServesRoom does accepts fails takes (λ taken. taken.0.conn) shown db roster port count before later done → Keeps
   serve_keeps db roster port count done (inl (why, is, untook)) =
       inl (as_it_was (roster_left g image does left stays tells roster before later (Err why) untook))
-  serve_keeps db roster port count done (inr (users, read, took, inl (why, is, untook))) =
-      inl (untaken_keeps roster db users read why took untook)
+  serve_keeps db roster port count done (inr (first, read, took, inl (why, is, untook))) =
+      inl (untaken_keeps roster db first.users read why (first.text, took.read, took.gives) untook)
   serve_keeps db roster port count done
-      (inr (users, read, took, inr (shelf, last, taken, over, room, listens, closed))) =
+      (inr (first, read, took, inr (shelf, last, taken, over, room, listens, closed))) =
       inr (
         roster,
-        users,
-        read,
-        took,
-        served_shut g image does left stays tells accepts fails db users port count read
+        rosters_in does accepts fails shown roster first port count taken over shelf last done listens,
+        gave_all does roster shown accepts fails first port count taken over shelf last done listens
+            (gave_first does roster before read first took),
+        served_shut g image does left stays tells accepts fails db roster first port count read
             taken over later shelf last done one room listens closed at,
       )
 

@@ -1,13 +1,16 @@
+mod Common
 mod Opened
 mod Unopened
 mod Found
 mod Stopped
 mod Again
 mod Restarts
+mod Rolls
 mod Keeps
 mod Jobs
 mod Streams
 mod Faults
+mod Texts
 mod ClientFiles
 mod ClientJobs
 mod ClientFilesExamples

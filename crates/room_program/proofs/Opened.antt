@@ -1,5 +1,5 @@
 -- Two files that were just opened.
-use Rattle.std.proofs.Common.{◌≡◌, ◌∙◌, ℕ, List, [], ◌∷◌, Bool, if◌then◌else◌, ap, subst, inl, inr}
+use Rattle.room_program.proofs.Common.{◌≡◌, ◌∙◌, ℕ, List, [], ◌∷◌, Bool, if◌then◌else◌, ap, subst, inl, inr}
 use Rattle.sqlite_disk.specs.Events.{Event, settled, replay}
 use Rattle.sqlite_disk.specs.History.{MayLeave}
 

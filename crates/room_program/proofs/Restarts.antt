@@ -1,55 +1,22 @@
 -- From one run to the next, over the files that the one before it left.
-use Rattle.std.proofs.Common.{◌≡◌, ℕ, List, IsTrue, refl, sym, subst}
-use Rattle.std.proofs.Common.{inl, inr, false, ◌∷◌, ◌⊎◌}
-use Rattle.std.proofs.Common.{Option, Result, Ok, Err, [], ap, ◌∙◌}
-use Rattle.std.proofs.Math.Logic.{∥∥₁_map, ∥∥₁_elim}
-use Rattle.sqlite_disk.specs.declared.Disk.{Ghosts}
-use Rattle.sqlite_trees.specs.Tree.{Trees}
-use Rattle.sqlite.specs.FileStore.{recovers, view}
-use Rattle.sqlite.proofs.Theorems.{next_run, opens_again}
-use Rattle.sqlite_store.specs.Laws.{settled_at, stays_at}
-use Rattle.sqlite.specs.Effect.{Database}
-use Rattle.sqlite.specs.Recovery.{Image}
-use Rattle.sqlite.specs.declared.FileStore.{FileStore}
-use Rattle.sqlite.specs.State.{HasCleanDisk}
-use Rattle.sqlite.specs.Held.{Held, AreDatabases}
-use Rattle.sqlite.specs.Files.{file_state, over_files, HoldsDatabase}
-use Rattle.room_acl.specs.SubjectModel.{SubjectModel}
-use Rattle.room_records.specs.Records.{Records}
-use Rattle.room_records.specs.Room.{Room}
-use Rattle.room_records.specs.Shelf.{View}
-use Rattle.room_cache.specs.declared.known.Known.{Known}
-use Rattle.room_cache.specs.Cached.{cached_view}
-use Rattle.room_tables.specs.Layout.{IsRoomOfVersion2, AreOfRoom}
-use Rattle.room_tables.specs.Rows.{records_of, version_rows, IsVersion}
-use Rattle.room_sql.specs.declared.sql_shelf.SqlShelf.{SqlShelf}
-use Rattle.room_sql.specs.SqlView.{sql_view}
+use Rattle.room_program.proofs.Common.{◌≡◌, ℕ, List, IsTrue, refl, sym, subst, inl, inr, false, ◌∷◌, ◌⊎◌, Option}
+use Rattle.room_program.proofs.Common.{Result, Ok, Err, [], ap, ◌∙◌, ∥∥₁_map, ∥∥₁_elim, Ghosts, Trees, recovers, view}
+use Rattle.room_program.proofs.Common.{next_run, opens_again, settled_at, stays_at, Database, Image, FileStore}
+use Rattle.room_program.proofs.Common.{HasCleanDisk, Held, AreDatabases, file_state, over_files, HoldsDatabase}
+use Rattle.room_program.proofs.Common.{SubjectModel, Records, Room, View, Known, cached_view, IsRoomOfVersion2}
+use Rattle.room_program.proofs.Common.{AreOfRoom, records_of, version_rows, IsVersion, SqlShelf, sql_view, was_clean}
+use Rattle.room_program.proofs.Common.{EventModel, AnswerModel, History, leaves_no_reply, RepresentsHistory, StandsFor}
+use Rattle.room_program.proofs.Common.{EventAnswered, Fault, Left, Nothing, Call, Exchange, ServesEach, looks, opens}
+use Rattle.room_program.proofs.Common.{closes, leaves, Listens, WritesReport, ReportKind, InitEnds, Adopted, Takes}
+use Rattle.room_program.proofs.Common.{TakesRoom, OpensStore, Untaken, Made, Unmade, GoesOnBy, IsOpenedOver}
+use Rattle.room_program.proofs.Common.{Holds, HoldsRoom, HoldsStill, IsLeftBy, ActsOn, MayBeLeft, SeesSums, SparesRoom}
+use Rattle.room_program.proofs.Common.{ActsOnce, Steps, KeepsRoom, KeepsRoomOrMore, GoesOnOrMore, AnswersOrMore}
+use Rattle.room_program.proofs.Common.{Rosters, Comes, Roll, ServedTo, rosters_in, rosters_over}
 use Rattle.room_sql.specs.Resting.{leaves_rest, leaves_a_room}
-use Rattle.room_sql.proofs.Frames.{was_clean}
-use Rattle.room_wire.specs.Asks.EventModel.{EventModel}
-use Rattle.room_desk.specs.AnswerModel.{AnswerModel}
-use Rattle.room_desk.specs.History.{History, leaves_no_reply}
-use Rattle.room_desk.specs.Representation.{RepresentsHistory, StandsFor}
-use Rattle.room_desk.specs.Serving.{EventAnswered}
 use Rattle.room_desk.proofs.Stops.{sent_again}
-use Rattle.room_program.specs.declared.fault.Fault.{Fault}
 use Rattle.room_program.specs.declared.fault.Fault.TheVariants as fault
-use Rattle.room_program.specs.declared.left.Left.{Left}
-use Rattle.room_program.specs.declared.left.Left.TheVariants.{Nothing}
-use Rattle.room_program.specs.Machines.{Call}
-use Rattle.room_program.specs.Calls.{Exchange, ServesEach}
-use Rattle.room_program.specs.Machines.Call.{looks, opens, closes, leaves}
-use Rattle.room_program.specs.Rooms.{Listens, WritesReport}
-use Rattle.room_words.specs.declared.job.ReportKind.{ReportKind}
-use Rattle.room_program.specs.Ends.{InitEnds}
-use Rattle.room_program.specs.Files.{Adopted, Takes, TakesRoom, OpensStore, Untaken, Made, Unmade}
-use Rattle.room_program.specs.Streams.{GoesOn, Served}
-use Rattle.room_program.specs.Found.{IsOpenedOver, Holds, HoldsRoom, HoldsStill, IsLeftBy, ActsOn, MayBeLeft, SeesSums}
-use Rattle.room_program.specs.Found.{SparesRoom}
-use Rattle.room_program.specs.Restarts.{ActsOnce, Steps, KeepsRoom, KeepsRoomOrMore}
-use Rattle.room_program.specs.Restarts.{GoesOnOrMore, AnswersOrMore}
 use Rattle.room_program.proofs.Found.{stands, closed_holds, closed_in, kept_in, unopened, served}
-use Rattle.room_program.proofs.Streams.{stays, connections_answered}
+use Rattle.room_program.proofs.Streams.{all_stay, each_answered}
 use Rattle.room_program.proofs.Found.{spares, not_made, one_database, found_database}
 use Rattle.room_program.proofs.Unopened.{may_hold}
 
@@ -70,41 +37,38 @@ module _ {D : Type 0} (g : Ghosts D) where
 
 -- ---- so many steps
 
-pub keeps_or_more : (users : List SubjectModel) (found left : Image) → KeepsRoom users found left
-    → KeepsRoomOrMore users found left
-keeps_or_more users found left keeps start past held =
+pub keeps_or_more : (rosters : Rosters) (found left : Image) → KeepsRoom rosters found left
+    → KeepsRoomOrMore rosters found left
+keeps_or_more rosters found left keeps start past held =
     let (next, goes, there) = keeps start past held in
     ∣ (next, (next, goes, inl refl), there) ∣₁
 
-pub still_keeps : (users : List SubjectModel) (found left : Image) → HoldsStill found left
-    → KeepsRoomOrMore users found left
-still_keeps users found left still start past held =
-    ∥∥₁_map (still start past held) (λ there. (past, (past, stays users start past, inl refl), there))
+pub still_keeps : (rosters : Rosters) (found left : Image) → HoldsStill found left
+    → KeepsRoomOrMore rosters found left
+still_keeps rosters found left still start past held =
+    ∥∥₁_map (still start past held) (λ there. (past, (past, all_stay rosters start past, inl refl), there))
 
-abbrev Rosters : Type 0
-Rosters = List (List SubjectModel)
+abbrev GoOn : Room → List Rosters → (past next : History) → Type 0
+GoOn start runs past next = Steps (λ rosters past next. GoesOnBy rosters start past next) runs past next
 
-abbrev GoOn : Room → Rosters → (past next : History) → Type 0
-GoOn start rosters past next = Steps (λ users past next. GoesOn users start past next) rosters past next
-
-pub room_after : (rosters : Rosters) (found left : Image) (start : Room) (past : History)
-    → Steps KeepsRoom rosters found left → HoldsRoom found start past
-    → (next : History) × GoOn start rosters past next × HoldsRoom left start next
+pub room_after : (runs : List Rosters) (found left : Image) (start : Room) (past : History)
+    → Steps KeepsRoom runs found left → HoldsRoom found start past
+    → (next : History) × GoOn start runs past next × HoldsRoom left start next
 room_after [] found left start past same held = (past, refl, subst (λ i. HoldsRoom i start past) (sym same) held)
-room_after (users ∷ more) found left start past (mid, keeps, later) held =
+room_after (rosters ∷ more) found left start past (mid, keeps, later) held =
     let (then, goes, there) = keeps start past held in
     let (next, on, last) = room_after more mid left start then later there in
     (next, (then, goes, on), last)
 
-abbrev GoOnOrMore : Room → Rosters → (past next : History) → Type 0
-GoOnOrMore start rosters past next = Steps (λ users past next. GoesOnOrMore users start past next) rosters past next
+abbrev GoOnOrMore : Room → List Rosters → (past next : History) → Type 0
+GoOnOrMore start runs past next = Steps (λ rosters past next. GoesOnOrMore rosters start past next) runs past next
 
-pub room_after_or_more : (rosters : Rosters) (found left : Image) (start : Room) (past : History)
-    → Steps KeepsRoomOrMore rosters found left → HoldsRoom found start past
-    → ∥ ((next : History) × GoOnOrMore start rosters past next × HoldsRoom left start next) ∥₁
+pub room_after_or_more : (runs : List Rosters) (found left : Image) (start : Room) (past : History)
+    → Steps KeepsRoomOrMore runs found left → HoldsRoom found start past
+    → ∥ ((next : History) × GoOnOrMore start runs past next × HoldsRoom left start next) ∥₁
 room_after_or_more [] found left start past same held =
     ∣ (past, refl, subst (λ i. HoldsRoom i start past) (sym same) held) ∣₁
-room_after_or_more (users ∷ more) found left start past (mid, keeps, later) held =
+room_after_or_more (rosters ∷ more) found left start past (mid, keeps, later) held =
     ∥∥₁_elim (keeps start past held) squash₁ (λ one.
     let (then, goes, there) = one in
     ∥∥₁_map (room_after_or_more more mid left start then later there) (λ all. (all.0, (then, goes, all.1), all.2)))
@@ -112,17 +76,18 @@ room_after_or_more (users ∷ more) found left start past (mid, keeps, later) he
 -- ---- one run over files that held a room
 
 -- its shelf went from one history to the next
-abbrev RunsOn : {S : Type 0} (view : S → View) → List SubjectModel → S → S → Type 0
-RunsOn view users taken last = (start : Room) (past : History) → StandsFor start past (view taken)
-    → (next : History) × GoesOn users start past next × StandsFor start next (view last)
+abbrev RunsOn : {S : Type 0} (view : S → View) → Rosters → S → S → Type 0
+RunsOn view rosters taken last = (start : Room) (past : History) → StandsFor start past (view taken)
+    → (next : History) × GoesOnBy rosters start past next × StandsFor start next (view last)
 
 module _ {D : Type 0} (g : Ghosts D) (found left : Image) (opened : Held (FileStore D g))
-    (taken last : SqlShelf (FileStore D g) over_files × Known) (users : List SubjectModel)
+    (taken last : SqlShelf (FileStore D g) over_files × Known) (rosters : Rosters)
     (is : IsOpenedOver found opened) (adopted : Adopted over_files opened taken)
     (clean : HasCleanDisk (file_state last.0.conn)) where
   -- the files hold then what the store showed last
-  pub keeps_room : RunsOn (cached_view (sql_view over_files)) users taken last
-      → IsTrue (file_state last.0.conn).is_open → Holds left (file_state last.0.conn).now → KeepsRoom users found left
+  pub keeps_room : RunsOn (cached_view (sql_view over_files)) rosters taken last
+      → IsTrue (file_state last.0.conn).is_open → Holds left (file_state last.0.conn).now
+      → KeepsRoom rosters found left
   keeps_room on is_open holds start past held =
       let (next, goes, stand) = on start past (stands g found start past held opened taken is adopted) in
       let (laid_out, rows) = stand (clean, is_open) in (
@@ -132,9 +97,9 @@ module _ {D : Type 0} (g : Ghosts D) (found left : Image) (opened : Held (FileSt
       )
 
   -- or that with one event more, where they hold what a crash may leave of it
-  room_or_more : AnswersOrMore (cached_view (sql_view over_files)) users taken last → (start : Room) (past : History)
+  room_or_more : AnswersOrMore (cached_view (sql_view over_files)) rosters taken last → (start : Room) (past : History)
       → HoldsRoom found start past → (trees : Trees) → recovers last.0.conn.store trees → HoldsDatabase left trees
-      → (next : History) × GoesOnOrMore users start past next × HoldsRoom left start next
+      → (next : History) × GoesOnOrMore rosters start past next × HoldsRoom left start next
   room_or_more answers start past held trees may holds =
       let (next, goes, left_so, laid) =
       answers start past (stands g found start past held opened taken is adopted) in
@@ -155,9 +120,9 @@ module _ {D : Type 0} (g : Ghosts D) (found left : Image) (opened : Held (FileSt
       ]
 
   -- so they do while it is there
-  pub open_or_more : AnswersOrMore (cached_view (sql_view over_files)) users taken last
+  pub open_or_more : AnswersOrMore (cached_view (sql_view over_files)) rosters taken last
       → ((file : D) → g.may_leave file (g.seen file)) → IsTrue (file_state last.0.conn).is_open
-      → Holds left (file_state last.0.conn).now → KeepsRoomOrMore users found left
+      → Holds left (file_state last.0.conn).now → KeepsRoomOrMore rosters found left
   open_or_more answers stays is_open holds start past held =
       let may = subst (recovers last.0.conn.store) (sym (last.0.rests is_open))
       (stays_at last.0.conn.store stays is_open) in
@@ -165,9 +130,9 @@ module _ {D : Type 0} (g : Ghosts D) (found left : Image) (opened : Held (FileSt
       room_or_more answers start past held (file_state last.0.conn).now.trees may there)
 
   -- and once a fault has shut it, where they were left by a store that leaves no more than its own
-  pub keeps_room_or_more : AnswersOrMore (cached_view (sql_view over_files)) users taken last
+  pub keeps_room_or_more : AnswersOrMore (cached_view (sql_view over_files)) rosters taken last
       → (it : FileStore D g) → ((trees : Trees) → recovers it trees → recovers last.0.conn.store trees)
-      → IsTrue (view it).is_numbered → MayBeLeft it left → KeepsRoomOrMore users found left
+      → IsTrue (view it).is_numbered → MayBeLeft it left → KeepsRoomOrMore rosters found left
   keeps_room_or_more answers it only numbered at start past held =
       let (next, goes, left_so, laid) =
       answers start past (stands g found start past held opened taken is adopted) in
@@ -247,59 +212,66 @@ module _ {D M : Type 0} (g : Ghosts D) (image : Image) (does : M → Call (Held 
   abbrev shown : Taken → View
   shown = cached_view (sql_view over_files)
 
-  pub served_run : (accepts : M → Exchange → M → Type 0) (fails : M → M → Type 0) (db : List ℕ)
-      (users : List SubjectModel) (port count : ℕ) (read taken over later : M) (shelf last : Taken)
+  pub served_run : (accepts : M → Exchange → M → Type 0) (fails : M → M → Type 0) (db roster : List ℕ)
+      (first : Roll) (port count : ℕ) (read taken over later : M) (shelf last : Taken)
       (done : Result (Unit {0}) Fault) (one : Image)
       → TakesRoom does (λ opened taken. Takes over_files opened taken) db read taken (Ok shelf)
-      → Listens does accepts fails shown users port count taken over shelf last done
+      → (listens : Listens does accepts fails shown roster first port count taken over shelf last done)
       → does over (closes last.0.conn) later → IsTrue (file_state last.0.conn).is_open → IsLeftBy image (left later) one
-      → KeepsRoom users image one
-  served_run accepts fails db users port count read taken over later shelf last done one room listens closed is_open
-      at =
+      → KeepsRoom (rosters_in does accepts fails shown roster first port count taken over shelf last done listens) image
+      one
+  served_run accepts fails db roster first port count read taken over later shelf last done one room listens closed
+      is_open at =
       let (opened, is, adopted) = took db read taken shelf room in
-      let some = served does _ accepts fails users port count taken over shelf last done listens in
+      let some = served does shown accepts fails roster first port count taken over shelf last done listens in
       let told = tells over later (closes last.0.conn) closed in
       let clean = (closed_in g last.0.conn (left later) image one told at).0 in
-      keeps_room g image one opened shelf last users is adopted clean (some.run clean)
-      is_open (closed_holds g stays last.0.conn (left later) image one told is_open (last.0.rests is_open) at)
+      keeps_room g image one opened shelf last
+      (rosters_in does accepts fails shown roster first port count taken over shelf last done listens) is adopted clean
+      (some.run clean) is_open
+      (closed_holds g stays last.0.conn (left later) image one told is_open (last.0.rests is_open) at)
 
   -- and where a fault had shut its store
   module _ (accepts : M → Exchange → M → Type 0) (fails : M → M → Type 0) where
-    leave_answered : (users : List SubjectModel) (n : ℕ) (old last : M) (before after : Taken)
-        → ServesEach accepts (Served shown users) n old last before after → (shown before).is_available
-        → (shown after).is_intact → AnswersOrMore shown users before after
-    leave_answered users n old last before after each there intact =
-        connections_answered shown (settled g stays) (leaves_laid_out g stays) accepts users n old last before after
-        after [] [] each tt ([], refl, refl) there intact
+    leave_answered : (roster : List ℕ) (n : ℕ) (old last : M × Roll) (before after : Taken)
+        (each : ServesEach (Comes does accepts roster) (ServedTo shown) n old last before after)
+        → (shown before).is_available → (shown after).is_intact
+        → AnswersOrMore shown (rosters_over (Comes does accepts roster) shown n old last before after each) before after
+    leave_answered roster n old last before after each there intact =
+        each_answered shown (settled g stays) (leaves_laid_out g stays) (Comes does accepts roster) n old last before
+        after each there intact
 
-    answered : (users : List SubjectModel) (port count : ℕ) (taken over : M) (shelf last : Taken)
-        (done : Result (Unit {0}) Fault) → Listens does accepts fails shown users port count taken over shelf last done
-        → (shown shelf).is_available → (shown last).is_intact → AnswersOrMore shown users shelf last
-    answered users port count taken over shelf last done (inl (is, same, bound)) there intact =
-        leave_answered users 0 taken taken shelf last (refl, same) there intact
-    answered users port count taken over shelf last (Ok done) (inr (bound, did, all)) there intact =
-        leave_answered users count bound over shelf last all.served there intact
-    answered users port count taken over shelf last (Err fault) (inr (bound, did, all)) there intact =
-        let (n, fewer, late, each, failed) = all.fewer in
-        leave_answered users n bound late shelf last each there intact
+    answered : (roster : List ℕ) (first : Roll) (port count : ℕ) (taken over : M) (shelf last : Taken)
+        (done : Result (Unit {0}) Fault)
+        (listens : Listens does accepts fails shown roster first port count taken over shelf last done)
+        → (shown shelf).is_available → (shown last).is_intact → AnswersOrMore shown
+        (rosters_in does accepts fails shown roster first port count taken over shelf last done listens) shelf last
+    answered roster first port count taken over shelf last done (inl (is, same, bound)) there intact =
+        leave_answered roster 0 (taken, first) (taken, first) shelf last (refl, same) there intact
+    answered roster first port count taken over shelf last (Ok done) (inr (bound, did, all)) there intact =
+        leave_answered roster count (bound, first) (over, all.served.0) shelf last all.served.1 there intact
+    answered roster first port count taken over shelf last (Err why) (inr (bound, did, all)) there intact =
+        leave_answered roster all.fewer.1.0 (bound, first) all.fewer.1.2 shelf last all.fewer.1.3 there intact
 
-    pub served_shut : (db : List ℕ) (users : List SubjectModel) (port count : ℕ) (read taken over later : M)
+    pub served_shut : (db roster : List ℕ) (first : Roll) (port count : ℕ) (read taken over later : M)
         (shelf last : Taken) (done : Result (Unit {0}) Fault) (one : Image)
         → TakesRoom does (λ opened taken. Takes over_files opened taken) db read taken (Ok shelf)
-        → Listens does accepts fails shown users port count taken over shelf last done
-        → does over (closes last.0.conn) later → IsLeftBy image (left later) one → KeepsRoomOrMore users image one
-    served_shut db users port count read taken over later shelf last done one room listens closed at =
+        → (listens : Listens does accepts fails shown roster first port count taken over shelf last done)
+        → does over (closes last.0.conn) later → IsLeftBy image (left later) one → KeepsRoomOrMore
+        (rosters_in does accepts fails shown roster first port count taken over shelf last done listens) image one
+    served_shut db roster first port count read taken over later shelf last done one room listens closed at =
+        let rosters = rosters_in does accepts fails shown roster first port count taken over shelf last done listens in
         let (opened, is, adopted) = took db read taken shelf room in
-        let some = served does _ accepts fails users port count taken over shelf last done listens in
+        let some = served does shown accepts fails roster first port count taken over shelf last done listens in
         let (clean, either) =
         closed_in g last.0.conn (left later) image one (tells over later (closes last.0.conn) closed)
         at in
         let was = some.frame.was_intact clean in
         elim either [
-          | inl is_open ↦ keeps_or_more users image one (served_run accepts fails db users port count read taken over
-              later shelf last done one room listens closed is_open at)
-          | inr (it, (kept, sure), numbered, may) ↦ keeps_room_or_more g image one opened shelf last users is adopted
-              clean (answered users port count taken over shelf last done listens (was, (adopted.1 was).0) clean)
+          | inl is_open ↦ keeps_or_more rosters image one (served_run accepts fails db roster first port count read
+              taken over later shelf last done one room listens closed is_open at)
+          | inr (it, (kept, sure), numbered, may) ↦ keeps_room_or_more g image one opened shelf last rosters is adopted
+              clean (answered roster first port count taken over shelf last done listens (was, (adopted.1 was).0) clean)
               it kept.quiet.outcomes numbered may
         ]
 

@@ -1,53 +1,24 @@
 -- What a stop in the middle of an event leaves.
-use Rattle.std.proofs.Common.{◌≡◌, ◌∙◌, ◌⊎◌, ℕ, List, [], false, refl, sym, ap, subst, inl, inr, ◌∷◌, IsTrue}
-use Rattle.std.proofs.Common.{Option, Result, Ok, Err}
-use Rattle.std.proofs.Math.Logic.{∥∥₁_map}
-use Rattle.sqlite_disk.specs.declared.Disk.{Ghosts}
+use Rattle.room_program.proofs.Common.{◌≡◌, ◌∙◌, ◌⊎◌, ℕ, List, [], false, refl, sym, ap, subst, inl, inr, ◌∷◌}
+use Rattle.room_program.proofs.Common.{Option, Result, Ok, Err, ∥∥₁_map, Ghosts, outcomes, state, view, files_in}
+use Rattle.room_program.proofs.Common.{settled_at, Database, opens_again, Image, FileStore, HasCleanDisk, Survives}
+use Rattle.room_program.proofs.Common.{Held, file_state, over_files, HoldsDatabase, SubjectModel, Room, fresh_room}
+use Rattle.room_program.proofs.Common.{View, LeavesNew, Known, cached_view, Fresh, has_a_table, under, records_of}
+use Rattle.room_program.proofs.Common.{SqlShelf, sql_view, MayBeTaken, was_clean, EventModel, History}
+use Rattle.room_program.proofs.Common.{RepresentsHistory, StandsFor, stand_at_first, Fault, Left, Adopted, Made, Takes}
+use Rattle.room_program.proofs.Common.{Unmade, Closes, Holds, HoldsNothing, HoldsRoom, HoldsStill, IsLeftBy}
+use Rattle.room_program.proofs.Common.{IsOpenedOver, MayBeLeft, StandsOrWith, HoldsOldOrNew, HoldsFreshOrNone}
+use Rattle.room_program.proofs.Common.{HoldsRoomWith, IsTakenOut, HoldsOldOrBeside, connection_of, AnswersOrMore}
+use Rattle.room_program.proofs.Common.{KeepsRoomOrMore, ReportKind, Rosters, WritesReport}
 use Rattle.sqlite_disk.specs.declared.Files.{Files}
 use Rattle.sqlite_pool.proofs.StateLemmas.{clean_is, may_leave_is}
 use Rattle.sqlite_trees.specs.View.{IsClean}
 use Rattle.sqlite_trees.proofs.Doubt.{no_doubt}
-use Rattle.sqlite.specs.WalFiles.{outcomes}
 use Rattle.sqlite.specs.WalReads.{AreClean}
-use Rattle.sqlite.specs.FileStore.{state, view, files as files_in}
-use Rattle.sqlite_store.specs.Laws.{settled_at}
-use Rattle.sqlite.specs.Effect.{Database}
-use Rattle.sqlite.proofs.Theorems.{opens_again}
-use Rattle.sqlite.specs.Recovery.{Image}
-use Rattle.sqlite.specs.declared.FileStore.{FileStore}
-use Rattle.sqlite.specs.State.{HasCleanDisk, Survives}
-use Rattle.sqlite.specs.Held.{Held}
-use Rattle.sqlite.specs.Files.{file_state, over_files, HoldsDatabase}
-use Rattle.room_acl.specs.SubjectModel.{SubjectModel}
-use Rattle.room_records.specs.Room.{Room, fresh_room}
-use Rattle.room_records.specs.Shelf.{View, LeavesNew}
-use Rattle.room_cache.specs.declared.known.Known.{Known}
-use Rattle.room_cache.specs.Cached.{cached_view}
-use Rattle.room_tables.specs.Tables.{Fresh, has_a_table}
-use Rattle.room_tables.specs.Layout.{under}
 use Rattle.room_tables.specs.Fresh.{IsFresh, MayBeMade, StandsBeside}
-use Rattle.room_tables.specs.Rows.{records_of}
-use Rattle.room_sql.specs.declared.sql_shelf.SqlShelf.{SqlShelf}
-use Rattle.room_sql.specs.SqlView.{sql_view}
-use Rattle.room_sql.specs.Taken.{MayBeTaken}
-use Rattle.room_sql.proofs.Frames.{was_clean}
-use Rattle.room_wire.specs.Asks.EventModel.{EventModel}
-use Rattle.room_desk.specs.History.{History}
-use Rattle.room_desk.specs.Representation.{RepresentsHistory, StandsFor}
-use Rattle.room_desk.proofs.Beginnings.{stand_at_first}
-use Rattle.room_program.specs.declared.fault.Fault.{Fault}
 use Rattle.room_program.specs.declared.fault.Fault.TheVariants as fault
-use Rattle.room_program.specs.declared.left.Left.{Left}
-use Rattle.room_program.specs.Files.{Adopted, Made, Takes, Unmade}
-use Rattle.room_program.specs.Found.{Closes, Holds, HoldsNothing, HoldsRoom, HoldsStill, IsLeftBy, IsOpenedOver}
-use Rattle.room_program.specs.Found.{MayBeLeft}
-use Rattle.room_program.specs.Halts.{StandsOrWith, HoldsOldOrNew, HoldsFreshOrNone, HoldsRoomWith, IsTakenOut}
-use Rattle.room_program.specs.Halts.{HoldsOldOrBeside, connection_of}
-use Rattle.room_program.specs.Restarts.{AnswersOrMore, KeepsRoomOrMore}
 use Rattle.room_program.proofs.Found.{may_room, was_sound, has_none, found_nothing, closed_holds, closed_in}
 use Rattle.room_program.proofs.Found.{found_database}
-use Rattle.room_words.specs.declared.job.ReportKind.{ReportKind}
-use Rattle.room_program.specs.Rooms.{WritesReport}
 use Rattle.room_program.proofs.Restarts.{open_or_more, keeps_room_or_more, report_still}
 
 -- A shelf's store is taken out of its connection and closed, and its files have returned what was written
@@ -275,17 +246,17 @@ module _ {D : Type 0} (g : Ghosts D) (stays : (file : D) → g.may_leave file (g
       }
 
   pub close_shut : (opened : Held (FileStore D g)) (taken last : SqlShelf (FileStore D g) over_files × Known)
-      (users : List SubjectModel) → last.0.conn ≡ closed → IsOpenedOver found opened
-      → Adopted over_files opened taken → AnswersOrMore (cached_view (sql_view over_files)) users taken last
-      → KeepsRoomOrMore users found image
-  close_shut opened taken last users same over adopted answers =
+      (rosters : Rosters) → last.0.conn ≡ closed → IsOpenedOver found opened
+      → Adopted over_files opened taken → AnswersOrMore (cached_view (sql_view over_files)) rosters taken last
+      → KeepsRoomOrMore rosters found image
+  close_shut opened taken last rosters same over adopted answers =
       let of_last = subst (λ c. Closes c left) (sym same) is in
       let (clean, either) = closed_in g last.0.conn left found image of_last at in
       elim either [
-        | inl is_open ↦ open_or_more g found image opened taken last users over adopted clean answers stays is_open
+        | inl is_open ↦ open_or_more g found image opened taken last rosters over adopted clean answers stays is_open
             (closed_holds g stays last.0.conn left found image of_last is_open (last.0.rests is_open) at)
-        | inr (it, (kept, sure), numbered, may) ↦ keeps_room_or_more g found image opened taken last users over adopted
-            clean answers it kept.quiet.outcomes numbered may
+        | inr (it, (kept, sure), numbered, may) ↦ keeps_room_or_more g found image opened taken last rosters over
+            adopted clean answers it kept.quiet.outcomes numbered may
       ]
 
   pub close_made : (opened : Held (FileStore D g)) (owner group : List ℕ) → IsOpenedOver found opened

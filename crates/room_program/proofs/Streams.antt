@@ -1,14 +1,12 @@
 -- One stream after another.
-use Rattle.std.specs.List.{AllByRecursion}
+use Rattle.std.specs.List.{AllByRecursion, Contains}
 use Rattle.std.specs.Bool.{MatchBool}
-use Rattle.std.proofs.Common.{◌≡◌, ◌⊎◌, inl, inr, ℕ, zero, suc, List, [], ◌++◌, Result, Ok, Err, refl, sym, ap, subst}
-use Rattle.std.proofs.Common.{◌∙◌, ◌∷◌, Bool, true, false, Option}
-use Rattle.std.proofs.lemmas.List.{append_assoc}
-use Rattle.room_acl.specs.SubjectModel.{SubjectModel}
-use Rattle.room_records.specs.Records.{Records}
-use Rattle.room_records.specs.Room.{Room}
-use Rattle.room_records.specs.Shelf.{View, LeavesNew}
-use Rattle.room_wire.specs.Asks.EventModel.{EventModel}
+use Rattle.room_program.proofs.Common.{◌≡◌, ◌⊎◌, ◌∙◌, inl, inr, ℕ, zero, suc, List, [], Option, refl, sym, subst, ap}
+use Rattle.room_program.proofs.Common.{Result, Ok, Err, ◌∷◌}
+use Rattle.room_program.proofs.Common.{Bool, true, false, SubjectModel, Records, Room, View, LeavesNew, EventModel}
+use Rattle.room_program.proofs.Common.{History, RepresentsHistory, StandsFor, AnswersMessage, IsRun, MayAnswer}
+use Rattle.room_program.proofs.Common.{Exchange, ServesEach, AcceptsEach, GoesOn, GoesOnBy, Carries, ServesSome}
+use Rattle.room_program.proofs.Common.{AnswersOrMore, MayAsk, OrMore, Rosters, ServedTo, Visit, rosters_over}
 use Rattle.room_wire.specs.declared.serving.stop.Why.{Why}
 use Rattle.room_wire.specs.declared.serving.stop.Why.TheVariants.{Closed, BadMessage, ReadFailed, WriteFailed, Memory}
 use Rattle.room_wire.specs.Messages.MessageModel.{MessageModel, IsMessage}
@@ -16,21 +14,17 @@ use Rattle.room_wire.specs.Messages.Stream.{Follows, Ended, is_last}
 use Rattle.room_wire.specs.Serving.Ends.{Wrote}
 use Rattle.room_wire.specs.Answers.AnswerModel.{AnswerModel}
 use Rattle.room_wire.specs.Serving.Outputs.{Outputs}
-use Rattle.room_wire.proofs.Lemmas.Serving.Rounds.{outputs_then}
-use Rattle.room_desk.specs.History.{History}
-use Rattle.room_desk.specs.Representation.{RepresentsHistory, StandsFor, StandsWith}
-use Rattle.room_desk.specs.Serving.{AnswersMessage, IsRun, MayAnswer}
-use Rattle.room_desk.specs.Stops.{Doubt, no_doubt, StandsInDoubt}
+use Rattle.room_wire.specs.declared.fault.WireFault.{WireFault}
+use Rattle.room_wire.specs.Asks.AskOf.{AskModel, Check, Event, ask_of}
+use Rattle.room_wire.proofs.Lemmas.Serving.Rounds.{first_answered, no_output}
+use Rattle.room_desk.specs.Stops.{AnswersInDoubt, Doubt, StandsInDoubt, doubt_after, is_delay, no_doubt}
+use Rattle.room_desk.proofs.AttemptRuns.{in_none, one_of}
+use Rattle.std.proofs.lemmas.Bool.{cases_Bool}
 use Rattle.room_records.proofs.Shelves.{no_call, calls_then}
 use Rattle.room_desk.proofs.Messages.{goes_on}
 use Rattle.room_desk.proofs.Stops.{at_rest}
 use Rattle.room_desk.proofs.StreamStops.{stream_in_doubt, laid_out_in_stream, by_answers}
-use Rattle.room_desk.proofs.StreamStops.{AreAsked, none_asked, asked_in_stream, intact_before}
-use Rattle.room_program.specs.declared.fault.Fault.{Fault}
-use Rattle.room_program.specs.Calls.{Exchange, ServesEach, AcceptsEach}
-use Rattle.room_program.specs.Rooms.{ServesAll}
-use Rattle.room_program.specs.Streams.{GoesOn, Carries, Served, ServesSome}
-use Rattle.room_program.specs.Restarts.{AnswersOrMore, MayAsk}
+use Rattle.room_desk.proofs.StreamStops.{intact_before}
 
 -- what stands at the front of a stream are messages
 follow_lawful : (bytes : List ℕ) (ms : List MessageModel) (rest : List ℕ) → Follows bytes ms rest
@@ -65,11 +59,6 @@ served_lawful bytes rest ms out after old new WriteFailed (inl wrote) = either_l
 served_lawful bytes rest ms out after old new WriteFailed (inr wrote) = follow_lawful bytes ms rest wrote.0
 served_lawful bytes rest ms out after old new Memory wrote = subst (AllByRecursion IsMessage) (sym wrote.1) tt
 
-both_lawful : (ms more : List MessageModel) → AllByRecursion IsMessage ms → AllByRecursion IsMessage more
-    → AllByRecursion IsMessage (ms ++ more)
-both_lawful [] more first then = then
-both_lawful (m ∷ ms) more first then = (first.0, both_lawful ms more first.1 then)
-
 pub ran : (users : List SubjectModel) (start : Room) (past : History) (ms : List MessageModel)
     (out : List ℕ) (next : History) → AllByRecursion IsMessage ms → IsRun users start past ms out next
     → GoesOn users start past next
@@ -82,16 +71,10 @@ pub stays : (users : List SubjectModel) (start : Room) (past : History) → Goes
 stays users start past =
     record { messages = []; lawful = tt; output = []; run = ([], refl, refl); events = []; on = refl }
 
-goes_further : (users : List SubjectModel) (start : Room) (past next last : History)
-    → GoesOn users start past next → GoesOn users start next last → GoesOn users start past last
-goes_further users start past next last a b = record {
-  messages = a.messages ++ b.messages;
-  lawful = both_lawful a.messages b.messages a.lawful b.lawful;
-  output = a.output ++ b.output;
-  run = outputs_then (AnswersMessage users start) past next last a.messages b.messages a.output b.output a.run b.run;
-  events = b.events ++ a.events;
-  on = b.on ∙ ap (λ t. b.events ++ t) a.on ∙ sym (append_assoc b.events a.events past);
-}
+-- nor in any connection
+pub all_stay : (rosters : Rosters) (start : Room) (past : History) → GoesOnBy rosters start past past
+all_stay [] start past = refl
+all_stay (users ∷ earlier) start past = (past, all_stay earlier start past, stays users start past)
 
 -- so many connections were accepted, whatever served them
 pub accepted : {L S : Type 0} (accepts : L → Exchange → L → Type 0) (serves : S → Exchange → S → Type 0) (n : ℕ)
@@ -105,60 +88,82 @@ carried : {S : Type 0} (may_answer : S → MessageModel → AnswerModel → S �
     → (all : Carries may_answer before e after) → AllByRecursion IsMessage all.2
 carried may_answer before after e all = served_lawful all.0 all.1 all.2 all.3 e.left e.output e.written e.end.why all.7
 
-module _ {S : Type 0} (view : S → View) (users : List SubjectModel) where
-  pub serves_none : (s : S) → ServesSome view users s s
-  serves_none s = record {
-    frame = no_call _;
-    run = λ intact start past stands. (past, stays users start past, stands);
-  }
+module _ {S : Type 0} (view : S → View) where
+  pub serves_none : (s : S) → ServesSome view [] s s
+  serves_none s = record { frame = no_call _; run = λ intact start past stands. (past, refl, stands) }
 
-  serves_more : (before then after : S) → ServesSome view users before then
-      → ServesSome view users then after → ServesSome view users before after
-  serves_more before then after a b = record {
-    frame = calls_then _ _ _ b.frame a.frame;
+  serves_more : (rosters : Rosters) (before then after : S) (v : Visit) → ServesSome view rosters before then
+      → ServedTo view then v after → ServesSome view (v.users ∷ rosters) before after
+  serves_more rosters before then after v a served = record {
+    frame = calls_then _ _ _ served.frame a.frame;
     run = λ intact start past stands.
-        let so_far = a.run (b.frame.was_intact intact) start past stands in
-        let more = b.run intact start so_far.0 so_far.2 in
-        (more.0, goes_further users start past so_far.0 more.0 so_far.1 more.1, more.2);
+        let (mid, so_far, stand) = a.run (served.frame.was_intact intact) start past stands in
+        let on = served.run intact start mid stand in
+        let lawful = carried (AnswersMessage v.users start) mid on.0 v.exchange on.1 in
+        (on.0, (mid, so_far, ran v.users start mid on.1.2 on.1.3 on.0 lawful on.1.5), on.2);
   }
 
-  serves_one : (before after : S) (e : Exchange) → Served view users before e after → ServesSome view users before after
-  serves_one before after e served = record {
-    frame = served.frame;
-    run = λ intact start past stands.
-        let on = served.run intact start past stands in (
-          on.0,
-          ran users start past on.1.2 on.1.3 on.0 (carried (AnswersMessage users start) past on.0 e on.1) on.1.5,
-          on.2,
-        );
-  }
+  module _ {L : Type 0} (comes : L → Visit → L → Type 0) (old : L) (before : S) where
+    pub serves_each : (n : ℕ) (last : L) (after : S) (each : ServesEach comes (ServedTo view) n old last before after)
+        → ServesSome view (rosters_over comes view n old last before after each) before after
+    serves_each zero last after none = subst (ServesSome view [] before) (sym none.1) (serves_none before)
+    serves_each (suc n) last after (late, between, each, (v, took, served)) =
+        serves_more (rosters_over comes view n old late before between each) before between after v
+        (serves_each n late between each) served
 
-  module _ {L : Type 0} (accepts : L → Exchange → L → Type 0) (fails : L → L → Type 0) (old new : L) (before : S) where
-    pub serves_each : (n : ℕ) (last : L) (after : S) → ServesEach accepts (Served view users) n old last before after
-        → ServesSome view users before after
-    serves_each zero last after none = subst (ServesSome view users before) (sym none.1) (serves_none before)
-    serves_each (suc n) last after (late, between, each, one) =
-        serves_more before between after (serves_each n late between each) (serves_one between after one.0 one.2)
+-- these events were asked by messages of the users of one of these connections
+abbrev AreAsked : Rosters → List EventModel → Type 0
+AreAsked rosters events = (event : EventModel) → Contains events event → MayAsk rosters event
 
-    pub serves_all : (count : ℕ) (after : S) (done : Result (Unit {0}) Fault)
-        → ServesAll accepts fails view users count old new before after done → ServesSome view users before after
-    serves_all count after (Ok done) all = serves_each count new after all.served
-    serves_all count after (Err fault) all = serves_each all.fewer.0 all.fewer.2 after all.fewer.3
+none_asked : (rosters : Rosters) → AreAsked rosters []
+none_asked rosters event at = absurd (in_none event at)
+
+module _ (users : List SubjectModel) (earlier : Rosters) where
+  asked_then : (m : MessageModel) (ask : Result AskModel WireFault) (doubted : List EventModel)
+      (answered : AnswerModel) → IsMessage m → ask_of users m ≡ ask → AreAsked (users ∷ earlier) doubted
+      → AreAsked (users ∷ earlier) (doubt_after doubted ask answered)
+  asked_then m (Ok (Check question)) doubted answered lawful is asked = asked
+  asked_then m (Err fault) doubted answered lawful is asked = asked
+  asked_then m (Ok (Event event)) doubted answered lawful is asked = elim (cases_Bool (is_delay answered)) [
+    | inl delayed ↦ rw delayed (λ other at. elim (one_of event doubted other at) [
+      | inl same ↦ inl (m, lawful, is ∙ ap (λ e. Ok (Event e)) (sym same))
+      | inr old ↦ asked other old
+    ])
+    | inr other ↦ rw other (none_asked (users ∷ earlier))
+  ]
+
+  -- so are those that one more connection leaves in doubt
+  asked_in_stream : (start : Room) (known : Doubt) (ms : List MessageModel) (out : List ℕ) (next : Doubt)
+      → AllByRecursion IsMessage ms → Outputs (AnswersInDoubt users start) known ms out next
+      → AreAsked (users ∷ earlier) known.doubted → AreAsked (users ∷ earlier) next.doubted
+  asked_in_stream start known [] out next lawful run asked =
+      subst (λ (d : Doubt). AreAsked (users ∷ earlier) d.doubted)
+      (sym (no_output (AnswersInDoubt users start) run).1) asked
+  asked_in_stream start known (m ∷ ms) out next lawful all asked =
+      let run = first_answered (AnswersInDoubt users start) m ms all in
+      asked_in_stream start run.1 ms run.2 next lawful.1 run.4 (subst (AreAsked (users ∷ earlier)) (sym run.3.1)
+      (asked_then m (ask_of users m) known.doubted run.0 lawful.0 refl asked))
 
 -- What a crash may leave after some connections, from a store that was there
 module _ {S : Type 0} (view : S → View) (settled : (s : S) (left : Records) → (view s).is_available
-    → (view s).crash_may_leave left → left ≡ (view s).records) (users : List SubjectModel) (start : Room) where
-  -- the rows stand for the history, and a crash leaves such rows, or with one of the events in doubt, and laid out
-  abbrev LeavesInDoubt : Doubt → S → Type 0
-  LeavesInDoubt known s = StandsFor start known.past (view s)
+    → (view s).crash_may_leave left → left ≡ (view s).records) (start : Room) where
+  -- the rows stand for the history, and a crash leaves such rows, or with one of the events in doubt, and laid out;
+  -- these were asked in one of the connections
+  abbrev LeavesInDoubt : Rosters → Doubt → S → Type 0
+  LeavesInDoubt rosters known s = StandsFor start known.past (view s)
       × LeavesNew (view s) (StandsInDoubt start known.past known.doubted) × (view s).leaves_laid_out
-      × AreAsked users known.doubted
+      × AreAsked rosters known.doubted
 
-  some_in_doubt : (before after : S) (ms : List MessageModel) (out : List ℕ)
-      → AllByRecursion IsMessage ms → Outputs (MayAnswer view users) before ms out after → (view after).is_intact
-      → (known : Doubt) → LeavesInDoubt known before
-      → (next : Doubt) × GoesOn users start known.past next.past × LeavesInDoubt next after
-  some_in_doubt before after ms out lawful run intact known (stands, leaves, laid, asked) =
+  at_first : (s : S) (past : History) → (view s).is_available → StandsFor start past (view s)
+      → (view s).leaves_laid_out → LeavesInDoubt [] (no_doubt past) s
+  at_first s past there stands laid =
+      (stands, (λ left may. inl (at_rest view settled s start past there stands left may)), laid, none_asked [])
+
+  some_in_doubt : (users : List SubjectModel) (earlier : Rosters) (before after : S) (ms : List MessageModel)
+      (out : List ℕ) → AllByRecursion IsMessage ms → Outputs (MayAnswer view users) before ms out after
+      → (view after).is_intact → (known : Doubt) → LeavesInDoubt earlier known before
+      → (next : Doubt) × GoesOn users start known.past next.past × LeavesInDoubt (users ∷ earlier) next after
+  some_in_doubt users earlier before after ms out lawful run intact known (stands, leaves, laid, asked) =
       let (next, answers, stand, left) = stream_in_doubt view settled users before after ms out start known run
       intact stands leaves in (
         next,
@@ -167,63 +172,68 @@ module _ {S : Type 0} (view : S → View) (settled : (s : S) (left : Records) �
           stand,
           left,
           laid_out_in_stream view users before after ms out start known.past run intact stands laid,
-          asked_in_stream users start known ms out next lawful answers asked,
+          asked_in_stream users earlier start known ms out next lawful answers (λ event at. inr (asked event at)),
         ),
       )
 
-  module _ {L : Type 0} (accepts : L → Exchange → L → Type 0) (old : L) (before : S) where
-    each_in_doubt : (n : ℕ) (last : L) (after : S) → ServesEach accepts (Served view users) n old last before after
-        → (view after).is_intact → (known : Doubt) → LeavesInDoubt known before
-        → (next : Doubt) × GoesOn users start known.past next.past × LeavesInDoubt next after
+  module _ {L : Type 0} (comes : L → Visit → L → Type 0) (old : L) (before : S) where
+    each_in_doubt : (n : ℕ) (last : L) (after : S) (each : ServesEach comes (ServedTo view) n old last before after)
+        → (view after).is_intact → (known : Doubt) → LeavesInDoubt [] known before
+        → (next : Doubt) × GoesOnBy (rosters_over comes view n old last before after each) start known.past next.past
+        × LeavesInDoubt (rosters_over comes view n old last before after each) next after
     each_in_doubt zero last after none intact known leaves =
-        (known, stays users start known.past, subst (LeavesInDoubt known) (sym none.1) leaves)
-    each_in_doubt (suc n) last after (late, between, each, one) intact known leaves =
-        let was = one.2.frame.was_intact intact in
+        (known, refl, subst (LeavesInDoubt [] known) (sym none.1) leaves)
+    each_in_doubt (suc n) last after (late, between, each, (v, took, served)) intact known leaves =
+        let was = served.frame.was_intact intact in
         let (mid, goes, left) = each_in_doubt n late between each was known leaves in
-        let all = one.2.messages in
+        let all = served.messages in
         let (next, on, there) =
-        some_in_doubt between after all.2 all.3 (carried (MayAnswer view users) between after one.0 all) all.5 intact
-        mid left in
-        (next, goes_further users start known.past mid.past next.past goes on, there)
+        some_in_doubt v.users (rosters_over comes view n old late before between each) between after all.2 all.3
+        (carried (MayAnswer view v.users) between after v.exchange all) all.5 intact mid left in
+        (next, (mid.past, goes, on), there)
 
-    answers_or_more : (n : ℕ) (last : L) (between after : S) (ms : List MessageModel) (out : List ℕ)
-        (past : History) → ServesEach accepts (Served view users) n old last before between
-        → AllByRecursion IsMessage ms → Outputs (MayAnswer view users) between ms out after
-        → (view between).is_intact → (view after).is_intact → (view before).is_available
-        → StandsFor start past (view before) → (view before).leaves_laid_out
-        → (next : History) × GoesOn users start past next × LeavesNew (view after) (λ left.
-        RepresentsHistory start left next ⊎ ((event : EventModel) × MayAsk users event
-        × StandsWith start next event left))
-        × (view after).leaves_laid_out
-    answers_or_more n last between after ms out past each lawful run was intact there stands laid =
-        let (mid, goes, known) = each_in_doubt n last between each was (no_doubt past) (
-          stands,
-          (λ left may. inl (at_rest view settled before start past there stands left may)),
-          laid,
-          none_asked users,
-        ) in
-        let (next, on, (stand, leaves, kept, asked)) =
-        some_in_doubt between after ms out lawful run intact mid known in (
-          next.past,
-          goes_further users start past mid.past next.past goes on,
-          λ left may. elim (leaves left may) [
-            | inl rows ↦ inl rows
-            | inr (event, at, rows) ↦ inr (event, asked event at, rows)
-          ],
-          kept,
-        )
+  -- so it is or more
+  or_more : (rosters : Rosters) (past : History) (next : Doubt) (after : S) → GoesOnBy rosters start past next.past
+      → LeavesInDoubt rosters next after → (last : History) × GoesOnBy rosters start past last
+      × LeavesNew (view after) (λ left. OrMore rosters last (RepresentsHistory start left))
+      × (view after).leaves_laid_out
+  or_more rosters past next after goes (stand, leaves, laid, asked) = (
+    next.past,
+    goes,
+    λ left may. elim (leaves left may) [
+      | inl rows ↦ inl rows
+      | inr (event, at, rows) ↦ inr (event, asked event at, rows)
+    ],
+    laid,
+  )
 
 -- and after any number of them, over a shelf that meets the two laws
 module _ {S : Type 0} (view : S → View) (settled : (s : S) (left : Records) → (view s).is_available
     → (view s).crash_may_leave left → left ≡ (view s).records)
-    (leaves_laid_out : (s : S) → (view s).is_available → (view s).is_laid_out → (view s).leaves_laid_out) where
-  pub connections_answered : {L : Type 0} (accepts : L → Exchange → L → Type 0) (users : List SubjectModel) (n : ℕ)
-      (old last : L) (before between after : S) (ms : List MessageModel) (out : List ℕ)
-      → ServesEach accepts (Served view users) n old last before between
-      → AllByRecursion IsMessage ms → Outputs (MayAnswer view users) between ms out after → (view before).is_available
-      → (view after).is_intact → AnswersOrMore view users before after
-  connections_answered accepts users n old last before between after ms out each lawful run there intact start past
-      stands =
-      answers_or_more view settled users start accepts old before n last between after ms out past each lawful run
-      (intact_before view users between after ms out run intact) intact there stands
-      (leaves_laid_out before there (stands there).0)
+    (leaves_laid_out : (s : S) → (view s).is_available → (view s).is_laid_out → (view s).leaves_laid_out)
+    {L : Type 0} (comes : L → Visit → L → Type 0) (n : ℕ) (old last : L) (before between : S)
+    (each : ServesEach comes (ServedTo view) n old last before between) (there : (view before).is_available) where
+  abbrev rosters : Rosters
+  rosters = rosters_over comes view n old last before between each
+
+  pub each_answered : (view between).is_intact → AnswersOrMore view rosters before between
+  each_answered intact start past stands =
+      let known = at_first view settled start before past there stands (leaves_laid_out before there (stands there).0)
+      in
+      let (next, goes, left) = each_in_doubt view settled start comes old before n last between each intact
+      (no_doubt past) known in
+      or_more view settled start rosters past next between goes left
+
+  -- and some messages of one more
+  pub connections_answered : (users : List SubjectModel) (after : S) (ms : List MessageModel) (out : List ℕ)
+      → AllByRecursion IsMessage ms → Outputs (MayAnswer view users) between ms out after
+      → (view after).is_intact → AnswersOrMore view (users ∷ rosters) before after
+  connections_answered users after ms out lawful run intact start past stands =
+      let was = intact_before view users between after ms out run intact in
+      let known = at_first view settled start before past there stands (leaves_laid_out before there (stands there).0)
+      in
+      let (mid, goes, left) = each_in_doubt view settled start comes old before n last between each was
+      (no_doubt past) known in
+      let (next, on, more) = some_in_doubt view settled start users rosters between after ms out lawful run intact mid
+      left in
+      or_more view settled start (users ∷ rosters) past next after (mid.past, goes, on) more

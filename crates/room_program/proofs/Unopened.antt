@@ -1,29 +1,19 @@
 -- Files in which no store was to be had hold what they held.
-use Rattle.std.proofs.Common.{◌≡◌, ◌≢◌, ◌⊎◌, ◌∙◌, ℕ, ◌%◌, ◌≤◌, Bool, true, false, if◌then◌else◌, ◌==◌, IsTrue}
-use Rattle.std.proofs.Common.{refl, sym, subst, inl, inr, arith, true≢false}
-use Rattle.std.proofs.Math.Logic.{∥∥₁_map, ∥∥₁_elim}
+use Rattle.room_program.proofs.Common.{◌≡◌, ◌≢◌, ◌⊎◌, ◌∙◌, ℕ, ◌%◌, ◌≤◌, Bool, true, false, if◌then◌else◌, ◌==◌, IsTrue}
+use Rattle.room_program.proofs.Common.{refl, sym, subst, inl, inr, arith, true≢false, ∥∥₁_map, ∥∥₁_elim, Ghosts, Trees}
+use Rattle.room_program.proofs.Common.{outcomes, Image, IsIgnored, Database, IsDatabase, AreDatabases, recovers, view}
+use Rattle.room_program.proofs.Common.{HoldsDatabase, IsNothing, NamesSize, SaysSums, FileStore, opens_again, Unopened}
+use Rattle.room_program.proofs.Common.{Holds, MayBeLeft, IsRefusedIn, StayUnopened}
 use Rattle.std.proofs.lemmas.Bool.{cases_eq}
-use Rattle.sqlite_disk.specs.declared.Disk.{Ghosts}
-use Rattle.sqlite_trees.specs.Tree.{Trees}
 use Rattle.sqlite_trees.specs.Props.{Trees-set}
 use Rattle.sqlite_pool.specs.Stored.{reserved, stored_size, is_summed, StandsAs}
 use Rattle.sqlite_pool.proofs.ProbeLemmas.{size_by_log, size_by_file, reserved_word}
 use Rattle.sqlite_store.specs.Unopened.{state_of}
-use Rattle.sqlite.specs.WalFiles.{outcomes}
-use Rattle.sqlite.specs.Recovery.{Image, IsIgnored}
 use Rattle.sqlite.specs.Recovery as raw
-use Rattle.sqlite.specs.Effect.{Database, IsDatabase}
-use Rattle.sqlite.specs.Held.{AreDatabases}
-use Rattle.sqlite.specs.FileStore.{recovers, view}
-use Rattle.sqlite.specs.Files.{HoldsDatabase, IsNothing, NamesSize, SaysSums}
-use Rattle.sqlite.specs.declared.FileStore.{FileStore}
 use Rattle.sqlite.specs.declared.error.Error.{Error}
 use Rattle.sqlite.specs.declared.Leftover.{Leftover}
 use Rattle.sqlite.specs.declared.Leftover.TheVariants as leftover
-use Rattle.sqlite.proofs.Theorems.{opens_again}
 use Rattle.sqlite.proofs.FileLemmas.{is_something}
-use Rattle.room_program.specs.declared.left.Left.TheVariants.{Unopened}
-use Rattle.room_program.specs.Found.{Holds, MayBeLeft, IsRefusedIn, StayUnopened}
 
 -- a crash leaves of a store what it may leave alone
 pub may_hold : {D : Type 0} (g : Ghosts D) (it : FileStore D g) (image : Image) (db : Database) → MayBeLeft it image

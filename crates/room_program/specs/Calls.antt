@@ -21,21 +21,22 @@ pub record IsUnknown (e : Exchange) : Type 0 where
   pub output : e.output ≡ None
   pub written : e.written ≡ None
 
--- so many connections were accepted, one after another, and what was served is what went over them
-abbrev pub ServesEach : {L S : Type 0} → (accepts : L → Exchange → L → Type 0) → (serves : S → Exchange → S → Type 0)
+-- so many connections were accepted, one after another, and what was served is what went over them; `E` is what is
+-- known of each
+abbrev pub ServesEach : {L S E : Type 0} → (accepts : L → E → L → Type 0) → (serves : S → E → S → Type 0)
     → ℕ → (old new : L) → (before after : S) → Type 0
 ServesEach accepts serves zero old new before after = (new ≡ old) × (after ≡ before)
-ServesEach {L} {S} accepts serves (suc n) old new before after =
+ServesEach {L} {S} {E} accepts serves (suc n) old new before after =
     (last : L) × (between : S) × ServesEach accepts serves n old last before between
-    × ((e : Exchange) × accepts last e new × serves between e after)
+    × ((e : E) × accepts last e new × serves between e after)
 
 -- so many were accepted, whatever served them
 abbrev pub AcceptsEach : {L : Type 0} → (accepts : L → Exchange → L → Type 0) → ℕ → L → L → Type 0
 AcceptsEach accepts n old new = ServesEach {S = Unit {0}} accepts (λ before e after. Unit {0}) n old new tt tt
 
 -- fewer were, and then none could be accepted
-abbrev pub ServesFewer : {L S : Type 0} → (accepts : L → Exchange → L → Type 0) → (fails : L → L → Type 0)
-    → (serves : S → Exchange → S → Type 0) → ℕ → (old new : L) → (before after : S) → Type 0
+abbrev pub ServesFewer : {L S E : Type 0} → (accepts : L → E → L → Type 0) → (fails : L → L → Type 0)
+    → (serves : S → E → S → Type 0) → ℕ → (old new : L) → (before after : S) → Type 0
 ServesFewer {L} accepts fails serves count old new before after =
     (n : ℕ) × (n < count) × (last : L) × ServesEach accepts serves n old last before after × fails last new
 

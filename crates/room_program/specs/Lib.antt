@@ -7,6 +7,7 @@ pub mod Halts
 pub mod Restarts
 pub mod Machines
 pub mod Replays
+pub mod Rolls
 pub mod Rooms
 pub mod Runs
 pub mod Streams

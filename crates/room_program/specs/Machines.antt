@@ -16,10 +16,19 @@ pub data Call (C : Type 0) : Type 0 where
   leaves : (left : C) → Call C
   -- whether connections to a port of 127.0.0.1 are listened for
   listens : (port : ℕ) → (done : Bool) → Call C
+  -- whether one of them came, which is served next
+  waits : (came : Bool) → Call C
+  -- a line is shown to whoever runs the program
+  warns : (line : List ℕ) → Call C
   -- whether they are listened for, on a free port where they were not yet, and one more was made and sent these bytes
   asks : (sent : List ℕ) → (done : Bool) → Call C
   -- all that the connection made last was answered, where it can be read
   hears : (answers : Option (List ℕ)) → Call C
+
+-- a store is closed, so that its log is copied, or let go
+abbrev pub given_up : {C : Type 0} → (copies : Bool) → C → Call C
+given_up true c = closes c
+given_up false c = leaves c
 
 -- what a call was answered, where it did not fail
 abbrev pub answer : {A E : Type 0} → Result A E → Option A

@@ -12,7 +12,7 @@ use Rattle.room_desk.specs.AnswerModel.{AnswerModel, Refused}
 use Rattle.room_desk.specs.History.{History, answer_to, changes_rows}
 use Rattle.room_desk.specs.Representation.{RepresentsHistory, StandsFor}
 use Rattle.room_program.specs.Found.{HoldsRoom}
-use Rattle.room_program.specs.Streams.{GoesOn}
+use Rattle.room_program.specs.Streams.{GoesOnBy}
 
 -- ---- a stop, and the event that is sent again
 
@@ -24,40 +24,46 @@ ActsOnce start past event answered after =
 
 -- ---- one run after another
 
--- a message of these users asks this event
-abbrev pub MayAsk : List SubjectModel → EventModel → Type 0
-MayAsk users event = (m : MessageModel) × IsMessage m × (ask_of users m ≡ Ok (Event event))
+-- the users of each connection of a run, those of the last one first
+abbrev pub Rosters : Type 0
+Rosters = List (List SubjectModel)
 
--- this holds of a history, or of it with one event more, which a message of these users asks and which changes what is
--- kept
-abbrev pub OrMore : List SubjectModel → History → (History → Type 0) → Type 0
-OrMore users past Holds = Holds past
-    ⊎ ((event : EventModel) × MayAsk users event × ((changes_rows past event ≡ true) × Holds (event ∷ past)))
+-- a message of the users of one of these connections asks this event
+abbrev pub MayAsk : Rosters → EventModel → Type 0
+MayAsk [] event = ⊥
+MayAsk (users ∷ earlier) event =
+    ((m : MessageModel) × IsMessage m × (ask_of users m ≡ Ok (Event event))) ⊎ MayAsk earlier event
 
--- a history went on by messages of these users, and perhaps by an event that was under way as a fault shut the store
-abbrev pub GoesOnOrMore : List SubjectModel → Room → (past next : History) → Type 0
-GoesOnOrMore users start past next =
-    (told : History) × GoesOn users start past told × OrMore users told (λ last. next ≡ last)
+-- this holds of a history, or of it with one event more, which such a message asks and which changes what is kept
+abbrev pub OrMore : Rosters → History → (History → Type 0) → Type 0
+OrMore rosters past Holds = Holds past
+    ⊎ ((event : EventModel) × MayAsk rosters event × ((changes_rows past event ≡ true) × Holds (event ∷ past)))
 
--- a room that the files held is in those that were left, and its history went on by messages of these users
-abbrev pub KeepsRoom : List SubjectModel → (found left : Image) → Type 0
-KeepsRoom users found left = (start : Room) (past : History) → HoldsRoom found start past
-    → (next : History) × GoesOn users start past next × HoldsRoom left start next
+-- a history went on by messages of each connection's users, and perhaps by an event that was under way as a fault shut
+-- the store
+abbrev pub GoesOnOrMore : Rosters → Room → (past next : History) → Type 0
+GoesOnOrMore rosters start past next =
+    (told : History) × GoesOnBy rosters start past told × OrMore rosters told (λ last. next ≡ last)
+
+-- a room that the files held is in those that were left, and its history went on by messages of each connection's users
+abbrev pub KeepsRoom : Rosters → (found left : Image) → Type 0
+KeepsRoom rosters found left = (start : Room) (past : History) → HoldsRoom found start past
+    → (next : History) × GoesOnBy rosters start past next × HoldsRoom left start next
 
 -- the same, where a fault had shut the store
-abbrev pub KeepsRoomOrMore : List SubjectModel → (found left : Image) → Type 0
-KeepsRoomOrMore users found left = (start : Room) (past : History) → HoldsRoom found start past
-    → ∥ ((next : History) × GoesOnOrMore users start past next × HoldsRoom left start next) ∥₁
+abbrev pub KeepsRoomOrMore : Rosters → (found left : Image) → Type 0
+KeepsRoomOrMore rosters found left = (start : Room) (past : History) → HoldsRoom found start past
+    → ∥ ((next : History) × GoesOnOrMore rosters start past next × HoldsRoom left start next) ∥₁
 
 -- a step for each of these, one after another
 abbrev pub Steps : {U A : Type 0} → (U → A → A → Type 0) → List U → A → A → Type 0
 Steps step [] from to = to ≡ from
 Steps {U} {A} step (one ∷ more) from to = (mid : A) × step one from mid × Steps step more mid to
 
--- messages of these users were answered, and then a crash leaves records that stand for the history by their answers,
--- or for it with one event more, and that are laid out
-abbrev pub AnswersOrMore : {S : Type 0} (view : S → View) → List SubjectModel → S → S → Type 0
-AnswersOrMore view users before after = (start : Room) (past : History) → StandsFor start past (view before)
-    → (next : History) × GoesOn users start past next
-    × LeavesNew (view after) (λ left. OrMore users next (RepresentsHistory start left))
+-- messages of each connection's users were answered, and then a crash leaves records that stand for the history by
+-- their answers, or for it with one event more, and that are laid out
+abbrev pub AnswersOrMore : {S : Type 0} (view : S → View) → Rosters → S → S → Type 0
+AnswersOrMore view rosters before after = (start : Room) (past : History) → StandsFor start past (view before)
+    → (next : History) × GoesOnBy rosters start past next
+    × LeavesNew (view after) (λ left. OrMore rosters next (RepresentsHistory start left))
     × (view after).leaves_laid_out

@@ -1,5 +1,5 @@
 -- A history that goes on by the messages of one stream after another.
-use Rattle.std.specs.Prelude.{◌≡◌, ℕ, List, ◌++◌}
+use Rattle.std.specs.Prelude.{◌≡◌, ℕ, List, [], ◌∷◌, ◌++◌}
 use Rattle.std.specs.List.{AllByRecursion}
 use Rattle.room_acl.specs.SubjectModel.{SubjectModel}
 use Rattle.room_records.specs.Room.{Room}
@@ -22,6 +22,13 @@ pub record GoesOn (users : List SubjectModel) (start : Room) (past next : Histor
   pub events : List EventModel
   pub on : next ≡ events ++ past
 
+-- and so are the messages of one connection after another, each of the users that counted then: these stand in the
+-- list, those of the last connection first
+abbrev pub GoesOnBy : List (List SubjectModel) → Room → (past next : History) → Type 0
+GoesOnBy [] start past next = next ≡ past
+GoesOnBy (users ∷ earlier) start past next =
+    (mid : History) × GoesOnBy earlier start past mid × GoesOn users start mid next
+
 -- the bytes that went over a connection are messages and their answers, by a service that may change with each
 abbrev pub Carries : {S : Type 0} → (may_answer : S → MessageModel → AnswerModel → S → Type 0)
     → S → Exchange → S → Type 0
@@ -38,7 +45,8 @@ pub record Served {S : Type 0} (view : S → View) (users : List SubjectModel)
       (next : History) × Carries (AnswersMessage users start) past e next × StandsFor start next (view after)
 
 -- and over some connections, while the store is there: the history has gone on
-pub record ServesSome {S : Type 0} (view : S → View) (users : List SubjectModel) (before after : S) : Type 0 where
+pub record ServesSome {S : Type 0} (view : S → View) (rosters : List (List SubjectModel)) (before after : S)
+    : Type 0 where
   pub frame : ShelfFrame (view before) (view after)
   pub run : (view after).is_intact → (start : Room) (past : History) → StandsFor start past (view before) →
-      (next : History) × GoesOn users start past next × StandsFor start next (view after)
+      (next : History) × GoesOnBy rosters start past next × StandsFor start next (view after)

@@ -23,8 +23,8 @@ ghost use Rattle.room_program.specs.Files.{Adopted, Made, Takes, Unmade};
 ghost use Rattle.room_program.specs.Found.{HoldsRoom, HoldsStill, IsLeftBy, IsOpenedOver, MayBeLeft, SeesSums};
 ghost use Rattle.room_program.specs.Halts.{MayBeLeftThen, WereClean};
 ghost use Rattle.room_program.specs.Restarts.{Steps};
+ghost use Rattle.room_program.specs.Rolls.{Comes, ServedTo};
 ghost use Rattle.room_program.specs.Runs.{Runs, Streams, means};
-ghost use Rattle.room_program.specs.Streams.{Served};
 
 use crate::halts::{FileShelf, files_of};
 use crate::host::{FileConnection, Host};
@@ -55,20 +55,23 @@ pub fn a_run_that_ends_takes_its_attempts<S: Start>()
         TakesAttempts (sent_to_run program before later words old new status ran) (image_at S.Start) left }
 {}
 
-/// So does a run that stops with the shelf `last`: after so many connections, each served as `Desk::serve` promises,
-/// and after some messages of one more, each answered as there. A crash may leave the image `left` of its files. Where
-/// a run leaves the room with its history, also one that was cut off, it was sent nothing (`still`).
+/// So does a run that stops with the shelf `last`: after so many connections, each served as `Desk::serve` promises to
+/// the users that counted then, and after some messages of one more, each answered as there. A crash may leave the
+/// image `left` of its files. Where a run leaves the room with its history, also one that was cut off, it was sent
+/// nothing (`still`).
 pub fn a_run_that_stops_takes_its_attempts<S: Start>(
     last: CachedShelf<SqlShelf<FileStore<FileFrom<S>>>>,
 ) -> FileStore<FileFrom<S>>
-    ensures stopped { (opened taken between : _) (users : List SubjectModel) (n : ℕ) (bound over : _)
+    ensures stopped { let comes = Comes ⟦<Host<'static, S> as Machine<FileConnection<S>>>⟧.does
+        ⟦<Host<'static, S> as Listener>⟧.accepts in
+        let shows = ⟦<CachedShelf<SqlShelf<FileStore<FileFrom<S>>>> as Shelf>⟧.view in
+        (opened taken between : _) (roster : List ℕ) (users : List SubjectModel) (n : ℕ) (bound over : _)
         (ms : List MessageModel) (answers : List AnswerModel) (left : Image) →
         IsOpenedOver (image_at S.Start) opened → Adopted ⟦<FileStore<FileFrom<S>> as Store>⟧ opened taken →
-        (each : ServesEach ⟦<Host<'static, S> as Listener>⟧.accepts
-        (Served ⟦<CachedShelf<SqlShelf<FileStore<FileFrom<S>>>> as Shelf>⟧.view users) n bound over taken between) →
-        InTurn (MayAnswer ⟦<CachedShelf<SqlShelf<FileStore<FileFrom<S>>>> as Shelf>⟧.view users)
-        between ms answers last → IsClean (view result) → MayBeLeft last.0.conn.store left →
-        TakesAttempts (sent_over _ _ users n bound over taken between each ++ attempts_in users ms answers)
+        (each : ServesEach (comes roster) (ServedTo shows) n bound over taken between) →
+        InTurn (MayAnswer shows users) between ms answers last → IsClean (view result) →
+        MayBeLeft last.0.conn.store left →
+        TakesAttempts (sent_over (comes roster) shows n bound over taken between each ++ attempts_in users ms answers)
         (image_at S.Start) left }
     ensures still { (left : Image) → HoldsStill (image_at S.Start) left → TakesAttempts [] (image_at S.Start) left }
 {
@@ -78,31 +81,33 @@ pub fn a_run_that_stops_takes_its_attempts<S: Start>(
 /// And so does one that stops in the middle of an event, whose files act no more from some call on, wherever that is
 /// (`an_event_cut_off_leaves_old_or_new` says how this is modelled): nobody sees the answer to the last message, so a
 /// client heard less than these attempts tell.
-pub fn a_run_cut_off_takes_its_attempts<L: Listener, D: Disk + Drop>(
+pub fn a_run_cut_off_takes_its_attempts<C, M: Machine<C> + Listener, D: Disk + Drop>(
     last: FileShelf<Fuse<D>>,
 ) -> Files<Fuse<D>>
-    ensures { (opened taken between : _) (found : Image) (users : List SubjectModel) (n : ℕ) (bound over : L)
-        (ms : List MessageModel) (answers : List AnswerModel) (image : Image) → IsOpenedOver found opened →
-        Adopted ⟦<FileStore<Fuse<D>> as Store>⟧ opened taken →
-        (each : ServesEach L.accepts (Served ⟦<FileShelf<Fuse<D>> as Shelf>⟧.view users) n bound over taken between) →
-        InTurn (MayAnswer ⟦<FileShelf<Fuse<D>> as Shelf>⟧.view users) between ms answers last →
+    ensures { let comes = Comes M.does M.accepts in let shows = ⟦<FileShelf<Fuse<D>> as Shelf>⟧.view in
+        (opened taken between : _) (found : Image) (roster : List ℕ) (users : List SubjectModel) (n : ℕ)
+        (bound over : _) (ms : List MessageModel) (answers : List AnswerModel) (image : Image) →
+        IsOpenedOver found opened → Adopted ⟦<FileStore<Fuse<D>> as Store>⟧ opened taken →
+        (each : ServesEach (comes roster) (ServedTo shows) n bound over taken between) →
+        InTurn (MayAnswer shows users) between ms answers last →
         WereClean D.Disk result → MayBeLeftThen D.Disk result image →
-        TakesAttempts (sent_over _ _ users n bound over taken between each ++ attempts_in users ms answers)
+        TakesAttempts (sent_over (comes roster) shows n bound over taken between each ++ attempts_in users ms answers)
         found image }
 {
     files_of(last)
 }
 
 /// And one that stops in the middle of the close of its store, as it copies the log into the database file.
-pub fn a_close_cut_off_takes_its_attempts<L: Listener, D: Disk + Drop>(
+pub fn a_close_cut_off_takes_its_attempts<C, M: Machine<C> + Listener, D: Disk + Drop>(
     closed: Connection<FileStore<Fuse<D>>>,
 ) -> Left<Fuse<D>>
-    ensures { (opened taken last : _) (found : Image) (users : List SubjectModel) (n : ℕ) (bound over : L)
+    ensures { let comes = Comes M.does M.accepts in let shows = ⟦<FileShelf<Fuse<D>> as Shelf>⟧.view in
+        (opened taken last : _) (found : Image) (roster : List ℕ) (n : ℕ) (bound over : _)
         (image : Image) → last.0.conn ≡ closed → IsOpenedOver found opened →
         Adopted ⟦<FileStore<Fuse<D>> as Store>⟧ opened taken →
-        (each : ServesEach L.accepts (Served ⟦<FileShelf<Fuse<D>> as Shelf>⟧.view users) n bound over taken last) →
+        (each : ServesEach (comes roster) (ServedTo shows) n bound over taken last) →
         IsLeftBy found result image →
-        TakesAttempts (sent_over _ _ users n bound over taken last each) found image }
+        TakesAttempts (sent_over (comes roster) shows n bound over taken last each) found image }
 {
     closed_off(closed)
 }
@@ -133,22 +138,23 @@ pub fn a_client_acts_once_over_files()
 /// So it is told in a run that goes on: over the files that the runs before it left, after so many connections, and
 /// after some messages of one more.
 pub fn a_client_is_told_of_its_one_run<S: Start>()
-    ensures { (start : Room) (lane : Lane) (past : History) (runs : List (List Attempt)) (found : Image)
+    ensures { let comes = Comes ⟦<Host<'static, S> as Machine<FileConnection<S>>>⟧.does
+        ⟦<Host<'static, S> as Listener>⟧.accepts in
+        let shows = ⟦<CachedShelf<SqlShelf<FileStore<FileFrom<S>>>> as Shelf>⟧.view in
+        (start : Room) (lane : Lane) (past : History) (runs : List (List Attempt)) (found : Image)
         (sent later : List Attempt) (asked : Attempt) (command : CommandModel) (client : Client)
-        (opened taken between last : _) (users : List SubjectModel) (n : ℕ) (bound over : _)
+        (opened taken between last : _) (roster : List ℕ) (users : List SubjectModel) (n : ℕ) (bound over : _)
         (ms : List MessageModel) (answers : List AnswerModel) → HoldsRoom found start past → HoldsSlot lane past →
         Steps TakesAttempts runs found (image_at S.Start) → IsOpenedOver (image_at S.Start) opened →
         Adopted ⟦<FileStore<FileFrom<S>> as Store>⟧ opened taken →
-        (each : ServesEach ⟦<Host<'static, S> as Listener>⟧.accepts
-        (Served ⟦<CachedShelf<SqlShelf<FileStore<FileFrom<S>>>> as Shelf>⟧.view users) n bound over taken between) →
-        InTurn (MayAnswer ⟦<CachedShelf<SqlShelf<FileStore<FileFrom<S>>>> as Shelf>⟧.view users)
-        between ms answers last → (⟦<CachedShelf<SqlShelf<FileStore<FileFrom<S>>>> as Shelf>⟧.view last).is_intact →
+        (each : ServesEach (comes roster) (ServedTo shows) n bound over taken between) →
+        InTurn (MayAnswer shows users) between ms answers last → (shows last).is_intact →
         HearsLess (flat_map (λ sent. sent) runs
-        ++ (sent_over _ _ users n bound over taken between each ++ attempts_in users ms answers))
+        ++ (sent_over (comes roster) shows n bound over taken between each ++ attempts_in users ms answers))
         (sent ++ asked ∷ later) →
         KeepsRule lane (length (ran lane past)) idle sent client → suc (length client.done) < 2 ^ 32 →
         IsAsk lane (length (ran lane past) + length client.done) command asked.event → is_lost asked.told ≡ false →
         ∥ ((then next : History) × Taken start past (sent ++ asked ∷ []) then
         × IsTold lane start (length (ran lane past)) client then command asked.told × Taken start then later next
-        × StandsFor start next (⟦<CachedShelf<SqlShelf<FileStore<FileFrom<S>>>> as Shelf>⟧.view last)) ∥₁ }
+        × StandsFor start next (shows last)) ∥₁ }
 {}

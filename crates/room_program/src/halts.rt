@@ -21,7 +21,7 @@ ghost use Rattle.room_program.specs.Found.{HoldsStill, SeesSums};
 ghost use Rattle.room_program.specs.Rooms.{WritesReport};
 ghost use Rattle.room_program.specs.Halts.{WereClean, MayBeLeftThen, AnsweredThenLeft, HoldsOldOrNew, HoldsRoomWith};
 ghost use Rattle.room_program.specs.Halts.{connection_of, HoldsFreshOrNone, HoldsOldOrBeside};
-ghost use Rattle.room_program.specs.Restarts.{ActsOnce, AnswersOrMore, KeepsRoomOrMore};
+ghost use Rattle.room_program.specs.Restarts.{ActsOnce, AnswersOrMore, KeepsRoomOrMore, Rosters};
 
 use crate::left::{Left, closed_off, store_in, store_under};
 use room_cache::CachedShelf;
@@ -165,10 +165,10 @@ pub fn a_close_cut_off_leaves_the_room<D: Disk + Drop>(
         → StandsFor start past (⟦<FileShelf<Fuse<D>> as Shelf>⟧.view last)
         → (⟦<FileShelf<Fuse<D>> as Shelf>⟧.view last).is_available → IsLeftBy found result image
         → HoldsRoom image start past }
-    ensures shut { (opened : _) (taken last : _) (users : List SubjectModel) (found image : Image) →
+    ensures shut { (opened : _) (taken last : _) (rosters : Rosters) (found image : Image) →
         last.0.conn ≡ closed → IsOpenedOver found opened → Adopted ⟦<FileStore<Fuse<D>> as Store>⟧ opened taken
-        → AnswersOrMore ⟦<FileShelf<Fuse<D>> as Shelf>⟧.view users taken last → IsLeftBy found result image
-        → KeepsRoomOrMore users found image }
+        → AnswersOrMore ⟦<FileShelf<Fuse<D>> as Shelf>⟧.view rosters taken last → IsLeftBy found result image
+        → KeepsRoomOrMore rosters found image }
     ensures made { (opened : _) (owner group : List ℕ) (found image : Image) → IsOpenedOver found opened
         → Made ⟦<FileStore<Fuse<D>> as Store>⟧ owner group opened closed → HoldsNothing found
         → IsLeftBy found result image → HoldsRoom image (fresh_room owner group) [] }

@@ -9,7 +9,8 @@ ghost use Rattle.room_program.specs.Found.{ActsOn};
 use crate::left::{Left, closed_off, store_in};
 use crate::listening::{Listener, Server};
 use crate::machine::Machine;
-use room_records::Roster;
+use crate::network::{accept, serve_stream};
+use room_records::{Roster, write_whole};
 use sqlite::{Connection, Error, ErrorCode, FileFrom, FileStore, Start};
 use sqlite_disk::Disk;
 use std::fs;
@@ -27,7 +28,7 @@ pub type FileConnection<S> = Connection<FileStore<FileFrom<S>>>;
 /// No contract can say which file a call of the system reaches, nor who else does. So these methods are to be read for
 /// it: that `open` hands on its path, as the other two hand on theirs, and a store that was opened; that nothing here
 /// writes a file but the store, nor removes one; and that `listen` listens at `local` alone, and `serve_next` has
-/// served what comes there.
+/// served what comes there: the connection that `wait_next` took, before any other.
 pub type Host<'a, S> = HostOver<'a, S, FileFrom<S>>;
 
 /// The same, where `D` is the type of the store's two files.
@@ -37,6 +38,8 @@ pub struct HostOver<'a, S: Start, D: Disk> {
     /// It stands for the files of one path, so it is used up as they are opened.
     start: Option<S>,
     listener: Option<TcpListener>,
+    /// The connection that was waited for, until it is served.
+    came: Option<TcpStream>,
     /// The connection that it made last, to itself.
     client: Option<TcpStream>,
     left: Left<D>,
@@ -54,6 +57,7 @@ impl<'a, S: Start, D: Disk> HostOver<'a, S, D> {
             rt,
             start: Some(start),
             listener: None,
+            came: None,
             client: None,
             left: Left::Nothing,
         }
@@ -126,17 +130,30 @@ impl<'a, S: Start> Machine<FileConnection<S>> for Host<'a, S> {
         open(self.rt, path, start, &mut self.left)
     }
 
-    fn close(&mut self, connection: FileConnection<S>) {
-        self.left = close(connection);
-    }
-
-    fn leave(&mut self, connection: FileConnection<S>) {
-        self.left = keep(connection);
+    fn give_up(&mut self, connection: FileConnection<S>, copies: bool) {
+        if copies {
+            self.left = close(connection);
+        } else {
+            self.left = keep(connection);
+        }
     }
 
     fn listen(&mut self, port: u16) -> io::Result<()> {
         self.listener = Some(TcpListener::bind(self.rt, local(port))?);
         Ok(())
+    }
+
+    fn wait_next(&mut self) -> io::Result<()> {
+        let Some(listener) = &self.listener else {
+            return Err(io::Error::from(ErrorKind::NotConnected));
+        };
+        self.came = Some(accept(listener)?);
+        Ok(())
+    }
+
+    fn warn(&mut self, line: &str) {
+        // With standard error gone there is nobody left to tell.
+        let _ = write_whole(&mut self.rt.stderr(), line.as_bytes());
     }
 
     fn ask(&mut self, requests: &str) -> io::Result<()> {
@@ -173,6 +190,10 @@ impl<'a, S: Start> Listener for Host<'a, S> {
     ghost fails = { λ old new. new.left ≡ old.left };
 
     fn serve_next<V: Server>(&mut self, server: &mut V, roster: &Roster) -> io::Result<()> {
+        if let Some(stream) = self.came.take() {
+            serve_stream(stream, server, roster);
+            return Ok(());
+        }
         match &mut self.listener {
             Some(listener) => listener.serve_next(server, roster),
             None => Err(io::Error::from(ErrorKind::NotConnected)),

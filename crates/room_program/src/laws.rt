@@ -26,14 +26,15 @@ ghost use Rattle.room_program.specs.Ends.{InitEnds, SelftestEnds};
 ghost use Rattle.room_program.specs.Files.{Adopted, Made, Takes, TakesRoom, TakesRoster, Unmade, Untaken};
 ghost use Rattle.room_program.specs.Machines.Call.{opens, closes, leaves};
 ghost use Rattle.room_program.specs.Replays.{Replays};
-ghost use Rattle.room_program.specs.Rooms.{Listens, WritesReport, report_text};
+ghost use Rattle.room_program.specs.Rolls.{Comes, Roll, ServedTo, rosters_over};
+ghost use Rattle.room_program.specs.Rooms.{Listens, WritesReport, report_text, rosters_in};
 ghost use Rattle.room_words.specs.declared.job.ReportKind.{ReportKind};
-ghost use Rattle.room_program.specs.Streams.{GoesOn, Served};
+ghost use Rattle.room_program.specs.Streams.{GoesOnBy};
 ghost use Rattle.room_program.specs.Found.{Holds, HoldsNothing, HoldsRoom, IsOpenedOver, IsLeftBy, MayBeLeft};
 ghost use Rattle.room_program.specs.Found.{HoldsStill, SeesSums, SparesRoom};
 ghost use Rattle.room_program.specs.Restarts.{ActsOnce, AnswersOrMore};
 ghost use Rattle.room_program.specs.Restarts.{Steps, KeepsRoom, KeepsRoomOrMore};
-ghost use Rattle.room_program.specs.Restarts.{GoesOnOrMore};
+ghost use Rattle.room_program.specs.Restarts.{GoesOnOrMore, Rosters};
 
 use crate::host::{FileConnection, Host};
 use crate::left::{Left, store_off, store_under};
@@ -46,44 +47,46 @@ use sqlite::{FileFrom, FileStore, Start};
 use sqlite_trees::store::Store;
 
 /// Restart as often as you like: however many runs follow one another, each over the files that the one before it left,
-/// the room and its history are in them, and the history only went on, in each run by messages of users of its own
-/// roster (`again`). Where a fault shut the store in some of them, the event that was under way then may have joined it
-/// (`in_doubt`). A run of the one kind is one of the other too (`either`), and so is one that leaves the room as it was
-/// (`still`).
+/// the room and its history are in them, and the history only went on, in each connection of each run by messages of
+/// the users that counted there (`again`). Where a fault shut the store in some of them, the event that was under way
+/// then may have joined it (`in_doubt`). A run of the one kind is one of the other too (`either`), and so is one that
+/// leaves the room as it was (`still`).
 pub fn a_room_outlives_its_runs()
-    ensures again { (rosters : List (List SubjectModel)) (found left : Image) (start : Room) (past : History) →
-        Steps KeepsRoom rosters found left → HoldsRoom found start past
-        → (next : History) × Steps (λ users past next. GoesOn users start past next) rosters past next
+    ensures again { (runs : List Rosters) (found left : Image) (start : Room) (past : History) →
+        Steps KeepsRoom runs found left → HoldsRoom found start past
+        → (next : History) × Steps (λ rosters past next. GoesOnBy rosters start past next) runs past next
         × HoldsRoom left start next }
-    ensures in_doubt { (rosters : List (List SubjectModel)) (found left : Image) (start : Room) (past : History) →
-        Steps KeepsRoomOrMore rosters found left → HoldsRoom found start past
-        → ∥ ((next : History) × Steps (λ users past next. GoesOnOrMore users start past next) rosters past next
+    ensures in_doubt { (runs : List Rosters) (found left : Image) (start : Room) (past : History) →
+        Steps KeepsRoomOrMore runs found left → HoldsRoom found start past
+        → ∥ ((next : History) × Steps (λ rosters past next. GoesOnOrMore rosters start past next) runs past next
         × HoldsRoom left start next) ∥₁ }
-    ensures either { (users : List SubjectModel) (found left : Image) →
-        KeepsRoom users found left → KeepsRoomOrMore users found left }
-    ensures still { (users : List SubjectModel) (found left : Image) →
-        HoldsStill found left → KeepsRoomOrMore users found left }
+    ensures either { (rosters : Rosters) (found left : Image) →
+        KeepsRoom rosters found left → KeepsRoomOrMore rosters found left }
+    ensures still { (rosters : Rosters) (found left : Image) →
+        HoldsStill found left → KeepsRoomOrMore rosters found left }
 {}
 
 /// What a run does to the files, where they held what `S` stands for as they were opened: said of the calls that
 /// `run_program` tells of (`runs`), while the disk returns what was written. A `serve` that took a room with a history
-/// goes on with it: the rows of the store that it closes stand for that history followed by events that messages of
-/// users of the roster ask, where no fault has shut the store, and the files then hold the room with it (`serve`). A
-/// `report` that is done wrote that of this room, and leaves it (`report`). `init` makes a room only where there was
-/// none, and where there was no file, the files hold the fresh room then (`init`). Where no room was taken or made, the
-/// files are spared (`untaken`, `unmade`). Whatever else a run asks leaves them as they are (`roster`, `replay`,
-/// `selftest`).
+/// goes on with it: the rows of the store that it closes stand for that history followed by events that messages ask,
+/// in each connection those of the users that counted there, where no fault has shut the store, and the files then hold
+/// the room with it (`serve`). A `report` that is done wrote that of this room, and leaves it (`report`). `init` makes
+/// a room only where there was none, and where there was no file, the files hold the fresh room then (`init`). Where no
+/// room was taken or made, the files are spared (`untaken`, `unmade`). Whatever else a run asks leaves them as they are
+/// (`roster`, `replay`, `selftest`).
 pub fn a_run_does_so_to_its_files<S: Start>()
-    ensures serve { (db : List ℕ) (users : List SubjectModel) (port count : ℕ) (read taken over later : _)
+    ensures serve { let does = ⟦<Host<'static, S> as Machine<FileConnection<S>>>⟧.does in
+        let accepts = ⟦<Host<'static, S> as Listener>⟧.accepts in let fails = ⟦<Host<'static, S> as Listener>⟧.fails in
+        let view = ⟦<CachedShelf<SqlShelf<FileStore<FileFrom<S>>>> as Shelf>⟧.view in
+        (db roster : List ℕ) (first : Roll) (port count : ℕ) (read taken over later : _)
         (shelf last : _) (done : Result (Unit {0}) Fault) (start : Room) (past : History) →
-        TakesRoom ⟦<Host<'static, S> as Machine<FileConnection<S>>>⟧.does
+        TakesRoom does
         (λ opened taken. Takes ⟦<FileStore<FileFrom<S>> as Store>⟧ opened taken) db read taken (Ok shelf) →
-        Listens ⟦<Host<'static, S> as Machine<FileConnection<S>>>⟧.does
-        ⟦<Host<'static, S> as Listener>⟧.accepts ⟦<Host<'static, S> as Listener>⟧.fails
-        ⟦<CachedShelf<SqlShelf<FileStore<FileFrom<S>>>> as Shelf>⟧.view users port count taken over shelf last done →
-        ⟦<Host<'static, S> as Machine<FileConnection<S>>>⟧.does over (closes last.0.conn) later →
+        (listens : Listens does accepts fails view roster first port count taken over shelf last done) →
+        does over (closes last.0.conn) later →
         HasCleanDisk (file_state last.0.conn) → HoldsRoom (image_at S.Start) start past
-        → (next : History) × GoesOn users start past next × (IsTrue (file_state last.0.conn).is_open
+        → (next : History) × GoesOnBy (rosters_in does accepts fails view roster first port count taken over shelf last
+        done listens) start past next × (IsTrue (file_state last.0.conn).is_open
         → RepresentsHistory start (records_of (file_state last.0.conn).now.trees) next
         × ((left : Image) → IsLeftBy (image_at S.Start) later.left left → HoldsRoom left start next)) }
     ensures report { (db : List ℕ) (kind : ReportKind) (users : List SubjectModel) (read seen later : _)
@@ -135,25 +138,30 @@ pub fn a_run_does_so_to_its_files<S: Start>()
 /// (`report`); so did a run that could not take it, whatever the fault, also one in the middle of an upgrade
 /// (`untaken`), and an `init` over it (`init`). A database that is no room stays as it was (`no_room`).
 pub fn a_run_that_ends_keeps_the_room<S: Start>()
-    ensures serve { (db : List ℕ) (users : List SubjectModel) (port count : ℕ) (read taken over later : _)
+    ensures serve { let does = ⟦<Host<'static, S> as Machine<FileConnection<S>>>⟧.does in
+        let accepts = ⟦<Host<'static, S> as Listener>⟧.accepts in let fails = ⟦<Host<'static, S> as Listener>⟧.fails in
+        let view = ⟦<CachedShelf<SqlShelf<FileStore<FileFrom<S>>>> as Shelf>⟧.view in
+        (db roster : List ℕ) (first : Roll) (port count : ℕ) (read taken over later : _)
         (shelf last : _) (done : Result (Unit {0}) Fault) (left : Image) →
-        TakesRoom ⟦<Host<'static, S> as Machine<FileConnection<S>>>⟧.does
+        TakesRoom does
         (λ opened taken. Takes ⟦<FileStore<FileFrom<S>> as Store>⟧ opened taken) db read taken (Ok shelf) →
-        Listens ⟦<Host<'static, S> as Machine<FileConnection<S>>>⟧.does
-        ⟦<Host<'static, S> as Listener>⟧.accepts ⟦<Host<'static, S> as Listener>⟧.fails
-        ⟦<CachedShelf<SqlShelf<FileStore<FileFrom<S>>>> as Shelf>⟧.view users port count taken over shelf last done →
-        ⟦<Host<'static, S> as Machine<FileConnection<S>>>⟧.does over (closes last.0.conn) later →
+        (listens : Listens does accepts fails view roster first port count taken over shelf last done) →
+        does over (closes last.0.conn) later →
         IsTrue (file_state last.0.conn).is_open → IsLeftBy (image_at S.Start) later.left left
-        → KeepsRoom users (image_at S.Start) left }
-    ensures serve_shut { (db : List ℕ) (users : List SubjectModel) (port count : ℕ) (read taken over later : _)
+        → KeepsRoom (rosters_in does accepts fails view roster first port count taken over shelf last done listens)
+        (image_at S.Start) left }
+    ensures serve_shut { let does = ⟦<Host<'static, S> as Machine<FileConnection<S>>>⟧.does in
+        let accepts = ⟦<Host<'static, S> as Listener>⟧.accepts in let fails = ⟦<Host<'static, S> as Listener>⟧.fails in
+        let view = ⟦<CachedShelf<SqlShelf<FileStore<FileFrom<S>>>> as Shelf>⟧.view in
+        (db roster : List ℕ) (first : Roll) (port count : ℕ) (read taken over later : _)
         (shelf last : _) (done : Result (Unit {0}) Fault) (left : Image) →
-        TakesRoom ⟦<Host<'static, S> as Machine<FileConnection<S>>>⟧.does
+        TakesRoom does
         (λ opened taken. Takes ⟦<FileStore<FileFrom<S>> as Store>⟧ opened taken) db read taken (Ok shelf) →
-        Listens ⟦<Host<'static, S> as Machine<FileConnection<S>>>⟧.does
-        ⟦<Host<'static, S> as Listener>⟧.accepts ⟦<Host<'static, S> as Listener>⟧.fails
-        ⟦<CachedShelf<SqlShelf<FileStore<FileFrom<S>>>> as Shelf>⟧.view users port count taken over shelf last done →
-        ⟦<Host<'static, S> as Machine<FileConnection<S>>>⟧.does over (closes last.0.conn) later →
-        IsLeftBy (image_at S.Start) later.left left → KeepsRoomOrMore users (image_at S.Start) left }
+        (listens : Listens does accepts fails view roster first port count taken over shelf last done) →
+        does over (closes last.0.conn) later →
+        IsLeftBy (image_at S.Start) later.left left
+        → KeepsRoomOrMore (rosters_in does accepts fails view roster first port count taken over shelf last done
+        listens) (image_at S.Start) left }
     ensures report { (db : List ℕ) (kind : ReportKind) (users : List SubjectModel) (read seen later : _)
         (taken last : _) (old new : Option (List ℕ)) (done : Result (Unit {0}) Fault) (left : Image) →
         TakesRoom ⟦<Host<'static, S> as Machine<FileConnection<S>>>⟧.does
@@ -182,41 +190,45 @@ pub fn a_run_that_ends_keeps_the_room<S: Start>()
 
 /// And so does one that stops between two connections, with the shelf `last`, while its store is there: a crash may
 /// leave the image `left` of its files. Each of the `count` connections before was served as `Desk::serve` promises
-/// (`there`: the invariant of `serve_listener`, whose own clause a run that stops never reaches). Once a fault has shut
+/// (`there`: the invariant of `serve_machine`, whose own clause a run that stops never reaches). Once a fault has shut
 /// the store, it keeps the room, or the room with one event more (`shut`); of a `report` with its history, whether one
 /// has or not (`report`). The store has returned what was written, also as it is taken out of its connection.
 pub fn a_run_that_stops_keeps_the_room<S: Start>(
     last: CachedShelf<SqlShelf<FileStore<FileFrom<S>>>>,
 ) -> FileStore<FileFrom<S>>
-    ensures there { (opened : _) (taken : _) (users : List SubjectModel) (count : ℕ) (bound over : _) (left : Image) →
+    ensures there { let comes = Comes ⟦<Host<'static, S> as Machine<FileConnection<S>>>⟧.does
+        ⟦<Host<'static, S> as Listener>⟧.accepts in
+        let shows = ⟦<CachedShelf<SqlShelf<FileStore<FileFrom<S>>>> as Shelf>⟧.view in
+        (opened : _) (taken : _) (roster : List ℕ) (count : ℕ) (bound over : _) (left : Image) →
         IsOpenedOver (image_at S.Start) opened → Adopted ⟦<FileStore<FileFrom<S>> as Store>⟧ opened taken →
-        ServesEach ⟦<Host<'static, S> as Listener>⟧.accepts
-        (Served ⟦<CachedShelf<SqlShelf<FileStore<FileFrom<S>>>> as Shelf>⟧.view users) count bound over taken last →
-        IsClean (view result) → IsTrue (file_state last.0.conn).is_open →
-        MayBeLeft last.0.conn.store left → KeepsRoom users (image_at S.Start) left }
+        (each : ServesEach (comes roster) (ServedTo shows) count bound over taken last) →
+        IsClean (view result) → IsTrue (file_state last.0.conn).is_open → MayBeLeft last.0.conn.store left →
+        KeepsRoom (rosters_over (comes roster) shows count bound over taken last each) (image_at S.Start) left }
     ensures report { (opened : _) (taken : _) (kind : ReportKind) (users : List SubjectModel)
         (old new : Option (List ℕ)) (done : Result (Unit {0}) Fault) (left : Image) →
         IsOpenedOver (image_at S.Start) opened → Adopted ⟦<FileStore<FileFrom<S>> as Store>⟧ opened taken →
         WritesReport ⟦<CachedShelf<SqlShelf<FileStore<FileFrom<S>>>> as Shelf>⟧.view
         kind users taken last old new done →
         IsClean (view result) → MayBeLeft last.0.conn.store left → HoldsStill (image_at S.Start) left }
-    ensures shut { (opened : _) (taken : _) (users : List SubjectModel) (left : Image) →
+    ensures shut { (opened : _) (taken : _) (rosters : Rosters) (left : Image) →
         IsOpenedOver (image_at S.Start) opened → Adopted ⟦<FileStore<FileFrom<S>> as Store>⟧ opened taken →
-        AnswersOrMore ⟦<CachedShelf<SqlShelf<FileStore<FileFrom<S>>>> as Shelf>⟧.view users taken last →
-        IsClean (view result) → MayBeLeft last.0.conn.store left → KeepsRoomOrMore users (image_at S.Start) left }
+        AnswersOrMore ⟦<CachedShelf<SqlShelf<FileStore<FileFrom<S>>>> as Shelf>⟧.view rosters taken last →
+        IsClean (view result) → MayBeLeft last.0.conn.store left → KeepsRoomOrMore rosters (image_at S.Start) left }
 {
     store_under(last)
 }
 
-/// However many connections were served over a shelf whose store was there, and some messages of one more, a crash then
-/// leaves records that stand for the history by their answers, or for it with one event more, and that are laid out:
-/// also where a fault shut the store on the way.
-pub fn connections_leave_what_was_answered<L: Listener, S: Shelf>()
-    ensures { (users : List SubjectModel) (n : ℕ) (old last : L) (before between after : S)
+/// However many connections were served over a shelf whose store was there, and some messages of one more, of the users
+/// that count in it, a crash then leaves records that stand for the history by their answers, or for it with one event
+/// more, and that are laid out: also where a fault shut the store on the way.
+pub fn connections_leave_what_was_answered<C, M: Machine<C> + Listener, S: Shelf>()
+    ensures { let comes = Comes M.does M.accepts in
+        (roster : List ℕ) (users : List SubjectModel) (n : ℕ) (old last : _) (before between after : S)
         (ms : List MessageModel) (out : List ℕ) →
-        ServesEach L.accepts (Served S.view users) n old last before between → AllByRecursion IsMessage ms →
+        (each : ServesEach (comes roster) (ServedTo S.view) n old last before between) → AllByRecursion IsMessage ms →
         Outputs (MayAnswer S.view users) between ms out after → (S.view before).is_available →
-        (S.view after).is_intact → AnswersOrMore S.view users before after }
+        (S.view after).is_intact →
+        AnswersOrMore S.view (users ∷ rosters_over (comes roster) S.view n old last before between each) before after }
 {}
 
 /// The next run opens what this one left, which is what `T` stands for, and finds the database that this one saw last,

@@ -49,8 +49,8 @@ pub trait Listener {
     /// A connection could not be accepted.
     ghost fails: { Self → Self → Type 0 };
 
-    /// Waits for the next connection, has it served, however that ends, and closes it. Err where none can be accepted;
-    /// then nothing is served.
+    /// Waits for the next connection, if none was waited for already, has it served, however that ends, and closes it.
+    /// Err where none can be accepted; then nothing is served.
     fn serve_next<V: Server>(&mut self, server: &mut V, roster: &Roster) -> io::Result<()>
         ensures ok { OnOk result ((e : Exchange) × accepts self.old e self.new
             × V.serves roster.now server.old e server.new) }

@@ -1,7 +1,7 @@
 //! What a run asks of the machine that it runs on, beside its three streams.
 ghost use Rattle.std.specs.Prelude.{string_bytes, vec_items};
-ghost use Rattle.room_program.specs.Machines.{Call, answer, is_done, text_answer};
-ghost use Rattle.room_program.specs.Machines.Call.{reads, looks, opens, closes, leaves, listens, asks, hears};
+ghost use Rattle.room_program.specs.Machines.{Call, answer, given_up, is_done, text_answer};
+ghost use Rattle.room_program.specs.Machines.Call.{reads, looks, opens, listens, waits, warns, asks, hears};
 
 use sqlite::Error;
 use std::io;
@@ -25,18 +25,22 @@ pub trait Machine<C> {
     fn open(&mut self, path: &str) -> Result<C, Error>
         ensures opened { does self.old (opens path.now result) self.new };
 
-    /// Closes a store, so that the log beside its file is copied into it. Where that fails, both files
-    /// together hold what was written.
-    fn close(&mut self, connection: C)
-        ensures closed { does self.old (closes connection) self.new };
-
-    /// Lets a store go, and copies nothing: the log stays beside its file as it is.
-    fn leave(&mut self, connection: C)
-        ensures left { does self.old (leaves connection) self.new };
+    /// Gives a store up. Where it `copies`, the store is closed, so that the log beside its file is copied into it;
+    /// where that fails, both files together hold what was written. Else the log stays beside its file as it is.
+    fn give_up(&mut self, connection: C, copies: bool)
+        ensures given_up { does self.old (given_up copies connection) self.new };
 
     /// Listens on this port of 127.0.0.1.
     fn listen(&mut self, port: u16) -> io::Result<()>
         ensures bound { does self.old (listens port (is_done result)) self.new };
+
+    /// Waits until a connection comes, which `Listener::serve_next` then serves.
+    fn wait_next(&mut self) -> io::Result<()>
+        ensures waited { does self.old (waits (is_done result)) self.new };
+
+    /// Shows a line to whoever runs the program.
+    fn warn(&mut self, line: &str)
+        ensures warned { does self.old (warns line.now) self.new };
 
     /// Listens on a free port of 127.0.0.1, where it listens for nothing yet, makes a connection to it, and sends it
     /// these bytes and no more. The connection that was made before is closed.

@@ -25,7 +25,7 @@ fn make_room<S: Alter + Drop, M: Machine<Connection<S>>>(
 {
     match SqlShelf::init(alloc, connection, &standing.owner, &standing.group) {
         Ok(shelf) => {
-            machine.close(shelf.into_connection());
+            machine.give_up(shelf.into_connection(), true);
             Ok(())
         }
         Err((OpenFault::RoomExists, connection)) => {

@@ -24,7 +24,7 @@ fn outside<S: Alter + Drop, M: Machine<Connection<S>>>(
     if connection.is_autocommit() {
         return Ok(connection);
     }
-    machine.leave(connection);
+    machine.give_up(connection, false);
     Err(Fault::StoreFailed)
 }
 
@@ -54,7 +54,7 @@ pub(crate) fn let_go<S: Alter + Drop, M: Machine<Connection<S>>>(
         → (state S.Store connection).now.trees ≡ (state S.Store connection).committed.trees }
 {
     let _outside = connection.is_autocommit();
-    machine.leave(connection);
+    machine.give_up(connection, false);
 }
 
 /// The shelf over a store that was opened, which remembers rows. A store of which no room is taken is let go.

@@ -77,6 +77,6 @@ pub(crate) fn report<S: Alter + Drop, M: Machine<Connection<S>>, W: Write>(
     let roster = roster_at(alloc, machine, roster)?;
     let mut shelf = take_room(alloc, machine, db)?;
     let done = write_report(alloc, &mut shelf, &roster, kind, writer);
-    machine.leave(connection_under(shelf));
+    machine.give_up(connection_under(shelf), false);
     done
 }

@@ -1,14 +1,15 @@
 //! A run of the program, from its words to its exit status.
-ghost use Rattle.std.specs.Prelude.{◌≡◌, ◌⊎◌, ℕ, List, Ok};
+ghost use Rattle.std.specs.Prelude.{◌≡◌, ◌⊎◌, ℕ, List};
+ghost use Rattle.std.specs.List.{AllByRecursion};
 ghost use Rattle.sqlite.specs.WalFiles.{image_at};
 ghost use Rattle.sqlite.specs.Recovery.{Image};
-ghost use Rattle.room_acl.specs.SubjectModel.{SubjectModel};
 ghost use Rattle.room_words.specs.CommandLine.{texts_of};
 ghost use Rattle.room_program.specs.Ends.{InitEnds};
-ghost use Rattle.room_program.specs.Files.{Made, Takes, TakesRoster, Unmade};
+ghost use Rattle.room_program.specs.Files.{Made, Takes, Unmade};
 ghost use Rattle.room_program.specs.Found.{HoldsStill, IsLeftBy, SeesSums};
 ghost use Rattle.room_program.specs.Replays.{Replays};
-ghost use Rattle.room_program.specs.Restarts.{KeepsRoomOrMore};
+ghost use Rattle.room_program.specs.Restarts.{KeepsRoomOrMore, Rosters};
+ghost use Rattle.room_program.specs.Rolls.{GaveOnce};
 ghost use Rattle.room_program.specs.Rooms.{Reports, ServesRoom};
 ghost use Rattle.room_program.specs.Runs.{Checks, Ends, EndsWith, RefusesWords, Runs, RunsJob, WritesText};
 ghost use Rattle.room_program.specs.Runs.{Tries, means, streams};
@@ -29,6 +30,7 @@ use room_sql::SqlShelf;
 use room_wire::serve_checks;
 use room_words::{Job, ReportKind, WordsFault, read_words};
 use sqlite::{Alter, Connection, FileFrom, FileStore, Start};
+use sqlite_disk::Disk;
 use sqlite_trees::store::Store;
 use std::alloc::Global;
 use std::io::{Read, Write};
@@ -289,6 +291,34 @@ pub fn run_machine<
     }
 }
 
+// A step of its own, since the prover can't take that from any store to the files of the system at once.
+
+/// The same where stores are in two files of any disk.
+fn run_files<
+    D: Disk + Drop,
+    M: Machine<Connection<FileStore<D>>> + Listener,
+    R: Read,
+    W: Write,
+    E: Write,
+>(
+    alloc: Global,
+    machine: &mut M,
+    words: &[String],
+    input: &mut R,
+    output: &mut W,
+    errors: &mut E,
+) -> u8
+    ensures { Runs (means M.does M.accepts M.fails
+        (λ opened taken. Takes ⟦<FileStore<D> as Store>⟧ opened taken)
+        (λ shelf. shelf.0.conn) (Made ⟦<FileStore<D> as Store>⟧) (Unmade ⟦<FileStore<D> as Store>⟧)
+        ⟦<CachedShelf<SqlShelf<FileStore<D>>> as Shelf>⟧.view)
+        machine.old machine.new (texts_of words.now)
+        (streams (R.remaining input.old) (W.contents output.old) (E.contents errors.old))
+        (streams (R.remaining input.new) (W.contents output.new) (E.contents errors.new)) result }
+{
+    run_machine(alloc, machine, words, input, output, errors)
+}
+
 /// Runs the program on the words behind its name, and answers its exit status: 0 where the job was
 /// done or help was shown, 1 after a fault, whose line goes to `errors`, 2 where the words are no
 /// row of the command table. Memory is taken from `alloc`.
@@ -296,7 +326,8 @@ pub fn run_machine<
 /// It holds for any `S`, which stands for what the files of the store held as they were opened; `main` passes
 /// `Unknown`, which supposes of a write that a crash cuts that each byte is the old or the new one, as `Host` asks.
 /// Whatever the words are, and however the run ends, a room that these files held is in them then, with its history; or
-/// its history went on by what messages of users of the roster asked (`files`). What each job does to them follows from
+/// its history went on by what messages asked, in each connection those of users that the roster's file gave (`files`).
+/// What each job does to them follows from
 /// what it asks of the host (`a_run_does_so_to_its_files`, `a_run_that_ends_keeps_the_room`).
 pub fn run_program<'a, S: Start, R: Read, W: Write, E: Write>(
     alloc: Global,
@@ -317,9 +348,9 @@ pub fn run_program<'a, S: Start, R: Read, W: Write, E: Write>(
         (streams (R.remaining input.new) (W.contents output.new) (E.contents errors.new)) result }
     ensures files { (left : Image) → host.old.left ≡ Left.Nothing → SeesSums (image_at S.Start) host.new.left
         → IsLeftBy (image_at S.Start) host.new.left left → HoldsStill (image_at S.Start) left
-        ⊎ ((roster : List ℕ) × (users : List SubjectModel) × (read : _)
-        × TakesRoster ⟦<Host<'static, S> as Machine<FileConnection<S>>>⟧.does roster host.old read (Ok users)
-        × KeepsRoomOrMore users (image_at S.Start) left) }
+        ⊎ ((roster : List ℕ) × (rosters : Rosters)
+        × AllByRecursion (GaveOnce ⟦<Host<'static, S> as Machine<FileConnection<S>>>⟧.does roster) rosters
+        × KeepsRoomOrMore rosters (image_at S.Start) left) }
 {
-    run_machine(alloc, host, words, input, output, errors)
+    run_files(alloc, host, words, input, output, errors)
 }

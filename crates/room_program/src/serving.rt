@@ -1,17 +1,19 @@
 //! Serving the room in a file.
+ghost use Rattle.std.specs.Prelude.{option_map, string_bytes};
 ghost use Rattle.room_program.specs.Files.{Takes};
+ghost use Rattle.room_program.specs.Rolls.{roll};
 ghost use Rattle.room_program.specs.Rooms.{Listens, ServesAll, ServesRoom};
 
 use crate::fault::Fault;
 use crate::left::connection_under;
 use crate::listening::Listener;
 use crate::machine::Machine;
-use crate::network::serve_listener;
+use crate::network::serve_machine;
 use crate::opening::take_room;
-use crate::rosters::roster_at;
+use crate::rosters::{RosterRead, roll_at};
 use room_cache::CachedShelf;
 use room_desk::Desk;
-use room_records::{Roster, Shelf};
+use room_records::Shelf;
 use room_sql::SqlShelf;
 use sqlite::{Alter, Connection};
 use std::alloc::{AllocError, Global};
@@ -28,15 +30,19 @@ fn keep_freed_memory(alloc: Global) {
 }
 
 /// Serves `count` connections over a desk.
-fn serve_all<R: Shelf, L: Listener>(
-    listener: &mut L,
+fn serve_all<C, R: Shelf, M: Machine<C> + Listener>(
+    alloc: Global,
+    machine: &mut M,
     desk: &mut Desk<R>,
-    roster: &Roster,
+    roster: &str,
+    first: RosterRead,
     count: u32,
 ) -> Result<(), Fault>
-    ensures { ServesAll L.accepts L.fails R.view roster.now count listener.old listener.new desk.old desk.new result }
+    ensures { ServesAll M.does M.accepts M.fails R.view roster.now
+        (roll first.roster (option_map string_bytes first.text)) count machine.old machine.new desk.old desk.new
+        result }
 {
-    match serve_listener(listener, desk, roster, count) {
+    match serve_machine(alloc, machine, desk, roster, first, count) {
         Ok(()) => Ok(()),
         Err(_) => Err(Fault::NetworkFailed),
     }
@@ -44,17 +50,20 @@ fn serve_all<R: Shelf, L: Listener>(
 
 /// Listens on this port of 127.0.0.1, and serves `count` connections over a desk.
 fn listen<C, R: Shelf, M: Machine<C> + Listener>(
+    alloc: Global,
     machine: &mut M,
     desk: &mut Desk<R>,
-    roster: &Roster,
+    roster: &str,
+    first: RosterRead,
     port: u16,
     count: u32,
 ) -> Result<(), Fault>
     ensures { Listens M.does M.accepts M.fails R.view roster.now
+        (roll first.roster (option_map string_bytes first.text))
         port count machine.old machine.new desk.old desk.new result }
 {
     match machine.listen(port) {
-        Ok(()) => serve_all(machine, desk, roster, count),
+        Ok(()) => serve_all(alloc, machine, desk, roster, first, count),
         Err(_) => Err(Fault::NetworkFailed),
     }
 }
@@ -64,20 +73,23 @@ fn listen_over<C, R: Shelf, M: Machine<C> + Listener>(
     alloc: Global,
     machine: &mut M,
     shelf: R,
-    roster: &Roster,
+    roster: &str,
+    first: RosterRead,
     port: u16,
     count: u32,
 ) -> (Result<(), Fault>, R)
     ensures { Listens M.does M.accepts M.fails R.view roster.now
+        (roll first.roster (option_map string_bytes first.text))
         port count machine.old machine.new shelf result.1 result.0 }
 {
     keep_freed_memory(alloc);
     let mut desk = Desk::new(alloc, shelf);
-    let done = listen(machine, &mut desk, roster, port, count);
+    let done = listen(alloc, machine, &mut desk, roster, first, port, count);
     (done, desk.into_shelf())
 }
 
-/// Serves the room in the file at `db` on this port of 127.0.0.1, over `count` connections.
+/// Serves the room in the file at `db` on this port of 127.0.0.1, over `count` connections, to the users of the file at
+/// `roster`, which is read again as each connection comes.
 pub(crate) fn serve<S: Alter + Drop, M: Machine<Connection<S>> + Listener>(
     alloc: Global,
     machine: &mut M,
@@ -90,9 +102,9 @@ pub(crate) fn serve<S: Alter + Drop, M: Machine<Connection<S>> + Listener>(
         (λ opened taken. Takes S.Store opened taken) (λ shelf. shelf.0.conn)
         ⟦<CachedShelf<SqlShelf<S>> as Shelf>⟧.view db.now roster.now port count machine.old machine.new result }
 {
-    let roster = roster_at(alloc, machine, roster)?;
+    let first = roll_at(alloc, machine, roster)?;
     let shelf = take_room(alloc, machine, db)?;
-    let (done, served) = listen_over(alloc, machine, shelf, &roster, port, count);
-    machine.close(connection_under(served));
+    let (done, served) = listen_over(alloc, machine, shelf, roster, first, port, count);
+    machine.give_up(connection_under(served), true);
     done
 }

@@ -25,7 +25,12 @@ struct Held {
 #[derive(Drop)]
 pub struct MemoryMachine<'a> {
     alloc: Global,
-    roster: &'a str,
+    /// What the roster's file holds, where it can be read.
+    roster: Option<&'a str>,
+    /// And at each later read, the next one first; then it stays so.
+    pub later: VecDeque<Option<&'a str>>,
+    /// The lines that were shown.
+    pub warned: String,
     /// What the store's files hold while no run has it open.
     files: Held,
     /// The bytes of connections that wait, the next one first.
@@ -44,7 +49,9 @@ impl<'a> MemoryMachine<'a> {
     pub fn new(alloc: Global, roster: &'a str) -> MemoryMachine<'a> {
         MemoryMachine {
             alloc,
-            roster,
+            roster: Some(roster),
+            later: VecDeque::new(alloc),
+            warned: String::new(alloc),
             files: Held {
                 log: Vec::new(alloc),
                 db: Vec::new(alloc),
@@ -131,7 +138,13 @@ impl<'a> Machine<FileConnection> for MemoryMachine<'a> {
         if path != ROSTER {
             return Err(io::Error::from(ErrorKind::NotFound));
         }
-        Ok(String::from_str(self.alloc, self.roster)?)
+        if let Some(next) = self.later.pop_front() {
+            self.roster = next;
+        }
+        match self.roster {
+            Some(text) => Ok(String::from_str(self.alloc, text)?),
+            None => Err(io::Error::from(ErrorKind::PermissionDenied)),
+        }
     }
 
     fn is_begun(&mut self, path: &str) -> io::Result<bool> {
@@ -145,8 +158,10 @@ impl<'a> Machine<FileConnection> for MemoryMachine<'a> {
         opened(self.alloc, &self.files)
     }
 
-    fn close(&mut self, connection: FileConnection) {
-        let files = if self.stops {
+    fn give_up(&mut self, connection: FileConnection, copies: bool) {
+        let files = if !copies {
+            let_go(connection)
+        } else if self.stops {
             stopped(connection)
         } else {
             closed(connection)
@@ -154,12 +169,19 @@ impl<'a> Machine<FileConnection> for MemoryMachine<'a> {
         let _ = self.keep(&files);
     }
 
-    fn leave(&mut self, connection: FileConnection) {
-        let _ = self.keep(&let_go(connection));
-    }
-
     fn listen(&mut self, _port: u16) -> io::Result<()> {
         Ok(())
+    }
+
+    fn wait_next(&mut self) -> io::Result<()> {
+        if self.waiting.is_empty() {
+            return Err(io::Error::from(ErrorKind::NotConnected));
+        }
+        Ok(())
+    }
+
+    fn warn(&mut self, line: &str) {
+        let _ = self.warned.push_str(line);
     }
 
     fn ask(&mut self, requests: &str) -> io::Result<()> {

@@ -4,6 +4,7 @@ use crate::words::words_of;
 use room_program::run_machine;
 use std::alloc::Global;
 use std::test::Fail;
+use test_support::must;
 
 const USERS: &str = "[users]\nann = [\"eng\"]\nbob = [\"eng\", \"staff\"]\neng = []\n";
 
@@ -217,6 +218,47 @@ fn a_room_over_a_stop(rt: HostRuntime) -> Result<(), Fail> {
     )?;
     let access = ["report", ROOM, ROSTER, "access"];
     runs(alloc, &mut machine, &access, Ok(ACCESS))
+}
+
+const NOT_ANN: &str = "[users]\nbob = [\"eng\", \"staff\"]\n";
+
+const NO_ROSTER: &str = "[users]\nann = \"eng\"\n";
+
+const UNKNOWN: &str = "HTTP/1.1 403 Forbidden\r\ncontent-type: application/json\r\n\
+content-length: 34\r\n\r\n{\"code\":42,\"error\":\"UNKNOWN_USER\"}";
+
+/// Before the first of six connections the roster's file loses ann, then it is none, then it can't be read, and before
+/// the last it is as it was. So ann's session is hers again; and each fault is told once.
+#[test]
+fn a_roster_that_changes(rt: HostRuntime) -> Result<(), Fail> {
+    let alloc = rt.alloc();
+    let mut machine = made(alloc, USERS)?;
+    let held = [
+        Some(USERS),
+        Some(NOT_ANN),
+        Some(NO_ROSTER),
+        Some(NO_ROSTER),
+        None,
+        None,
+        Some(USERS),
+    ];
+    for text in held {
+        must(machine.later.push_back(text).is_ok(), "memory")?;
+    }
+    for _ in 0..6 {
+        machine.wait(sent(alloc, &[APPEND])?)?;
+    }
+    machine.answers.clear();
+    let words = ["serve", ROOM, ROSTER, "8080", "6"];
+    runs(alloc, &mut machine, &words, Ok(""))?;
+    let mut due = String::new(alloc);
+    for _ in 0..5 {
+        due.push_str(UNKNOWN)?;
+    }
+    due.push_str(answers(alloc, &["{\"code\":0,\"size\":3}"])?.as_str())?;
+    is_text("answers", machine.answers.as_slice(), due.as_str())?;
+    let told = "fileroom: bad roster\nfileroom: cannot read roster\n";
+    is_text("lines", machine.warned.as_bytes(), told)
 }
 
 /// Without a room nothing is served, and nothing is made.

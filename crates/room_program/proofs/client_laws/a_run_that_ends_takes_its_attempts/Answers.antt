@@ -1,7 +1,4 @@
-use Rattle.std.proofs.Common.{◌≡◌, inl, refl}
-use Rattle.sqlite.specs.WalFiles.{image_at}
-use Rattle.room_program.specs.Calls.{IsUnknown}
-use Rattle.room_program.specs.Found.{ActsOn}
+use Rattle.room_program.proofs.Common.{◌≡◌, inl, refl, image_at, IsUnknown, ActsOn}
 use Rattle.room_program.proofs.ClientJobs.{run_takes}
 use Rattle.room_program.proofs.client_laws.a_run_that_ends_takes_its_attempts.Goals as goal
 

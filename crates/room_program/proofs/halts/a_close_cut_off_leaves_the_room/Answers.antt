@@ -7,9 +7,9 @@ returns-clause-served g c last start past found image same stands there at =
     c.closed_off.ensures found image at last start past same stands there
 
 pub returns-clause-shut : goal.returns-clause-shut
-returns-clause-shut g c opened taken last users found image same is adopted answers at =
+returns-clause-shut g c opened taken last rosters found image same is adopted answers at =
     close_shut _ (λ file. g.met.D.Disk.seen_may_stay file.inner) c.args.closed c.closed_off.result
-    c.closed_off.ensures found image at opened taken last users same is adopted answers
+    c.closed_off.ensures found image at opened taken last rosters same is adopted answers
 
 pub returns-clause-made : goal.returns-clause-made
 returns-clause-made g c opened owner group found image is made empty at =

@@ -1,6 +1,4 @@
-use Rattle.std.proofs.Common.{inl, inr}
-use Rattle.std.proofs.Math.Logic.{∥∥₁_map}
-use Rattle.sqlite.specs.WalFiles.{image_at}
+use Rattle.room_program.proofs.Common.{inl, inr, ∥∥₁_map, image_at}
 use Rattle.room_program.proofs.Restarts.{again}
 use Rattle.room_program.proofs.halts.an_event_cut_off_acts_once.Goals as goal
 

@@ -1,6 +1,4 @@
-use Rattle.std.proofs.Common.{subst, sym, inl, inr}
-use Rattle.room_desk.specs.Representation.{RepresentsHistory}
-use Rattle.room_program.specs.Halts.{AnsweredThenLeft}
+use Rattle.room_program.proofs.Common.{subst, sym, inl, inr, RepresentsHistory, AnsweredThenLeft}
 use Rattle.room_program.proofs.halts.left_by.Goals as goal
 
 pub returns : goal.returns

@@ -1,4 +1,4 @@
-use Rattle.std.proofs.Common.{inr, refl, true, false}
+use Rattle.room_program.proofs.Common.{inr, refl, true, false}
 use Rattle.room_program.proofs.Opened.{reads_first, leaves_first}
 use Rattle.room_program.proofs.host.open.Goals as goal
 

@@ -1,5 +1,4 @@
-use Rattle.std.proofs.Common.{subst, sym}
-use Rattle.room_program.specs.Files.{Made}
+use Rattle.room_program.proofs.Common.{subst, sym, Made}
 use Rattle.room_program.proofs.instance.made.Goals as goal
 
 pub returns-clause-made : goal.returns-clause-made

@@ -1,19 +1,16 @@
-use Rattle.std.proofs.Common.{◌≡◌, inl, refl}
-use Rattle.sqlite.specs.WalFiles.{image_at}
-use Rattle.room_program.specs.Calls.{IsUnknown}
-use Rattle.room_program.specs.Found.{ActsOn}
+use Rattle.room_program.proofs.Common.{◌≡◌, inl, refl, image_at, IsUnknown, ActsOn}
 use Rattle.room_program.proofs.Found.{served_on, reported_on, made_on, spares, not_made, roster_left, replay_left}
 use Rattle.room_program.proofs.Found.{selftest_left}
 use Rattle.room_program.proofs.laws.a_run_does_so_to_its_files.Goals as goal
 
 pub returns-clause-serve : goal.returns-clause-serve
-returns-clause-serve g c db users port count read taken over later shelf last done start past room listens closed clean
-    held =
+returns-clause-serve g c db roster first port count read taken over later shelf last done start past room listens
+    closed clean held =
     served_on _ (image_at g.S.Start)
     (λ old call new. ActsOn (image_at g.S.Start) call old.left new.left)
     (λ host. host.left) (λ file. inl refl) (λ old new call did. did)
     start past held (λ old e new. IsUnknown e × (new.left ≡ old.left)) (λ old new. new.left ≡ old.left)
-    db users port count read taken over later shelf last done room listens closed clean
+    db roster first port count read taken over later shelf last done room listens closed clean
 
 pub returns-clause-report : goal.returns-clause-report
 returns-clause-report g c db kind users read seen later taken last old new done start past room writes gone clean held =

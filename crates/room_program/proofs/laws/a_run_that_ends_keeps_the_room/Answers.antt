@@ -1,27 +1,25 @@
-use Rattle.std.proofs.Common.{◌≡◌, inl, refl}
-use Rattle.sqlite.specs.WalFiles.{image_at}
-use Rattle.room_program.specs.Calls.{IsUnknown}
-use Rattle.room_program.specs.Found.{ActsOn}
+use Rattle.room_program.proofs.Common.{◌≡◌, inl, refl, image_at, IsUnknown, ActsOn}
 use Rattle.room_program.proofs.Restarts.{served_run, served_shut, reported_run, untaken_run, no_room_run}
 use Rattle.room_program.proofs.Restarts.{unmade_run}
 use Rattle.room_program.proofs.laws.a_run_that_ends_keeps_the_room.Goals as goal
 
 pub returns-clause-serve : goal.returns-clause-serve
-returns-clause-serve g c db users port count read taken over later shelf last done left room listens closed is_open
-    at =
+returns-clause-serve g c db roster first port count read taken over later shelf last done left room listens closed
+    is_open at =
     served_run _ (image_at g.S.Start)
     (λ old call new. ActsOn (image_at g.S.Start) call old.left new.left)
     (λ host. host.left) (λ file. inl refl) (λ old new call did. did)
     (λ old e new. IsUnknown e × (new.left ≡ old.left)) (λ old new. new.left ≡ old.left)
-    db users port count read taken over later shelf last done left room listens closed is_open at
+    db roster first port count read taken over later shelf last done left room listens closed is_open at
 
 pub returns-clause-serve_shut : goal.returns-clause-serve_shut
-returns-clause-serve_shut g c db users port count read taken over later shelf last done left room listens closed at =
+returns-clause-serve_shut g c db roster first port count read taken over later shelf last done left room listens closed
+    at =
     served_shut _ (image_at g.S.Start)
     (λ old call new. ActsOn (image_at g.S.Start) call old.left new.left)
     (λ host. host.left) (λ file. inl refl) (λ old new call did. did)
     (λ old e new. IsUnknown e × (new.left ≡ old.left)) (λ old new. new.left ≡ old.left)
-    db users port count read taken over later shelf last done left room listens closed at
+    db roster first port count read taken over later shelf last done left room listens closed at
 
 pub returns-clause-report : goal.returns-clause-report
 returns-clause-report g c db kind users read seen later taken last old new done left room writes gone at =

@@ -1,4 +1,4 @@
-use Rattle.sqlite.specs.WalFiles.{image_at}
+use Rattle.room_program.proofs.Common.{image_at}
 use Rattle.room_program.proofs.Restarts.{again}
 use Rattle.room_program.proofs.laws.an_event_sent_again_to_the_next_run_acts_once.Goals as goal
 

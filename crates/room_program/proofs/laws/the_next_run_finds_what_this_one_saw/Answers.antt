@@ -1,5 +1,4 @@
-use Rattle.std.proofs.Common.{inl, refl}
-use Rattle.sqlite.specs.WalFiles.{image_at}
+use Rattle.room_program.proofs.Common.{inl, refl, image_at}
 use Rattle.room_program.proofs.Restarts.{found_records}
 use Rattle.room_program.proofs.Found.{found_database, stopped_holds, closed_holds, was_sound}
 use Rattle.room_program.proofs.laws.the_next_run_finds_what_this_one_saw.Goals as goal

@@ -1,4 +1,4 @@
-use Rattle.sqlite.specs.WalFiles.{image_at}
+use Rattle.room_program.proofs.Common.{image_at}
 use Rattle.room_program.proofs.Restarts.{known}
 use Rattle.room_program.proofs.laws.what_holds_a_room_is_a_room.Goals as goal
 

@@ -1,4 +1,4 @@
-use Rattle.std.proofs.Common.{◌∙◌, ap}
+use Rattle.room_program.proofs.Common.{◌∙◌, ap}
 use Rattle.room_program.proofs.left.connection_under.Goals as goal
 
 pub returns : goal.returns

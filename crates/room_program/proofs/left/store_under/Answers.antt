@@ -1,6 +1,4 @@
-use Rattle.std.proofs.Common.{subst}
-use Rattle.sqlite.specs.Files.{over_files}
-use Rattle.room_program.specs.Halts.{IsTakenOut}
+use Rattle.room_program.proofs.Common.{subst, over_files, IsTakenOut}
 use Rattle.room_program.proofs.left.store_under.Goals as goal
 
 pub returns : goal.returns

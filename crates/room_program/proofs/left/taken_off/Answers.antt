@@ -1,5 +1,4 @@
-use Rattle.std.proofs.Common.{subst}
-use Rattle.room_program.specs.Halts.{IsTakenOut}
+use Rattle.room_program.proofs.Common.{subst, IsTakenOut}
 use Rattle.room_program.proofs.left.taken_off.Goals as goal
 
 pub returns : goal.returns

@@ -1,4 +1,4 @@
-use Rattle.std.proofs.Common.{◌∙◌, sym}
+use Rattle.room_program.proofs.Common.{◌∙◌, sym}
 use Rattle.room_program.proofs.left.taken_out.Goals as goal
 
 pub returns : goal.returns

@@ -1,5 +1,4 @@
-use Rattle.std.proofs.Common.{ℕ, List, subst, inr}
-use Rattle.room_program.specs.Files.{Made, MakesAt, Unmade}
+use Rattle.room_program.proofs.Common.{ℕ, List, subst, inr, Made, MakesAt, Unmade}
 use Rattle.room_program.proofs.making.init.Goals as goal
 
 pub returns : goal.returns

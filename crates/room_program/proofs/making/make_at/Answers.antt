@@ -1,4 +1,4 @@
-use Rattle.std.proofs.Common.{inr}
+use Rattle.room_program.proofs.Common.{inr}
 use Rattle.room_program.proofs.making.make_at.Goals as goal
 
 pub returns : goal.returns

@@ -1,12 +1,11 @@
-use Rattle.std.proofs.Common.{◌≡◌, false}
+use Rattle.room_program.proofs.Common.{◌≡◌, false, has_a_table}
 use Rattle.std.proofs.lemmas.Bool.{false_from_ne_true}
-use Rattle.room_tables.specs.Tables.{has_a_table}
 use Rattle.room_program.proofs.making.make_room.Goals as goal
 
 pub returns-in-Ok : goal.returns-in-Ok
 returns-in-Ok g c =
     let e = c.in-Ok.ensures in
-    let closed = rw c.into_connection.ensures.same at c.close.ensures.closed in
+    let closed = rw c.into_connection.ensures.same at c.give_up.ensures.given_up in
     (c.in-Ok.shelf.conn, (e.absent, c.in-Ok.shelf.rests, e.fresh, e.made, e.beside), closed)
 
 pub returns-in-Err-RoomExists-default : goal.returns-in-Err-RoomExists-default

@@ -1,5 +1,4 @@
-use Rattle.room_program.specs.Calls.{ServesEach}
-use Rattle.room_program.specs.Streams.{Served}
+use Rattle.room_program.proofs.Common.{ServesEach, Served}
 use Rattle.room_program.proofs.network.serve_listener.Given as goal
 
 -- so many connections were accepted and served

@@ -1,4 +1,4 @@
-use Rattle.std.proofs.Common.{inl, inr, refl}
+use Rattle.room_program.proofs.Common.{inl, inr, refl}
 use Rattle.room_program.proofs.Again.{adopted_as}
 use Rattle.room_program.proofs.opening.adopt.Goals as goal
 

@@ -1,4 +1,4 @@
-use Rattle.std.proofs.Common.{inr}
+use Rattle.room_program.proofs.Common.{inr}
 use Rattle.room_program.proofs.opening.open_room.Goals as goal
 
 pub returns : goal.returns

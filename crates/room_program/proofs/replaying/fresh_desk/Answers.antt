@@ -1,10 +1,6 @@
-use Rattle.std.proofs.Common.{ap, sym, subst, []}
+use Rattle.room_program.proofs.Common.{ap, sym, subst, [], Records, fresh_room, RepresentsHistory, stand_at_first}
 use Rattle.room_records.specs.declared.mem.MemShelf.{MemShelf}
 use Rattle.room_records.specs.Mem.{mem_records}
-use Rattle.room_records.specs.Records.{Records}
-use Rattle.room_records.specs.Room.{fresh_room}
-use Rattle.room_desk.specs.Representation.{RepresentsHistory}
-use Rattle.room_desk.proofs.Beginnings.{stand_at_first}
 use Rattle.room_program.proofs.replaying.fresh_desk.Goals as goal
 
 pub returns-clause-stands : goal.returns-clause-stands

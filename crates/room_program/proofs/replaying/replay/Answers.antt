@@ -1,7 +1,5 @@
-use Rattle.std.proofs.Common.{ℕ, List, [], subst, inr}
+use Rattle.room_program.proofs.Common.{ℕ, List, [], subst, inr, fresh_room, RepresentsHistory}
 use Rattle.room_records.specs.Mem.{mem_records}
-use Rattle.room_records.specs.Room.{fresh_room}
-use Rattle.room_desk.specs.Representation.{RepresentsHistory}
 use Rattle.room_program.proofs.replaying.replay.Goals as goal
 
 pub returns : goal.returns

@@ -1,10 +1,10 @@
-use Rattle.std.proofs.Common.{inl, inr, refl}
+use Rattle.room_program.proofs.Common.{inl, inr, refl}
 use Rattle.room_program.proofs.Faults.{handed_on}
 use Rattle.room_program.proofs.reporting.report.Goals as goal
 
 pub returns : goal.returns
 returns g c =
-    let left = rw c.connection_under.ensures at c.leave.ensures.left in
+    let left = rw c.connection_under.ensures at c.give_up.ensures.given_up in
     inr (
       c.in_ok-roster.roster,
       c.roster_at.new.machine,

@@ -1,12 +1,5 @@
-use Rattle.std.proofs.Common.{Result}
-use Rattle.sqlite.specs.Held.{Held}
-use Rattle.room_sql.specs.declared.sql_shelf.SqlShelf.{SqlShelf}
-use Rattle.room_sql.specs.SqlView.{sql_view}
-use Rattle.room_cache.specs.declared.known.Known.{Known}
-use Rattle.room_cache.specs.Cached.{cached_view}
-use Rattle.room_program.specs.Files.{Takes, Made, Unmade}
-use Rattle.room_program.specs.declared.fault.Fault.{Fault}
-use Rattle.room_program.specs.Runs.{means}
+use Rattle.room_program.proofs.Common.{Result, Held, SqlShelf, sql_view, Known, cached_view, Takes, Made, Unmade, Fault}
+use Rattle.room_program.proofs.Common.{means}
 use Rattle.room_program.proofs.Jobs.{ran_init, ran_report, ran_replay, ran_serve}
 use Rattle.room_program.proofs.running.run_job.Goals as goal
 

@@ -1,4 +1,4 @@
-use Rattle.std.proofs.Common.{inl}
+use Rattle.room_program.proofs.Common.{inl}
 use Rattle.room_program.proofs.running.run_selftest.Goals as goal
 
 pub returns-in-Ok : goal.returns-in-Ok

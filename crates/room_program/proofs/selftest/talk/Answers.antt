@@ -1,4 +1,4 @@
-use Rattle.std.proofs.Common.{refl, ap, ◌∙◌, Err, inl, inr}
+use Rattle.room_program.proofs.Common.{refl, ap, ◌∙◌, Err, inl, inr}
 use Rattle.room_program.proofs.Faults.{handed_on}
 use Rattle.room_program.proofs.selftest.talk.Goals as goal
 
