@@ -6,7 +6,7 @@ import os
 import pytest
 from given import each
 from nginx import login
-from served import Line, message, until
+from served import Line, message, put_file, until
 
 from .conftest import started
 from .sides import CHECK, ROOM, at_once, begun_by_dav, said_long, standing, values, wrong
@@ -101,8 +101,7 @@ def test_an_update_of_the_page(front):
     assert line.rest[:12] == b"HTTP/1.1 304"
     path = os.path.join(front.page, "index.html")
     os.rename(path, f"{path}-before")
-    with open(path, "wb") as file:
-        file.write(b"a newer page")
+    put_file(path, b"a newer page")
     got = front.once("u01", "GET", "/index.html", more=again)
     os.rename(f"{path}-before", path)
     assert (got.status, got.body) == (200, b"a newer page")
@@ -118,8 +117,7 @@ def warned(front):
     """A front where u01 is warned of a room."""
     folder = os.path.join(front.folder, "warnings")
     os.makedirs(folder, exist_ok=True)
-    with open(os.path.join(folder, "u01.json"), "wb") as file:
-        file.write(WARNING)
+    put_file(os.path.join(folder, "u01.json"), WARNING)
     return front
 
 

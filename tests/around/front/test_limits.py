@@ -2,24 +2,28 @@
 many addresses. Another login is not held by it, and neither is its owner by a stranger elsewhere who gives its name."""
 import contextlib
 import os
+import select
 import socket
 import threading
 import time
 
 import pytest
 from given import each
-from served import first_answer, message, until
+from served import answers, first_answer, least, message, until
 
-from .sides import (BURST, CHECK, OPEN_AT_ONCE, ROOM, SESSION, SLOT, SOON, at_once, begun, begun_by_dav, until_too_many,
-                    values, wrong)
+from .sides import (BURST, CHECK, MANY, OPEN_AT_ONCE, ROOM, SESSION, SLOT, SOON, at_once, begun, begun_by_dav,
+                    until_too_many, values, wrong)
 
 OPENS = [ROOM + SESSION, f"{ROOM}/{SESSION}", f"{ROOM}/.{SESSION}", ROOM + SESSION.replace("s", "%73"),
          f"{ROOM}/x/..{SESSION}", f"http://a.b{ROOM}{SESSION}"]
 ASKED = 30  # requests from five addresses: more of a login than may be under way
 LIMIT_OF_A_FILE = 1 << 24  # bytes
-A_SECOND = 20  # of these, where a front has 40 and 100: a slow machine shows this too
-HEAVY, HEAVY_AT_ONCE, HEAVY_WAITING = 10_000, 8, 192  # bytes of a body that holds a room, and how many
+A_SECOND = 20  # of these, where a front has 40 and 400: a slow machine shows this too
+HEAVY, HEAVY_WAITING = 10_000, 192  # bytes of a body that holds a room, and how many wait
+FEW = 8  # of these at once, where a front has 264 and 12,000
+AT_A_ROOM = 6  # requests of one login
 DAV_AT_ONCE = 40
+BY_GATEWAY = 600  # requests of one login that come at once; those of four are more than an address may
 
 
 @each("burst, a_second, asked, addresses, free", [
@@ -48,9 +52,9 @@ def test_a_login_asks_so_much(fronted, burst, a_second, asked, addresses, free):
 # Under way at once
 
 def by_the_gateway(front, user):
-    """The status of a request at the socket where the gateway asks, with its caller's login, or none so soon."""
+    """The status of a request at the socket where the gateway asks, with its caller's login, or none in that time."""
     with socket.socket(socket.AF_UNIX) as line:
-        line.settimeout(2)
+        line.settimeout(SOON)
         line.connect(os.path.join(front.folder, "work", "dav.sock"))
         line.sendall(message(None, "POST", f"{SLOT}99", b'{"cmd":"MKDIR","path":"/a"}', fields=front.fields(user)))
         with contextlib.suppress(TimeoutError):
@@ -62,20 +66,27 @@ def of_addresses(front, begin, count, *words):
     return [begin(front, "u01", at, f"127.2.0.{1 + at // 6}", *words) for at in range(count)]
 
 
-def under_way(front, behind, begin):
+def need_others_refused(behind, lines, most):
+    """So many have come to who stands behind the front, and the others are answered, as too many."""
+    assert until(lambda: len(select.select(lines, [], [], 0)[0]) >= len(lines) - most, SOON)
+    answered = select.select(lines, [], [], 0)[0]
+    assert [it.answer().status for it in answered] == [429] * (len(lines) - most)
+    assert until(lambda: len(behind.came) == most, SOON)
+
+
+def under_way(front, behind, begin, most):
     """So many of one login are begun that no more of them come to who stands behind the front."""
     behind.may.clear()
     lines = of_addresses(front, begin, ASKED)
-    until(lambda: len(behind.came) >= OPEN_AT_ONCE, SOON)
-    time.sleep(1)
-    assert len(behind.came) == OPEN_AT_ONCE
+    need_others_refused(behind, lines, most)
     return lines
 
 
 def others_pass(front, behind, begin, lines, one_more):
     """While theirs are under way, whose callers may have left."""
+    most = len(behind.came)
     other = begin(front, "u02")
-    assert until(lambda: len(behind.came) > OPEN_AT_ONCE, SOON)
+    assert until(lambda: len(behind.came) > most, SOON)
     for it in lines:
         it.close()
     time.sleep(1)
@@ -86,7 +97,7 @@ def others_pass(front, behind, begin, lines, one_more):
 
 def test_under_way_at_a_room(fronted, peer, memory):
     front = fronted(dav=os.path.join(memory, "no.sock"))
-    lines = under_way(front, peer, begun)
+    lines = under_way(front, peer, begun, AT_A_ROOM)
     assert by_the_gateway(front, "u01") == 429
 
     def one_more():
@@ -97,7 +108,7 @@ def test_under_way_at_a_room(fronted, peer, memory):
 def test_under_way_by_webdav(fronted, gateway):
     """Who comes beyond is told so before a body is sent. The gateway itself still asks the room for those."""
     front = fronted(dav=gateway.at)
-    lines = under_way(front, gateway, begun_by_dav)
+    lines = under_way(front, gateway, begun_by_dav, OPEN_AT_ONCE)
     assert by_the_gateway(front, "u01") == 200
 
     def one_more():
@@ -108,19 +119,19 @@ def test_under_way_by_webdav(fronted, gateway):
 
 
 FORMS = [b'{"cmd":"SETLIST","path":"/a","aclflag":0,"entries":[]}', b'{"cmd":"SETLI\\u0053T","path":"/a"}',
-         b'{"path":"/a/b","cmd":"RENAME","to":"/c/b"}', b'{"cmd":"RENAME","path":"/a/b","to":"/a/c/d"}']
+         b'{"path":"/a/b","cmd":"RENAME","to":"/c/b"}', b'{"cmd":"RENAME","path":"/a/b","to":"/a/c/d"}',
+         b'{"path":"/' + b"\\n" * 65_000 + b'","cmd":"SETLIST"}']
 SHORT = [b'{"cmd":"RENAME","path":"/a/b","to":"/a/c"}', b'{"cmd":"MKDIR","path":"/a"}']
 
 
-@pytest.mark.parametrize("form, count", [*((it, 2) for it in FORMS), *((it, 4) for it in SHORT)], ids=ascii)
+@pytest.mark.parametrize("form, count", [*((it, 2) for it in FORMS), *((it, 4) for it in SHORT)],
+                         ids=lambda it: ascii(it)[:60])
 def test_long_ones_under_way(front, peer, form, count):
-    """Two SETLISTs or moves to another folder of a login, however they are written; a new name in the same folder is
-    none of them."""
+    """Two SETLISTs or moves to another folder of a login, however they are written, and behind whatever; a new name in
+    the same folder is none of them."""
     peer.may.clear()
     lines = [begun(front, "u01", at, f"127.2.1.{1 + at}", form) for at in range(4)]
-    until(lambda: len(peer.came) >= count, SOON)
-    time.sleep(0.2)
-    assert len(peer.came) == count
+    need_others_refused(peer, lines, count)
     for it in lines:
         it.close()
 
@@ -128,14 +139,35 @@ def test_long_ones_under_way(front, peer, form, count):
 @each("form, is_held", [("SETLIST", FORMS[0], True), ("RENAME in its folder", SHORT[0], False)])
 def test_the_answer_to_a_long_one_is_held_back(front, peer, form, is_held):
     """Where it took long."""
-    peer.may.clear()
-    line = begun(front, "u01", body=form)
-    until(lambda: peer.came, SOON)
-    time.sleep(1)
-    peer.may.set()
-    begin = time.monotonic()
-    assert line.answer().status == 200
-    assert (time.monotonic() - begin > 1) == is_held
+    def seconds():
+        peer.may.clear()
+        before, line = len(peer.came), begun(front, "u01", body=form)
+        assert until(lambda: len(peer.came) > before, SOON)
+        time.sleep(1)
+        begin = time.monotonic()
+        peer.may.set()
+        assert line.answer().status == 200
+        return time.monotonic() - begin
+    assert (least(seconds, 3, 1 if is_held else 9) > 3) == is_held
+
+
+def all_by_the_gateway(front, user, count):
+    """The statuses of so many requests at once, at that socket."""
+    asks = lambda *more: message(None, "GET", "/whoami", fields=front.fields(user, more))
+    path = os.path.join(front.folder, "work", "dav.sock")
+    assert until(lambda: os.path.exists(path))  # (nginx makes it behind its port)
+    with socket.socket(socket.AF_UNIX) as line:
+        line.connect(path)
+        threading.Thread(target=line.sendall, args=(asks() * (count - 1) + asks("connection: close"),)).start()
+        return {it.status for it in answers(b"".join(iter(lambda: line.recv(1 << 17), b"")))}
+
+
+def test_the_gateway_is_no_address(fronted, memory):
+    """What logins ask by WebDAV, each within its own limit, is not counted together as that of an address."""
+    users = "u01", "u02", "u03", "u04"
+    front = fronted(users=users, dav=os.path.join(memory, "no.sock"), rate="1r/s")
+    assert [all_by_the_gateway(front, it, BY_GATEWAY) for it in users] == [{200}] * len(users)
+    assert 429 in all_by_the_gateway(front, "u01", MANY - 1)
 
 
 # Spread over the second
@@ -161,14 +193,31 @@ def test_many_by_webdav(fronted, gateway):
 def test_heavy_ones(fronted):
     """Bodies that hold a room go there spread over the second, of each login by itself, from however many addresses.
     The next ones wait, more than clients have under way; and what is small does not wait behind them."""
-    front = fronted(heavy=f"{A_SECOND}r/s", connections=4096)
-    begin, many = time.monotonic(), 2 * (HEAVY_AT_ONCE + HEAVY_WAITING)
+    many = 2 * (FEW + HEAVY_WAITING)
+    front = fronted(heavy=f"{A_SECOND}r/s", pieces=FEW, under_way=many, connections=4096)
+    begin = time.monotonic()
     lines = of_addresses(front, begun, many, bytes(HEAVY))
     others, early = beside(begin, [lambda: front.status("u01", "POST", SLOT + "98", bytes(HEAVY - 1)),
                                    lambda: front.status("u02", "POST", SLOT + "98", bytes(HEAVY))])
     found = [it.answer().status for it in lines]
     took, passed = time.monotonic() - begin, found.count(200)
     assert set(found) == {200, 429}
-    assert passed >= HEAVY_AT_ONCE + HEAVY_WAITING
-    assert took >= (passed - HEAVY_AT_ONCE - 1) / A_SECOND
+    assert FEW + HEAVY_WAITING <= passed <= FEW + HEAVY_WAITING + 2 + A_SECOND * early
+    assert took >= (passed - FEW - 1) / A_SECOND
     assert (others, early < took / 2) == ([200, 200], True)
+
+
+@each("begin_one", [("at a room", begun), ("by WebDAV", begun_by_dav)])
+def test_in_the_long_run(fronted, gateway, begin_one):
+    """Behind as many as half a minute has a login asks less often, from however many addresses: it waits, and nobody
+    else does."""
+    many = 3 * A_SECOND
+    front = fronted(dav=gateway.at, long=f"{A_SECOND}r/s", long_at_once=FEW, under_way=many, connections=4096)
+    begin = time.monotonic()
+    lines = of_addresses(front, begin_one, many)
+    others, early = beside(begin, [lambda: begin_one(front, "u02").answer().status])
+    found = [it.answer().status for it in lines]
+    took = time.monotonic() - begin
+    assert took >= (many - FEW - 1) / A_SECOND
+    assert found.count(200) >= many - FEW
+    assert (others, early < took / 2) == ([200], True)

@@ -11,13 +11,10 @@ import pytest
 from fileroom_admin import rosters
 from given import each
 from nginx import FOLDER, login
-from served import Line, message, text_of, until
+from served import Line, least, message, text_of, until
 
-from .sides import OPEN_AT_ONCE, ROOM, SOON, at_once, log_of, said_long, values, wrong
+from .sides import LEAST, OPEN_AT_ONCE, ROOM, SOON, at_once, log_of, said_long, values, wrong
 
-WAITS = 2  # seconds that a wrong login is not answered
-# (on a loaded machine nginx's own clock is some milliseconds behind, and it waits that much less)
-LEAST = 0.9 * WAITS
 GUESSES = 14  # at once of one name: fewer than the front lets pass
 LONG = 4425  # letters of a password, in a head that nginx takes
 ROUNDS, MOST_ROUNDS = 9, 90  # (a busy machine adds to what one takes, so the least of many counts)
@@ -56,10 +53,8 @@ def test_each_guess_waits(front):
     assert {it for it, _ in both} == {401}
     assert min(seconds for _, seconds in both) >= LEAST
     there, none = (statistics.median(seconds for _, seconds in both[it::2]) for it in (0, 1))
-    assert abs(there - none) < WAITS / 4
-    tries = [timed(front, "logged-out") for _ in range(5)]
-    assert {it for it, _ in tries} == {401}
-    assert min(seconds for _, seconds in tries) < WAITS
+    assert abs(there - none) < LEAST / 4
+    assert least(lambda: timed(front, "logged-out")[1], LEAST) < LEAST
 
 
 @each("target, length", [("at the page", "/whoami", 0), ("with a body that is too long", "/whoami", 999999),
@@ -134,15 +129,25 @@ def test_a_stranger_is_told_of_no_room(front, more):
     assert [(it.status, values(it, asked)) for it in got] == [(401, asked)] * len(PATHS)
 
 
-@each("user, kind, is_asked", [
-    ("a script, wrong", "u01", "empty", False), ("a script, none", None, "empty", True),
-    ("a page, wrong", "u01", "document", True), ("a file, none", None, "script", True),
-    ("logging out", "logged-out", "empty", True)])
-def test_a_browser_is_asked_for_another_login(front, user, kind, is_asked):
-    """But by what the page's script asks with a wrong one."""
-    got = front.once(None, "GET", "/whoami", more=[f"sec-fetch-dest: {kind}", *([wrong(user)] if user else [])])
-    assert (got.status, values(got, ["www-authenticate"])["www-authenticate"]) == (
-        401, ['Basic realm="rooms"'] if is_asked else [])
+ASKED = ['Basic realm="rooms"']
+
+
+@each("user, kind, target, is_asked", [
+    ("a script, wrong", "u01", "empty", "/whoami", False), ("a script, none", None, "empty", "/whoami", False),
+    ("a script at a room", None, "empty", f"{ROOM}/x", False), ("a page, wrong", "u01", "document", "/whoami", True),
+    ("a page of WebDAV", None, "document", "/dav/plans/", True), ("a file, none", None, "script", "/main.js", False),
+    ("a picture, wrong", "u01", "image", "/x.png", False),
+    ("a script logged out", "logged-out", "empty", "/whoami", False),
+    ("a script logs in", None, "empty", "/log-in", True), ("as another", "logged-out", "empty", "/log-in", True),
+    ("with a wrong one", "u01", "empty", "/log-in", False), ("a script logs out", None, "empty", "/log-out", True),
+    ("below that", None, "empty", "/log-in/x", False), ("a browser's own box", None, "document", "/log-in", True),
+    ("the box, wrong", "u01", "document", "/log-in", True), ("a program at the page", None, None, "/", True),
+    ("a program, wrong", "u01", None, "/", True), ("a program logs in", None, None, "/log-in", True)])
+def test_who_is_asked_for_another_login(front, user, kind, target, is_asked):
+    """Everybody but the page's script, which is asked where a browser takes a login up and forgets it."""
+    fields = [f"sec-fetch-dest: {kind}"] * bool(kind)
+    got = front.once(None, "GET", target, more=[*fields, *([wrong(user)] if user else [])])
+    assert (got.status, values(got, ["www-authenticate"])["www-authenticate"]) == (401, ASKED if is_asked else [])
 
 
 # The time that guesses take others

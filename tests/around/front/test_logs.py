@@ -16,7 +16,7 @@ from .sides import SLOT, SOON, begun, log_of
 REFUSED = b'{"code":5,"error":"a refusal is longer than what is done"}'
 LINE_OF_REFUSAL = 800  # bytes at most, whatever was asked
 GROWN = 257 << 20  # bytes: more than the log of changes may have
-MOMENT = 5  # seconds until nginx has the new log
+MOMENT = 30  # seconds until nginx has the new log
 CHANGE = b'{"cmd":"MKDIR","path":"/a"}'
 
 
@@ -38,6 +38,13 @@ def test_changes_whose_callers_left(front, peer):
     told = [json.loads(it) for it in changes_of(front)]
     assert sorted((it["user"], it["from"], it["slot"][-4:], it["asked"]) for it in told) == [
         ("u01", f"127.2.0.{at + 1}", f"/0/{at}", CHANGE.decode()) for at in range(len(lines))]
+
+
+def test_a_change_without_an_answer(front, peer):
+    """It may have acted."""
+    peer.said = b""
+    assert front.status("u01", "POST", SLOT + "1", CHANGE) == 502
+    assert [(it["status"], it["asked"]) for it in map(json.loads, changes_of(front))] == [("502", CHANGE.decode())]
 
 
 @each("pad", [("newlines", b"\n"), ("quotes", b'"'), ("control letters", b"\1")])

@@ -53,6 +53,17 @@ def are_counted(found, answer, begin):
     assert BURST <= passed <= most
 
 
+@each("answer, method, target, more", [
+    ("where people log in", 200, "GET", "/sign-in", []), ("whose rooms these are", 204, "GET", "/organisation", []),
+    ("who is led there", 303, "GET", "/", ["sec-fetch-dest: document"]),
+    ("who logs out", 204, "GET", "/log-out", [login("logged-out", "x")]), ("who logs in", 401, "GET", "/log-in", [])])
+def test_what_is_for_everybody_is_counted(slower, answer, method, target, more):
+    with open(os.path.join(slower.page, "sign-in.html"), "wb"):
+        pass
+    begin, asked = time.monotonic(), message(None, method, target, fields=slower.fields(None, more))
+    are_counted(sent_at_once(slower, asked, MANY), answer, begin)
+
+
 @each("method, target", [("a look", "GET", "/whoami"), ("an OPEN", "POST", OPEN)])
 @each("answer, more", [*((name, 401, more) for name, more in STRANGERS),
                        ("a page of elsewhere", 403, ["origin: http://a.b"]),
@@ -92,14 +103,14 @@ def test_what_is_asked_of_no_room_is_counted(fronted, method, size):
 def test_lines_of_who_is_let_in(fronted):
     """One for each that a room was asked, cut to a bound; none for what is not there, or was too many. They are counted
     by login, from however many addresses it comes."""
-    front, begin = fronted(rate="1r/s"), time.monotonic()
+    front, begin = fronted(rate="100r/s"), time.monotonic()
     fields = front.fields("u01", [f"user-agent: {ODD}", 'referer: http://a.b/"x'])
     asked = [message(None, "GET", it + "%41" * 900, fields=fields) for it in ("/", "/rooms/gone/")]
     assert set(sent_at_once(front, asked[0], MANY, "127.0.3.1")) == {404, 429}
     for at in range(4):
         assert set(sent_at_once(front, asked[1], BURST, f"127.0.4.{at + 1}")) <= {502, 429}
     front.settle()
-    told, most = text_of(log_of(front, "access.log")).splitlines(), BURST + 2 + time.monotonic() - begin
+    told, most = text_of(log_of(front, "access.log")).splitlines(), BURST + 2 + 100 * (time.monotonic() - begin)
     assert BURST <= len(told) <= most
     assert len(max(told, key=len).encode()) <= LINE
 

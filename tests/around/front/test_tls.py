@@ -10,7 +10,7 @@ import subprocess
 import pytest
 from given import each
 from nginx import certified, login
-from served import Line, end_with_parent, free_port, message, text_of
+from served import Line, end_with_parent, free_port, message, put_file, text_of
 
 from .sides import log_of, values, wrong
 
@@ -86,8 +86,7 @@ def test_no_way_from_another_name(encrypted, name):
 def test_what_certbot_puts_there(encrypted):
     folder = os.path.join(encrypted.folder, "www") + PROOF
     os.makedirs(folder)
-    with open(os.path.join(folder, "x"), "w", encoding="utf-8") as file:
-        file.write("it is mine")
+    put_file(os.path.join(folder, "x"), "it is mine")
     got = in_the_clear(encrypted.http, PROOF + "x")
     assert (got.status, got.body) == (200, b"it is mine")
     for target in PROOF + "y", PROOF + "z" * 1600:

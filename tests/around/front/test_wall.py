@@ -18,7 +18,7 @@ from nginx import FOLDER, PATH
 from served import LIBC, loopback, message, text_of
 
 from .conftest import started
-from .sides import wrong
+from .sides import LEAST, wrong
 
 FRONT, OTHER = 8080, 8001  # ports of that network
 WORKERS = "games"  # the group that stands for the workers'
@@ -286,7 +286,10 @@ def test_a_network(ports):
         begin = time.monotonic()
         connected(20 * NEAR)
         are_bounded("tcp6", AT_ONCE, 30, begin)
-        assert connected([FAR]) == 1
+        with socket.socket(socket.AF_INET6) as line:
+            line.settimeout(0.5)  # (a packet that was dropped comes again after a second)
+            line.bind((FAR, 0))
+            assert line.connect_ex((SERVER, FRONT)) == 0
 
 
 def test_a_site(ports):
@@ -345,6 +348,7 @@ def test_requests_of_a_network(by_six):
 
 
 def test_guesses_of_a_network(by_six):
+    begin = time.monotonic()
     found = [answers(it)[0] for it in [sent(source, wrong("u01")) for source in NEAR]]
     assert set(found) == {b"401", b"429"}
-    assert found.count(b"401") <= 16
+    assert found.count(b"401") <= 16 * max((time.monotonic() - begin) // LEAST, 1)

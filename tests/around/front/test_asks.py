@@ -1,0 +1,374 @@
+"""The sign-in service by itself: when it asks the directory, when it does not, and what it keeps."""
+import base64
+import contextlib
+import json
+import os
+import socket
+import ssl
+import sys
+import threading
+
+import pytest
+from given import each
+from nginx import FOLDER, certified
+
+sys.path.append(os.path.join(FOLDER, "..", "signin"))
+from fileroom_signin import app, known
+from fileroom_signin.directory import Directory as Asked
+from fileroom_signin.directory import Down
+
+pytestmark = pytest.mark.without_program
+
+
+class Clock:
+    """Stands in for the time that goes by."""
+    now = 1000.0
+
+    def monotonic(self):
+        return self.now
+
+
+class Directory:
+    """One that knows ann, and tells what it was asked. `may` lets it answer, all but what is `quick`."""
+
+    def __init__(self):
+        self.asked, self.down, self.may, self.noted, self.quick = [], None, threading.Event(), [], None
+        self.may.set()
+
+    def is_right(self, user, word):
+        self.asked.append((user, word))
+        if word != self.quick:
+            self.may.wait(60)
+        if self.down:
+            raise self.down
+        return (user, word) == ("ann", "ann-word")
+
+    def note(self, words):
+        self.noted.append(words)
+
+
+def field(user, word):
+    return "Basic " + base64.b64encode(f"{user}:{word}".encode()).decode()
+
+
+@pytest.fixture
+def clock(monkeypatch):
+    it = Clock()
+    for module in app, known:
+        monkeypatch.setattr(module, "time", it)
+    return it
+
+
+@pytest.fixture
+def service(tmp_path, clock):
+    users = dict.fromkeys(["ann", "bob", *(f"u{at}" for at in range(99))], [])
+    (tmp_path / "plans.users.json").write_text(json.dumps(users))
+    it = app.SignIn({"servers": [], "binds": []}, str(tmp_path))
+    it.directory = Directory()
+    it.ask = lambda user, word: it.asks(field(user, word), user)
+
+    def asks(its, name):
+        told = []
+        it({"HTTP_AUTHORIZATION": its, "HTTP_FILEROOM_NAME": name}, lambda status, fields: told.append(int(status[:3])))
+        return told[0]
+    it.asks = asks
+    return it
+
+
+def test_a_right_login_is_known_for_a_minute(service, clock):
+    for at, asked in (0, 1), (59.9, 1), (0.2, 2), (59, 2):
+        clock.now += at
+        assert (service.ask("ann", "ann-word"), len(service.directory.asked)) == (204, asked)
+
+
+def test_a_wrong_one_is_known_for_no_right_one(service):
+    assert [service.ask(*it) for it in (("ann", "ann-word"), ("ann", "no"), ("bob", "ann-word"))] == [204, 401, 401]
+    assert len(service.directory.asked) == 3
+
+
+def test_three_wrong_ones(service, clock):
+    """Then the directory is asked about the last right one alone, for half an hour from the first."""
+    service.ask("ann", "ann-word")
+    assert [service.ask("ann", f"no{at}") for at in range(9)] == [401] * 9
+    assert len(service.directory.asked) == 4
+    clock.now += 61
+    assert [service.ask("ann", "ann-word"), service.ask("ann", "no")] == [204, 401]
+    assert service.directory.asked[4:] == [("ann", "ann-word")]
+    clock.now += 1740
+    service.ask("ann", "no")
+    assert len(service.directory.asked) == 6
+
+
+def test_the_last_right_one_is_right_no_more(service, clock):
+    """It counts as any wrong one then: a program that has it still does not lock the account."""
+    service.ask("ann", "ann-word")
+    assert [service.ask("ann", f"no{at}") for at in range(3)] == [401] * 3
+    clock.now += 61
+    service.directory.is_right = lambda *its: service.directory.asked.append(its)
+    assert {service.ask("ann", "ann-word") for _ in range(9)} == {401}
+    assert service.directory.asked[4:] == [("ann", "ann-word")]
+
+
+def test_right_ones_are_not_counted(service, clock):
+    for _ in range(9):
+        clock.now += 61
+        assert service.ask("ann", "ann-word") == 204
+    service.ask("ann", "no")
+    assert len(service.directory.asked) == 10
+
+
+def test_a_name_that_was_never_right_is_shut_out(service, clock):
+    """And another name is not."""
+    assert [service.ask("bob", f"no{at}") for at in range(3)] == [401] * 3
+    service.directory.is_right = lambda *_: True
+    assert [service.ask("bob", "bob-word"), service.ask("ann", "ann-word")] == [401, 204]
+    clock.now += 1801
+    assert service.ask("bob", "bob-word") == 204
+
+
+def test_many_at_once(service):
+    """Who asks counts until it was right, so no more than three are under way."""
+    service.directory.may.clear()
+    threads = [threading.Thread(target=service.ask, args=("bob", f"no{at}")) for at in range(12)]
+    for it in threads:
+        it.start()
+    for it in threads[:0:-1]:
+        it.join(0.05)
+    service.directory.may.set()
+    for it in threads:
+        it.join(60)
+    assert len(service.directory.asked) == 3
+
+
+def test_the_same_at_once(service):
+    """One question, whose answer all have: a program begins with several requests."""
+    for word, status in ("ann-word", 204), ("no", 401):
+        got = []
+        service.directory.asked.clear()
+        service.directory.may.clear()
+        threads = [threading.Thread(target=lambda its=word: got.append(service.ask("ann", its))) for _ in range(9)]
+        for it in threads:
+            it.start()
+        for it in threads:
+            it.join(0.05)
+        service.directory.may.set()
+        for it in threads:
+            it.join(60)
+        assert (got, service.directory.asked) == ([status] * 9, [("ann", word)])
+
+
+@contextlib.contextmanager
+def waiting(service, *logins):
+    """While these wait for a directory that is slow."""
+    service.directory.may.clear()
+    threads = [threading.Thread(target=service.ask, args=its) for its in logins]
+    for it in threads:
+        it.start()
+    for it in threads:
+        it.join(0.05)
+    yield
+    service.directory.may.set()
+    for it in threads:
+        it.join(60)
+
+
+def test_who_was_right_waits_for_nobody(service):
+    """While as many wait as may, the next one is told to come again."""
+    service.ask("ann", "ann-word")
+    with waiting(service, *((f"u{at}", "no") for at in range(app.THREADS))):
+        assert len(service.directory.asked) == 1 + app.AT_ONCE
+        assert [service.ask("ann", "ann-word"), service.ask("bob", "no")] == [204, 503]
+    assert service.ask("bob", "no") == 401
+
+
+def test_guesses_hold_up_nobody_who_was_right_before(service, clock):
+    """While a directory is slow to say no, it is asked about the last right password of a name."""
+    service.ask("ann", "ann-word")
+    clock.now += 61
+    service.directory.quick = "ann-word"
+    with waiting(service, *((f"u{at % 40}", f"no{at}") for at in range(app.THREADS))):
+        assert [service.ask("ann", "ann-word"), service.ask("bob", "no")] == [204, 503]
+
+
+def test_threads_are_left_for_who_was_right(service):
+    """However many wait, whatever they wait for."""
+    left = app.THREADS
+    for places in service.places, service.places_of_last:
+        while places.all.acquire(blocking=False):
+            left -= 1
+    assert left >= 8
+
+
+def test_who_is_shut_out_waits_for_no_place(service):
+    """That it is wrong is told at once, and counted by the front."""
+    assert [service.ask("bob", f"no{at}") for at in range(3)] == [401] * 3
+    with waiting(service, *((f"u{at % app.AT_ONCE}", "no") for at in range(app.AT_ONCE + app.BEHIND))):
+        assert [service.ask("bob", "no"), service.ask("ann", "no")] == [401, 503]
+
+
+def test_the_same_is_no_wrong_one_meanwhile(service):
+    """Two wrong ones are there, and who asks is the third."""
+    assert [service.ask("ann", f"no{at}") for at in range(2)] == [401] * 2
+    got = []
+    service.directory.may.clear()
+    threads = [threading.Thread(target=lambda: got.append(service.ask("ann", "ann-word"))) for _ in range(4)]
+    for it in threads:
+        it.start()
+    for it in threads:
+        it.join(0.05)
+    service.directory.may.set()
+    for it in threads:
+        it.join(60)
+    assert got == [204] * 4
+
+
+@each("may_count, asked", [("it has none of it", False, 9), ("it may have it", True, 3)])
+def test_no_answer(service, may_count, asked):
+    """What the directory may have counted counts here too."""
+    service.directory.down = Down("away", may_count)
+    assert {service.ask("bob", f"no{at}") for at in range(9)} == ({503} if asked == 9 else {503, 401})
+    assert (len(service.directory.asked), service.directory.noted[0]) == (asked, "away")
+
+
+@each("its, name", [
+    ("none", "", ""), ("another kind", "Bearer ann", "ann"), ("no name", field("", "x"), ""),
+    ("no base64", "Basic !", "ann"), ("another letter behind it", field("ann", "ann-word") + "\u00ff", "ann"),
+    ("another name", field("ann", "ann-word"), "bob"), ("in capitals", field("ANN", "ann-word"), "ANN"),
+    ("no password", field("ann", ""), "ann"), ("no colon", "Basic " + base64.b64encode(b"ann").decode(), "ann"),
+    ("an end in it", field("ann", "a\0b"), "ann"), ("too long", field("ann", "x" * 257), "ann"),
+    ("no letters", "Basic " + base64.b64encode(b"ann:\xff").decode(), "ann"), ("of no room", field("eve", "x"), "eve")])
+def test_what_asks_nobody(service, its, name):
+    assert (service.asks(its, name), service.directory.asked) == (401, [])
+
+
+def test_names_that_a_directory_takes_for_one(service, clock, tmp_path):
+    """It is asked about neither, in whatever rooms they are; and that is told once."""
+    told = []
+    service.users.tell = told.append
+    assert service.ask("ann", "ann-word") == 204
+    (tmp_path / "club.users.json").write_text('{"ANN": []}')
+    for _ in range(2):
+        clock.now += 5.1
+        assert [service.ask(it, "ann-word") for it in ("ann", "ANN", "bob")] == [401] * 3
+    assert told == ["nobody is asked about names that differ by capitals alone: ANN, ann"]
+    assert {user for user, _ in service.directory.asked[1:]} == {"bob"}
+    (tmp_path / "club.users.json").unlink()
+    clock.now += 5.1
+    assert service.ask("ann", "ann-word") == 204
+
+
+def test_who_came_to_a_room_since(service, clock, tmp_path):
+    service.directory.is_right = lambda *_: True
+    (tmp_path / "club.users.json").write_text('{"eve": []}')
+    assert service.ask("eve", "x") == 204
+    (tmp_path / "club.users.json").write_text("{}")
+    assert service.ask("eve", "x") == 204
+    clock.now += 5.1
+    assert service.ask("eve", "x") == 401
+
+
+@each("text", [("no JSON", "{"), ("no object", "[1]"), ("none", None)])
+def test_rosters_that_cannot_be_read(service, tmp_path, text):
+    """Then nobody is told that a password is wrong."""
+    (tmp_path / "plans.users.json").unlink()
+    if text is None:
+        tmp_path.rmdir()
+    else:
+        (tmp_path / "plans.users.json").write_text(text)
+    assert (service.ask("ann", "ann-word"), service.directory.asked) == (401 if text == "[1]" else 503, [])
+
+
+def test_memory_has_a_bound(service, clock):
+    its = service.known
+    for at in range(known.MOST + 100):
+        its.take("ann", its.mark("ann", f"{at}"))
+    assert len(its.right) == known.MOST
+    clock.now += 61
+    its.take("ann", its.mark("ann", "x"))
+    assert len(its.right) == 1
+
+
+def test_a_mark_is_this_processs_own():
+    its = [known.Known({}) for _ in range(2)]
+    assert its[0].mark("ann", "x") != its[1].mark("ann", "x")
+    assert its[0].mark("ann", "b:c") != its[0].mark("ann:b", "c")
+
+
+# What a directory says (RFC 4511)
+
+BIND, EXTENDED = 0x61, 0x78  # the answers to a bind, and to STARTTLS
+
+
+@pytest.fixture(scope="module")
+def pair(tmp_path_factory):
+    return certified(str(tmp_path_factory.mktemp("cert")), "IP:127.0.0.1")
+
+
+@pytest.fixture
+def speaks(pair):
+    """Serves one that answers each request with this kind and code, by TLS or not; and what it got."""
+    cert, key = pair
+    listeners = []
+
+    def serve(kind, code, is_tls=True, more=b"\x04\x00\x04\x00"):
+        listener, got = socket.create_server(("127.0.0.1", 0)), []
+        listeners.append(listener)
+
+        def answer():
+            with contextlib.suppress(OSError):
+                while True:
+                    one(listener.accept()[0])
+
+        def one(line):
+            if is_tls:
+                context = ssl.SSLContext(ssl.PROTOCOL_TLS_SERVER)
+                context.load_cert_chain(cert, key)
+                line = context.wrap_socket(line, server_side=True)
+            with line, contextlib.suppress(OSError):
+                while data := line.recv(4096):
+                    got.append(data)
+                    its = b"\x0a\x01" + bytes([code]) + more
+                    told = data[2:5] + bytes([kind, len(its)]) + its
+                    line.sendall(bytes([0x30, len(told)]) + told)
+        threading.Thread(target=answer, daemon=True).start()
+        scheme = "ldaps" if is_tls else "ldap"
+        conf = {"servers": [f"{scheme}://127.0.0.1:{listener.getsockname()[1]}"], "binds": ["uid={},ou=people"],
+                "ca": open(cert, encoding="utf-8").read()}
+        return Asked(conf, lambda words: None), got
+    yield serve
+    for it in listeners:
+        it.close()
+
+
+@each("code, answer", [("right", 0, True), ("wrong", 49, False)])
+def test_yes_or_no(speaks, code, answer):
+    directory, got = speaks(BIND, code)
+    assert directory.is_right("ann", "ann-word") is answer
+    assert b"uid=ann,ou=people" in got[0] and b"ann-word" in got[0]
+
+
+@each("code", [("an error of its own", 1), ("of the protocol", 2), ("stronger authentication", 8), ("a referral", 10),
+               ("busy", 51), ("unwilling", 53), ("no such object", 32)])
+def test_neither_yes_nor_no(speaks, code):
+    """It goes to no other server, and is no wrong password."""
+    directory, got = speaks(BIND, code)
+    with pytest.raises(Down) as told:
+        directory.is_right("ann", "ann-word")
+    assert "terminated" not in str(told.value)
+    assert len([it for it in got if b"ann-word" in it]) == 1
+
+
+def test_no_password_goes_in_the_clear(speaks):
+    directory, got = speaks(EXTENDED, 2, is_tls=False)
+    with pytest.raises(Down):
+        directory.is_right("ann", "ann-word")
+    assert got and b"ann-word" not in b"".join(got)
+
+
+def test_a_fault_is_told_once_in_a_while(clock):
+    told = []
+    its = Asked({"servers": [], "binds": []}, told.append)
+    its.note("away")
+    its.note("away")
+    its.note("other")
+    assert told == ["away", "other"]
