@@ -11,13 +11,13 @@ import hashlib
 import json
 import os
 import pwd
-import socket
 import stat
 import subprocess
 import time
 
+from .asking import answers
 from .owned import of_backups
-from .places import HERE, SEARCHED, Fault, asked, said
+from .places import HERE, SEARCHED, Fault, asked, read_json, said
 
 JOURNAL, LOCK = "etc/fileroom/admin.journal", "etc/fileroom/admin.lock"
 NEW, OLD = ".fileroom-new", ".fileroom-old"
@@ -26,6 +26,7 @@ FOLDER = os.O_RDONLY | os.O_DIRECTORY | os.O_NOFOLLOW | os.O_CLOEXEC
 AS_ROOMS = ("setsid", "-w", "env", "-i", f"PATH={SEARCHED}", "setpriv", "--reuid=fileroom", "--regid=fileroom",
             "--clear-groups", "--")
 RENEW = os.path.join(HERE, "../../fileroom-renew")
+MANY = 5  # starts of a program that ends each time
 MOST_SAID = 4096  # bytes of what a process of the rooms' user says
 OWN_FILE = os.O_RDWR | os.O_CREAT | os.O_NOFOLLOW | os.O_CLOEXEC
 
@@ -72,6 +73,7 @@ def write(path, data, mode, owner):
         if owner:
             os.chown(path, *owner)
         os.chmod(path, mode)
+        file.flush()
         os.fsync(file.fileno())
 
 
@@ -244,22 +246,18 @@ def put_aside(state):
 
 
 def wait_until_answers(places, room):
-    """A room's program is soon there; on another root than / nothing is started."""
+    """A room's program is soon there, or never; on another root than / nothing is started."""
     end = time.monotonic() + 120  # (a large one reads its file)
     while places.is_machine and not answers(places.socket(room)):
-        if time.monotonic() > end:
+        if time.monotonic() > end or starts_again(room) >= MANY:
             raise Fault(f"the room {room} does not answer: journalctl -u fileroom@{room} -u fileroom-proxy@{room}")
         time.sleep(0.1)
 
 
-def answers(path):
-    """Whether a room answers at its socket: that there is no such way, say."""
-    with socket.socket(socket.AF_UNIX) as line, contextlib.suppress(OSError):
-        line.settimeout(5)
-        line.connect(path)
-        line.sendall(b"GET / HTTP/1.1\r\nconnection: close\r\n\r\n")
-        return line.recv(4) == b"HTTP"
-    return False
+def starts_again(room):
+    """How often systemd started its program again, which had ended."""
+    told = said("systemctl", "show", "--property=NRestarts", f"fileroom@{room}")[1].removeprefix("NRestarts=")
+    return int(told) if told.isdecimal() else 0
 
 
 @contextlib.contextmanager
@@ -276,8 +274,7 @@ def alone(places, tell):
 def recover(places, tell):
     path = places.at(JOURNAL)
     if os.path.exists(path):
-        with open(path, encoding="utf-8") as file:
-            journal = Journal(places, json.load(file))
+        journal = Journal(places, read_json(path, dict))
         if journal.says["state"] == "decided":
             tell("continuing a change that was stopped")
             for user in journal.says.get("drawn", ()):
@@ -291,8 +288,8 @@ def recover(places, tell):
             tell("undoing a change that was stopped")
             journal.undo()
     for folder in "etc/fileroom", "etc/nginx/fileroom", "etc/nginx/fileroom/rooms", "etc/nginx/fileroom/queues", \
-            "etc/nginx/fileroom/dav", "etc/nginx/fileroom/tls", "etc/nginx/conf.d", "etc/nginx/modules-enabled", \
-            "etc/nginx", "etc/logrotate.d", "var/log/fileroom":
+            "etc/nginx/fileroom/dav", "etc/nginx/fileroom/signin", "etc/nginx/fileroom/tls", "etc/nginx/conf.d", \
+            "etc/nginx/modules-enabled", "etc/nginx", "etc/logrotate.d", "var/log/fileroom":
         clear_folder(places.at(folder))
 
 

@@ -2,6 +2,7 @@
 import json
 import os
 
+from . import now
 from .changes import Change
 from .places import HERE, Fault, asked, read_json, said, sample
 
@@ -34,46 +35,52 @@ def need_place(places):
         asked("systemd-tmpfiles", "--create", os.path.join(HERE, "../../../../lib/tmpfiles.d/fileroom.conf"))
 
 
-class Dav:
-    def dav_rooms(self):
-        return rooms_of(self.places)
+def tell(call):
+    call.say("\n".join(rooms_of(call.places)) or "no room has WebDAV")
 
-    def dav(self, word, room):
-        if word == "list":
-            return self.say("\n".join(self.dav_rooms()) or "no room has WebDAV")
-        if not room:
-            raise Fault(f"dav {word} ROOM")
-        self.need_room(room)
-        before, is_on = self.dav_rooms(), word == "on"
-        if is_on:
-            if lacks_parts():
-                raise Fault(f"the gateway needs two packages: {PACKAGES}")
-            need_place(self.places)
-        change = Change(self.places)
-        after = sorted({*before, room}) if is_on else [it for it in before if it != room]
-        self.put_dav(change, before, after)
-        change.look("nginx", "-tq")
-        change.then("systemctl", "daemon-reload")
-        self.serve_dav(change, before, after)
-        change.then(*self.places.read_front())
-        change.happen()
-        self.say(f"{room} is at /dav/{room}/ for file managers" if is_on else f"{room} has no WebDAV")
 
-    def serve_dav(self, change, before, after):
-        """The gateway, which is there while some room has it."""
-        if bool(before) != bool(after):
-            here, gone = ("enable", "--now"), ("disable", "--now")
-            how, back = (here, gone) if after else (gone, here)
-            change.then("systemctl", *how, SOCKET, undo=("systemctl", *back, SOCKET))
-        if before and not after:
-            change.then("systemctl", "stop", SERVICE, undo=("true",))
+def turn_on(call, room):
+    now.need_room(call.places, room)
+    if lacks_parts():
+        raise Fault(f"the gateway needs two packages: {PACKAGES}")
+    need_place(call.places)
+    become(call.places, sorted({*rooms_of(call.places), room}))
+    call.say(f"{room} is at /dav/{room}/ for file managers")
 
-    def put_dav(self, change, before, after):
-        """The files of the front, of the rooms that have it from now on."""
-        files = files_of(after)
-        for name in files_of(before).keys() - files.keys():
-            change.remove(self.places.front(name))
-        for name, text in files.items():
-            change.put(self.places.front(name), text)
-        if before or after:
-            change.put(self.places.front(LIST), json.dumps(after) + "\n")
+
+def turn_off(call, room):
+    now.need_room(call.places, room)
+    become(call.places, [it for it in rooms_of(call.places) if it != room])
+    call.say(f"{room} has no WebDAV")
+
+
+def become(places, after):
+    """The rooms that have it."""
+    before, change = rooms_of(places), Change(places)
+    put(change, before, after)
+    change.look("nginx", "-tq")
+    change.then("systemctl", "daemon-reload")
+    serve(change, before, after)
+    change.then(*places.read_front())
+    change.happen()
+
+
+def serve(change, before, after):
+    """The gateway, which is there while some room has it."""
+    if bool(before) != bool(after):
+        here, gone = ("enable", "--now"), ("disable", "--now")
+        how, back = (here, gone) if after else (gone, here)
+        change.then("systemctl", *how, SOCKET, undo=("systemctl", *back, SOCKET))
+    if before and not after:
+        change.then("systemctl", "stop", SERVICE, undo=("true",))
+
+
+def put(change, before, after):
+    """The files of the front, of the rooms that have it from now on."""
+    files, at = files_of(after), change.places.front
+    for name in files_of(before).keys() - files.keys():
+        change.remove(at(name))
+    for name, text in files.items():
+        change.put(at(name), text)
+    if before or after:
+        change.put(at(LIST), json.dumps(after) + "\n")

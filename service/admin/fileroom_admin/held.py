@@ -26,12 +26,21 @@ def need_bound(bound):
         raise Fault(f"a bound is {', '.join(BOUNDS)}: {bound!r} is not")
 
 
+def are_bounds(its):
+    """Of a room. (People edit such by hand.)"""
+    kinds = [its.get("groups", {}), its.get("users", {})] if isinstance(its, dict) else [None]
+    return all(isinstance(it, dict) for it in kinds) and all(
+        it in [*BOUNDS] for it in (its.get("room", USUAL), *(it for kind in kinds for it in kind.values())))
+
+
 class Bounds:
     """Those of all rooms: {ROOM: {"room": BOUND, "groups": {GROUP: BOUND}, "users": {USER: BOUND}}}."""
 
     def __init__(self, places):
         self.places, self.path = places, places.at(FILE)
         self.set = read_json(self.path, dict)
+        for room in (it for it in self.set if not are_bounds(self.set[it])):
+            raise Fault(f"{self.path} has something else than bounds for {room}: a bound is {', '.join(BOUNDS)}")
 
     def put(self, room, bound, kind=None, name=None):
         need_bound(bound)
@@ -103,7 +112,12 @@ def marked(path):
     return read(path, "").partition(" ")[2].strip()
 
 
-def hold(places, room, user, at=None, is_made=False):
+def is_by_hand(places, room, user):
+    """Whom no count let go."""
+    return marked(path_of(places, room, user)) == BY_HAND
+
+
+def hold(places, room, user, at=None, is_made=False, is_told=True):
     """By hand, or where `at` so many were counted. (No command waits for this, nor does this for one.)"""
     path = path_of(places, room, user)
     if room not in places.rooms() or at and (
@@ -112,25 +126,30 @@ def hold(places, room, user, at=None, is_made=False):
     own_folder(places, os.path.dirname(path))
     mark = mark_of(at, is_made) if at else BY_HAND
     write(f"{time.strftime('%Y-%m-%dT%H:%M:%SZ', time.gmtime())} {mark}\n", path, 0o640, group_of_workers(places))
-    put(places)
+    if is_told:
+        put(places)
     return True
 
 
 def release(places, room, user, over=None, is_made=False):
     """And what fail2ban counted of the login begins anew. Where it says itself that a jail's day is `over`, it is not
     asked; and only whom that jail holds is let go: each login passes the lower ones' bounds hours before its own."""
-    path = path_of(places, room, user)
-    if over and marked(path) != mark_of(over, is_made):
-        return
-    with contextlib.suppress(FileNotFoundError):
-        os.unlink(path)
-    for it in [] if over else JAILS:
-        said("fail2ban-client", "set", it, "unbanip", f"{user}@{room}")
+    if not over or marked(path_of(places, room, user)) == mark_of(over, is_made):
+        free(places, room, [user], is_anew=not over)
+
+
+def let_go(places, room, *users):
+    """Who of these is held in a room, or all there: for users, and a room, that are no more."""
+    found = [it for it in held_in(places, room) if not users or it in users]
+    if found:
+        free(places, room, found)
+
+
+def free(places, room, users, is_anew=True):
+    """(Of many it is asked at once: each time takes it part of a second.)"""
+    for it in users:
+        with contextlib.suppress(FileNotFoundError):
+            os.unlink(path_of(places, room, it))
+    for it in JAILS if is_anew else ():
+        said("fail2ban-client", "set", it, "unbanip", *(f"{user}@{room}" for user in users))
     put(places)
-
-
-def let_go(places, room, user=None):
-    """Who of that name is held in a room, or all there: for a user, and a room, that is no more."""
-    for it in held_in(places, room):
-        if user in (None, it):
-            release(places, room, it)

@@ -8,16 +8,16 @@ import shutil
 import stat
 import time
 
-from . import dav, paces, rosters, warned
+from . import alive, dav, now, paces, rosters, signin, warned
 from .changes import JOURNAL, sum_in
-from .commands import OF_ROOM, end_of, of_room
-from .held import JAILS, Bounds
+from .front import OF_ROOM, end_of, of_room
+from .held import JAILS, Bounds, is_by_hand
 from .owned import made_at
 from .places import (CHANGES, FRONT_FILES, HERE, LISTEN, LOGINS, SEARCHED, WORKERS, Fault, read, read_json, said,
                      said_before, sample)
 
-PROGRAMS = {"nginx": "nginx-light", "openssl": "openssl", "sqlite3": "sqlite3", "nft": "nftables", "curl": "curl",
-            "logrotate": "logrotate"}
+PROGRAMS = {"nginx": "nginx-light", "haproxy": "haproxy", "openssl": "openssl", "sqlite3": "sqlite3",
+            "nft": "nftables", "curl": "curl", "logrotate": "logrotate"}
 ROOM_LEFT = 1 << 30  # bytes that a disk should have free, or a tenth of it
 DAYS_LEFT = 21  # of a certificate
 TRIED_DAYS = 9  # since a backup was tried
@@ -33,8 +33,11 @@ PREFIX = os.path.join(HERE, "../../../..")  # of what `make install` put; in a c
 # where systemd looks for units before it does below the prefix
 BEFORE = "etc/systemd/system.control", "etc/systemd/system", "run/systemd/system", "usr/local/lib/systemd/system"
 FRONT_REMEDY = "run fileroom-admin front"
-ONE_VERSION = "make install, of one version"
+ONE_VERSION = "make install, or the package again: of one version"
 SUMS = "share/fileroom/sums"
+ROSTER_CONF, BY_DIRECTORY = "etc/fileroom/roster.conf", "fileroom-roster"
+ALL_UNITS = "fileroom-.service"  # whose drop-ins are those of each unit whose name begins so
+OF_ALL = "00-hardening.conf"  # a drop-in of ours
 OF_MANAGER = "50-pacemaker.conf"  # a drop-in of Pacemaker's own, for what it starts
 
 
@@ -80,7 +83,8 @@ class Findings:
         """What systemd takes in the place of an installed unit, or with it, or has not read yet."""
         names = ["fileroom-ports.service", *(it for room in self.places.rooms() for it in self.places.units(room))]
         names += [dav.SOCKET, dav.SERVICE] if dav.rooms_of(self.places) else []
-        for name in sorted({*names, *map(template_of, names)}):
+        names += [signin.SOCKET, signin.SERVICE] if signin.is_on(self.places) else []
+        for name in sorted({*names, *map(template_of, names), ALL_UNITS}):
             for folder in BEFORE:
                 self.unit_before(self.places.at(f"{folder}/{name}"), name)
         if "NeedDaemonReload=yes" in said("systemctl", "show", "--property=NeedDaemonReload", *names)[1].splitlines():
@@ -93,8 +97,9 @@ class Findings:
         if os.path.lexists(path) and os.path.realpath(path) != os.path.realpath(installed):
             self.add(f"{path} hides the installed unit", "move it away, then systemctl daemon-reload and restart it; "
                      f"put your own lines into a drop-in: systemctl edit {name}")
+        ours = os.path.realpath(os.path.join(PREFIX, "lib/systemd/system", f"{name}.d", OF_ALL))
         for it in sorted(glob.glob(f"{glob.escape(path)}.d/*.conf")):
-            if os.path.basename(it) == OF_MANAGER:
+            if os.path.basename(it) == OF_MANAGER or os.path.realpath(it) == ours:
                 continue
             self.note(f"{it} changes the installed unit", f"if that is not intended: systemctl revert {name}")
 
@@ -133,6 +138,9 @@ class Findings:
                 has_ended = said("openssl", "x509", "-noout", "-checkend", "0", "-in", cert)[0]
                 self.add(f"the certificate {'has expired' if has_ended else 'expires'}: {end_of(cert)}",
                          "fileroom-admin tls, with a new one (docs/RUNNING.md, HTTPS)")
+            if "PRIVATE KEY" in read(cert):  # (as versions before put it there, where it stood in the file CERT)
+                self.add(f"{cert} has a private key, which any user of this machine can read",
+                         "fileroom-admin tls, with a new key and its certificate")
             self.mode(self.places.front("tls/key.pem"), OTHERS, "chmod 600")
 
     def others_there(self):
@@ -151,16 +159,13 @@ class Findings:
         if os.path.exists(self.places.at(LOGINS)):
             self.mode(self.places.at(LOGINS), OTHERS & ~stat.S_IRGRP, "chmod 640")
         self.mode(os.path.dirname(self.places.at(CHANGES)), OTHERS & ~stat.S_IXGRP, "chmod 710")
-        known = {user for room in self.places.rooms() for user in self.users(room)}
+        known = {user for room in self.places.rooms() for user in now.users(self.places, room)}
         for it in sorted({*rosters.logins_of(read(users))} - known):
             self.add(f"{it} has a login but is in no roster", f"fileroom-admin user add ROOM {it}")
 
     def mode(self, path, not_these, remedy):
         if stat.S_IMODE(os.stat(path).st_mode) & not_these:
             self.add(f"{path} has permissions that are too open", f"{remedy} {path}")
-
-    def users(self, room):
-        return rosters.users_of(read(self.places.roster(room)), self.places.roster(room))
 
     def room(self, room):
         places = self.places
@@ -175,10 +180,17 @@ class Findings:
             self.mode(places.state(room), OTHERS, "chmod 700")
             self.owner(places.file(room))
             self.memory(room)
+            self.answering(room)
         self.running(room)
         units = [] if places.has_standby(room) else [f"fileroom@{room}", f"fileroom-proxy@{room}.socket"]
         for unit in *units, f"fileroom-backup@{room}.timer", f"fileroom-try@{room}.timer":
             self.unit(unit)
+
+    def answering(self, room):
+        """(Where nothing listens for it, its units are found.)"""
+        fault = alive.trouble(self.places, room)
+        if fault:
+            self.add(fault, "docs/RUNNING.md, A room that takes no request")
 
     def unit(self, name):
         if said("systemctl", "is-active", "-q", name)[0]:
@@ -225,8 +237,13 @@ class Findings:
     def held(self, room):
         for user, since in warned.held_in(self.places, room).items():
             when = time.strftime("%Y-%m-%dT%H:%M", time.localtime(since))
+            lets_go = f"fileroom-admin user release {room} {user}"
+            if is_by_hand(self.places, room, user):
+                self.add(f"{room}: {user} is held since {when}, by hand, or as `user remove --to` left something",
+                         f"{lets_go}; or call that again")
+                continue
             self.add(f"{room}: {user} is held since {when}, for asking more in a day than the bound of this login",
-                     f"fileroom-admin log {room} --user {user} shows what; fileroom-admin user release {room} {user}; "
+                     f"fileroom-admin log {room} --user {user} shows what; {lets_go}; "
                      f"fileroom-admin bound {room} many --user {user}")
 
     def counted(self):
@@ -240,11 +257,12 @@ class Findings:
                      "journalctl -u fail2ban shows why it does not run")
 
     def owner(self, path):
+        """(A room's process that was taken over can make it a link, to what is root's.)"""
         if not self.places.is_machine:
             return
-        owner = pwd.getpwuid(os.stat(path).st_uid).pw_name
+        owner = pwd.getpwuid(os.lstat(path).st_uid).pw_name
         if owner != "fileroom":
-            self.add(f"{path} belongs to {owner}", f"chown fileroom:fileroom {path}")
+            self.add(f"{path} belongs to {owner}", f"chown -h fileroom:fileroom {path}")
 
     def wall(self):
         if said("nft", "list", "table", "inet", "fileroom")[0]:
@@ -268,8 +286,35 @@ class Findings:
             self.add(f"{dav.SERVICE} has failed", f"journalctl -u {dav.SERVICE} shows why")
         self.mode(self.places.at(dav.MEETING), stat.S_IRWXO | stat.S_IWGRP, "chmod 750")
 
+    def directory(self):
+        """(Where none is asked, nothing is looked for.)"""
+        if not signin.is_on(self.places):
+            return
+        if read(self.places.front(signin.FRONT), "") != sample("signin.conf"):
+            self.add(f"/etc/nginx/fileroom/{signin.FRONT} is not from the installed version", FRONT_REMEDY)
+        if signin.lacks_parts():
+            self.add("the sign-in service lacks a package", signin.PACKAGES)
+        self.unit(signin.SOCKET)
+        if not said("systemctl", "is-failed", "-q", signin.SERVICE)[0]:
+            self.add(f"{signin.SERVICE} has failed", f"journalctl -u {signin.SERVICE} shows why")
+        for text, remedy in signin.faults(self.places):
+            self.add(text, remedy)
+
+    def synced(self):
+        """(Where no directory gives the roster, nothing is looked for.)"""
+        conf = self.places.at(ROSTER_CONF)
+        if not os.path.exists(conf):
+            return
+        self.mode(conf, OTHERS, "chmod 600")
+        self.unit(f"{BY_DIRECTORY}.timer")
+        if not said("systemctl", "is-failed", "-q", f"{BY_DIRECTORY}.service")[0]:
+            self.add("users are not as the directory has them: the last sync failed, or was refused",
+                     f"journalctl -u {BY_DIRECTORY} says why; docs/RUNNING.md, Users from a directory")
+
     def backup(self, room, hours):
         names = self.places.copies(room)
+        if not said("systemctl", "is-failed", "-q", f"fileroom-backup@{room}.service")[0]:
+            self.add(f"{room}: its last backup failed", f"journalctl -u fileroom-backup@{room} says why")
         if not names:
             self.add(f"{room} has no backup", f"systemctl start fileroom-backup@{room}")
             return
@@ -324,7 +369,8 @@ def look(it, hours):
     """Fills the findings. (A machine where nothing has begun lacks a room alone.)"""
     places = it.places
     has_begun = bool(places.rooms()) or os.path.exists(places.front("rooms.json"))
-    for task in it.programs, it.installed, *([it.front, it.passwords, it.wall, it.webdav] if has_begun else []):
+    of_front = [it.front, it.passwords, it.wall, it.webdav, it.directory, it.synced]
+    for task in it.programs, it.installed, *(of_front if has_begun else []):
         it.part(task)
     if not places.rooms():
         it.add("there is no room", "fileroom-admin room add NAME OWNER GROUP, or room import FILE")

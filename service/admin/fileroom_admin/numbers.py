@@ -6,17 +6,17 @@ import re
 import shutil
 import time
 
-from . import paces, rosters, warned
-from .changes import answers
-from .looking import Findings, end_of, look
+from . import alive, paces, rosters, warned
+from .front import end_of
+from .looking import Findings, look
 from .owned import latest, made_at
-from .places import LISTEN, Fault, read, said_before, write
+from .places import LISTEN, Fault, read, said_before
 
 WINDOW = 600  # seconds of the front's log that are counted
 TAIL = 8 << 20  # bytes of it that are read at most
 LINE = re.compile(rb'\S+ - \S* \[([^\]]+)\] "[A-Z]+ /rooms/([A-Za-z0-9_-]+)/v1/[^"]*" (\d)\d\d .* ([\d.]+)$')
 ABOUT = {
-    "up": "whether the room answers at its socket",
+    "up": "whether the room takes a request, which it writes down",
     "room_bytes": "size of the room's file and log",
     "room_growth_bytes_per_day": "by its backups of the last days",
     "memory_limit_bytes": "of the room's unit: its file has to fit it",
@@ -64,7 +64,7 @@ class Numbers:
         self.add("held", len(warned.held_in(places, room)), room=room)
         self.add("users", len(rosters.users_of(read(places.roster(room)))), room=room)
         if is_here:
-            self.add("up", answers(places.socket(room)), room=room)
+            self.add("up", is_up(places, room), room=room)
             self.add("room_bytes", paces.size_of(places.state(room)), room=room)
             self.add("memory_limit_bytes", paces.memory_of(places.unit(room)), room=room)
             self.add("memory_left_days", paces.of_memory(places, room), room=room)
@@ -107,6 +107,10 @@ class Numbers:
             end = datetime.datetime.strptime(end_of(self.places.front("tls/cert.pem")), "%b %d %H:%M:%S %Y %Z")
             self.add("certificate_seconds", end.replace(tzinfo=datetime.timezone.utc).timestamp() - time.time())
         self.add("findings", len(findings.found))
+
+
+def is_up(places, room):
+    return os.path.exists(places.socket(room)) and not alive.fault_of(places, room)
 
 
 def lines_of_front(path):

@@ -13,6 +13,14 @@ from .places import HERE, Fault
 
 TOLD = 20  # paths at most
 GROUP, INHERITED = 0x40, 0x80  # marks of an entry
+# (how many things each owns, with a large file as one)
+WHOLE = """SELECT node.owner, count(*) FROM node LEFT JOIN node AS above ON above.id = node.parent
+    WHERE node.name NOT GLOB '.room-pieces-*' AND coalesce(above.name, '') NOT GLOB '.room-pieces-*'
+    GROUP BY node.owner"""
+# (of whom each such folder is, by its name: docs/FILES.md)
+EMPTY_TRASHES = """SELECT it.id, it.name FROM node AS it JOIN node AS part ON part.id = it.parent
+    JOIN node AS top ON top.id = part.parent JOIN node AS root ON root.id = top.parent WHERE root.parent IS NULL
+    AND top.name = 'trash' AND part.name GLOB '@?' AND NOT EXISTS (SELECT 1 FROM node WHERE parent = it.id)"""
 PIECES = re.compile(r"/\.room-pieces-[0-9a-f]{16}(/|\Z)")  # a part of a large file (docs/FILES.md)
 
 
@@ -73,19 +81,48 @@ def found(places, room, user):
     return name, *paths
 
 
+def deepest_first(places, room, users):
+    """By the latest backup the paths that each of some users owns, parts of large files too, each before the folders
+    that it is in: who passes through a folder as its owner alone still does."""
+    paths = {}
+    with opened(places, room, latest(places, room), is_whole=True) as table:
+        for user in users:
+            nodes = table.execute("SELECT id FROM node WHERE owner = ?", (user,)).fetchall()
+            paths[user] = sorted((path_of(table, it) for it, in nodes), key=lambda it: (-it.count("/"), it == "/", it))
+    return paths
+
+
 def known(places, room, users):
-    """The backup, and those of the users who own something by it, or whom an own entry names."""
+    """The backup, and those of the users who own something by it, or whom an own entry names. (A trash of that name in
+    which nothing is tells nobody anything, and becomes whose name it is.)"""
     name = latest(places, room)
     with opened(places, room, name) as table:
-        owners = {it for it, in table.execute("SELECT DISTINCT owner FROM node")}
-        named = {it for it, in table.execute("SELECT DISTINCT who FROM entry WHERE flag & ? = 0", (GROUP | INHERITED,))}
-    return name, [it for it in users if it in owners | named]
+        bare = {*table.execute(EMPTY_TRASHES)}
+        owners = table.execute("SELECT DISTINCT owner, CASE WHEN owner = name THEN id END FROM node")
+        named = table.execute("SELECT DISTINCT who, node FROM entry WHERE flag & ? = 0", (GROUP | INHERITED,))
+        found = {it for it, node in (*owners, *named) if (node, it) not in bare}
+    return name, [it for it in users if it in found]
 
 
-def told(places, room, user, to=None):
-    """Lines about it, after how to have a list of now, and with the one that hands it over."""
+def left_by(places, room, users):
+    """A line for each of some users who owns something there, or whom a list names."""
+    try:
+        name = latest(places, room)
+        with opened(places, room, name) as table:
+            things = dict(table.execute(WHOLE))
+            lists = dict(table.execute("SELECT who, count(DISTINCT node) FROM entry WHERE flag & ? = 0 GROUP BY who",
+                                       (GROUP | INHERITED,)))
+    except (Fault, OSError) as fault:
+        return [f"what they own in {room} is not known: {fault}"]
+    return [f"{room}: {it} owns {things.get(it, 0)} things and is named in {lists.get(it, 0)} lists, by the backup "
+            f"{name}: fileroom-admin user owns {it}" for it in users if it in things or it in lists]
+
+
+def told(places, room, user, to=None, is_given=False):
+    """Lines about it, after how to have a list of now, and with the one that hands it over; what `is_given` already is
+    left out."""
     name, owns, named = found(places, room, user)
-    shown = of_backups().shown
+    shown, owns = of_backups().shown, [] if is_given else owns
     lines = [f"the backup {name} of {room} does not have what was done since; {anew(room, user)}"]
     for what, paths in (f"owns {len(owns)} things", owns), (f"is named in {len(named)} lists", named):
         if paths:

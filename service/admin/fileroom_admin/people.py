@@ -1,378 +1,324 @@
-"""Users and groups, one or many at once: a command is one change, and each room of it starts again once."""
+"""Users and groups, one or many at once: a command is one change, which each room of it reads with its next request.
+"""
 import json
 import os
 import secrets
 import sys
-import time
 
-from . import held, owned, rosters, sheets
-from .changes import Change, answers
-from .places import WORKERS, Fault, read, read_json, said
-from .steps import Step
+from . import held, now, owned, rosters, sheets, signin
+from .changes import Change
+from .places import WORKERS, Fault, read
 from .trash import Trashes
-from .warned import owner_of
 
 FOR_WORKERS = 0o640, WORKERS  # who may read the passwords
 DRAWN = 12  # bytes
-FEW = 5  # users who may go at once without a word
 FAULTS = 20  # of a table that are told: nobody else changes anything meanwhile
-PATIENCE = 120  # seconds in which a large room has read its file again
 
 
-class People:
-    """What a command of `Commands` does to users. `say` tells somebody who looks on, `tell` what -q prints too."""
+# Changes of rosters.
 
-    def __init__(self, places, say, tell):
-        self.places, self.say, self.tell = places, say, tell
+def put_roster(change, room, text, changed):
+    """The roster `text` with what changes of users, as `rosters.with_users` has it."""
+    places, made = change.places, rosters.with_users(text, changed)
+    roster = places.roster(room)
+    change.put(roster, made)
+    change.put(places.front(f"rooms/{room}.users.json"), rosters.page_copy(made))
+    one = next(iter(changed))
+    change.look(places.program, "replay", roster, "--", one, one)
 
-    # What is there.
 
-    def passwords(self):
-        return read(self.places.front("users"), "")
+def twins_by(places, changed):
+    """What speaks against a change of rosters where a directory is asked: it lets in `ANN` by the password of `ann`.
+    (Those who are there already may stay while others change.)"""
+    before = {it: now.users(places, it) for it in places.rooms()} if signin.is_on(places) else {}
+    after = {it: {**before.get(it, {}), **changed.get(it, {})} for it in {**before, **changed}} if before else {}
+    left = [user for its in after.values() for user, groups in its.items() if groups is not None]
+    new = rosters.twins_of(left) - rosters.twins_of(user for its in before.values() for user in its)
+    return [f"{' and '.join(it)} are one account for the directory: choose another name" for it in sorted(new)]
 
-    def names(self):
-        """The users' names as people write them."""
-        return read_json(self.places.front("names.json"), dict)
 
-    def need_room(self, room):
-        if room not in self.places.rooms():
-            raise Fault(f"there is no room {room}: {', '.join(self.places.rooms()) or 'none at all'}")
+def need_no_twins(places, changed):
+    for it in twins_by(places, changed):
+        raise Fault(it)
 
-    def users(self, room):
-        self.need_room(room)
-        return rosters.users_of(read(self.places.roster(room)), self.places.roster(room))
 
-    def need_user(self, room, user):
-        if user not in self.users(room):
-            raise Fault(f"{user} is no user of the room {room}")
+def change_rosters(places, changed):
+    """The change of some rooms' rosters, {ROOM: {USER: groups}}."""
+    need_no_twins(places, changed)
+    change = Change(places)
+    for room, its in changed.items():
+        put_roster(change, room, read(places.roster(room)), its)
+    return change
 
-    def rooms_of(self, user):
-        return [it for it in self.places.rooms() if user in self.users(it)]
 
-    # Changes of rosters.
+def leave_bounds(change, gone):
+    """Of the users of each room who go."""
+    bounds = held.Bounds(change.places)
+    for room, users in gone.items():
+        for user in users:
+            bounds.leave(change, room, user)
 
-    def put_roster(self, change, room, text, changed):
-        """The roster `text` with what changes of users, as `rosters.with_users` has it."""
-        made = rosters.with_users(text, changed)
-        roster = self.places.roster(room)
-        change.put(roster, made)
-        change.put(self.places.front(f"rooms/{room}.users.json"), rosters.page_copy(made))
-        one = next(iter(changed))
-        change.look(self.places.program, "replay", roster, "--", one, one)
 
-    def change_rosters(self, changed):
-        """The change of some rooms' rosters, {ROOM: {USER: groups}}; each room reads its own as it starts again."""
-        change = Change(self.places)
-        for room, its in changed.items():
-            self.put_roster(change, room, read(self.places.roster(room)), its)
-        change.then("systemctl", "try-restart", *map(self.places.unit, changed))
-        return change
+# Passwords and names.
 
-    def happen(self, change, *rooms):
-        """The change; then each of these rooms that is served answers again."""
+def draw(change, *users):
+    """Passwords for those of the users who have none yet."""
+    return put_drawn(change, drawn_for(change.places, users))
+
+
+def drawn_for(places, users):
+    has = {*now.logins(places)}
+    if signin.is_on(places):  # (a password of this machine would outlive the directory's)
+        return {}
+    return {it: secrets.token_urlsafe(DRAWN) for it in users if it not in has}
+
+
+def put_drawn(change, drawn):
+    if drawn:
+        put_passwords(change, {it: rosters.hashed_drawn(word) for it, word in drawn.items()})
+        change.drawn = list(drawn)
+    return drawn
+
+
+def put_passwords(change, lines):
+    users = change.places.front("users")
+    change.put(users, rosters.with_passwords(now.passwords(change.places), lines),
+               *(() if os.path.exists(users) else FOR_WORKERS))
+
+
+def tell_password(call, user, drawn, *before):
+    """(The one thing that -q prints too; before the room is asked for anything, since it may not answer.)"""
+    for it in before:
+        call.say(it)
+    if user in drawn:
+        call.tell(f"the password of {user}: ", drawn[user])
+    elif user in now.logins(call.places):
+        call.say(f"{user} keeps the old password")
+    else:
+        call.say(f"{user} logs in by the directory")
+
+
+def tell_passwords(call, drawn, before):
+    call.say(before)
+    for user, word in drawn.items():
+        call.tell("", f"{user},{word}")
+
+
+def put_names(change, names):
+    """(A user without one is shown as the roster has it.)"""
+    had = now.names(change.places)
+    kept = {user: name for user, name in sorted({**had, **names}.items()) if name}
+    if kept != had:
+        change.put(change.places.front("names.json"), json.dumps(kept) + "\n")
+
+
+# The commands for one user.
+
+def user_add(call, room, user, groups):
+    rosters.need_name(user, "the user")
+    if user in now.users(call.places, room):
+        raise Fault(f"{user} is already in the room {room} (to change groups: fileroom-admin user groups)")
+    change = change_rosters(call.places, {room: {user: groups}})
+    drawn = draw(change, user)
+    change.happen(lambda: tell_password(call, user, drawn, (
+        f"{user} is a user of the room {room}, in {', '.join(groups) or 'no group'}")))
+    trash_for(call, room, user)
+
+
+def user_groups(call, room, user, groups):
+    now.need_user(call.places, room, user)
+    change_rosters(call.places, {room: {user: groups}}).happen()
+    call.say(f"{user} is in {', '.join(groups) or 'no group'} in the room {room}")
+
+
+def user_rename(call, old, new):
+    """In each room, with the login and the display name. What a room itself has by that name stays (`owned`)."""
+    places = call.places
+    rosters.need_name(new, "the new name")
+    rooms = now.need_rooms_of(places, old)
+    if now.rooms_of(places, new) or new in now.logins(places):
+        raise Fault(f"{new} is there already")
+    had = {it: now.users(places, it)[old] for it in rooms}
+    change = change_rosters(places, {it: {old: None, new: groups} for it, groups in had.items()})
+    change.put(places.front("users"), rosters.with_renamed(now.passwords(places), old, new))
+    put_names(change, {old: None, new: now.names(places).get(old)})
+    bounds = held.Bounds(places)
+    for room in rooms:
+        bounds.leave(change, room, old, new)
+    change.happen()
+    for room in rooms:
+        held.let_go(places, room, old)
+    call.say(f"{old} is {new} in {', '.join(rooms)}, with the same password")
+    call.say(f"a room keeps by whose name it is who owns a thing, who is named in a list, and whose a session is: "
+             f"that stays {old}'s, also what page or client of {old} had not sent yet")
+    call.say(f"to have {new} own it: " + "; ".join([
+        *(f"fileroom-admin user add {' '.join([it, old, *groups])}" for it, groups in had.items()),
+        f"fileroom-admin user remove --all --to {new} {old}"]))
+    for room in rooms:
+        trash_for(call, room, new)
+    user_owns(call, old, *rooms, given=rooms)
+
+
+def user_name(call, user, words):
+    name = " ".join(words)
+    now.need_rooms_of(call.places, user)
+    rosters.need_display_name(name)
+    change = Change(call.places)
+    put_names(change, {user: name})
+    change.happen()
+    call.say(f"{user} is shown as {name or user}")
+
+
+def user_passwd(call, user, given=None):
+    now.need_rooms_of(call.places, user)
+    change = Change(call.places)
+    if given is None:
+        drawn = put_drawn(change, {user: secrets.token_urlsafe(DRAWN)})
+        change.happen(lambda: tell_password(call, user, drawn))
+    else:
+        rosters.need_password(given)
+        put_passwords(change, {user: rosters.hashed_chosen(given)})
         change.happen()
-        for room in rooms:
-            self.until_answers(room)
+        call.say(f"{user} has the given password")
 
-    def until_answers(self, room):
-        end, path = time.monotonic() + PATIENCE, self.places.socket(room)
-        while os.path.exists(path) and not said("systemctl", "is-active", "-q", self.places.unit(room))[0]:
-            if answers(path):
-                return
-            if time.monotonic() > end:
-                raise Fault(f"all is changed, and the room {room} does not answer yet: journalctl -u "
-                            f"{self.places.unit(room)}")
-            time.sleep(0.1)
 
-    # Passwords and names.
+def user_without(call, user):
+    """A password of this machine."""
+    if user not in now.logins(call.places):
+        raise Fault(f"{user} has no password of this machine")
+    if not signin.is_on(call.places):
+        raise Fault(f"{user} could not log in at all: no directory is asked (signin on)")
+    change = Change(call.places)
+    put_passwords(change, {user: None})
+    change.happen()
+    call.say(f"{user} logs in by the directory alone")
 
-    def draw(self, change, *users):
-        """Passwords for those of the users who have none yet."""
-        return self.put_drawn(change, self.drawn_for(users))
 
-    def drawn_for(self, users):
-        has = {*rosters.logins_of(self.passwords())}
-        return {it: secrets.token_urlsafe(DRAWN) for it in users if it not in has}
-
-    def put_drawn(self, change, drawn):
-        if drawn:
-            self.put_passwords(change, {it: rosters.hashed_drawn(word) for it, word in drawn.items()})
-            change.drawn = list(drawn)
-        return drawn
-
-    def put_passwords(self, change, lines):
-        users = self.places.front("users")
-        change.put(users, rosters.with_passwords(self.passwords(), lines),
-                   *(() if os.path.exists(users) else FOR_WORKERS))
-
-    def tell_password(self, user, drawn, *before):
-        """(The one thing that -q prints too; before the room is asked for anything, since it may not answer.)"""
-        for it in before:
-            self.say(it)
-        if user in drawn:
-            self.tell(f"the password of {user}: ", drawn[user])
-        else:
-            self.say(f"{user} keeps the old password")
-
-    def tell_passwords(self, drawn, before):
-        self.say(before)
-        for user, word in drawn.items():
-            self.tell("", f"{user},{word}")
-
-    def put_names(self, change, names):
-        """(A user without one is shown as the roster has it.)"""
-        kept = {user: name for user, name in sorted({**self.names(), **names}.items()) if name}
-        if kept != self.names():
-            change.put(self.places.front("names.json"), json.dumps(kept) + "\n")
-
-    # The commands for one user.
-
-    def user_add(self, room, user, groups):
-        rosters.need_name(user, "the user")
-        if user in self.users(room):
-            raise Fault(f"{user} is already in the room {room} (to change groups: fileroom-admin user groups)")
-        change = self.change_rosters({room: {user: groups}})
-        drawn = self.draw(change, user)
-        change.happen(lambda: self.tell_password(user, drawn, (
-            f"{user} is a user of the room {room}, in {', '.join(groups) or 'no group'}")))
-        self.until_answers(room)
-        self.trash_for(room, user)
-
-    def user_groups(self, room, user, groups):
-        self.need_user(room, user)
-        self.happen(self.change_rosters({room: {user: groups}}), room)
-        self.say(f"{user} is in {', '.join(groups) or 'no group'} in the room {room}")
-
-    def user_remove(self, user, *rooms):
-        """From these rooms; with the last one the login goes too."""
-        for it in rooms:
-            self.need_user(it, user)
-        back = [f"fileroom-admin user add {' '.join([it, user, *self.users(it)[user]])}" for it in rooms]
-        elsewhere = [it for it in self.rooms_of(user) if it not in rooms]
-        change = self.change_rosters({it: {user: None} for it in rooms})
-        self.leave_bounds(change, {it: [user] for it in rooms})
-        if not elsewhere:
-            self.put_passwords(change, {user: None})
-            self.put_names(change, {user: None})
-        self.happen(change, *rooms)
-        for it in rooms:
-            held.let_go(self.places, it, user)
-        self.say(f"{user} is no user of the room{'s' * (len(rooms) > 1)} {', '.join(rooms)} any more" + (
-            f"; the login stays, for {', '.join(elsewhere)}" if elsewhere else ", and has no login"))
-        self.say(f"what {user} owned still belongs to {user}: give that name to nobody else; to bring {user} back: "
-                 f"{'; '.join(back)}")
-        self.user_owns(user, *(rooms if elsewhere else self.places.rooms()))
-
-    def leave_bounds(self, change, gone):
-        """Of the users of each room who go."""
-        bounds = held.Bounds(self.places)
-        for room, users in gone.items():
-            for user in users:
-                bounds.leave(change, room, user)
-
-    def user_rename(self, old, new):
-        """In each room, with the login and the display name. What a room itself has by that name stays (`owned`)."""
-        rosters.need_name(new, "the new name")
-        rooms = self.rooms_of(old)
-        if not rooms:
-            raise Fault(f"{old} is no user of a room")
-        if self.rooms_of(new) or new in rosters.logins_of(self.passwords()):
-            raise Fault(f"{new} is there already")
-        change = self.change_rosters({it: {old: None, new: self.users(it)[old]} for it in rooms})
-        change.put(self.places.front("users"), rosters.with_renamed(self.passwords(), old, new))
-        self.put_names(change, {old: None, new: self.names().get(old)})
-        bounds = held.Bounds(self.places)
-        for room in rooms:
-            bounds.leave(change, room, old, new)
-        self.happen(change, *rooms)
-        for room in rooms:
-            held.let_go(self.places, room, old)
-        self.say(f"{old} is {new} in {', '.join(rooms)}, with the same password")
-        self.say(f"a room keeps by whose name it is who owns a thing, who is named in a list, and whose a session is: "
-                 f"that stays {old}'s, also what page or client of {old} had not sent yet")
-        for room in rooms:
-            self.trash_for(room, new)
-        self.user_owns(old, *rooms, to=new)
-
-    def user_name(self, user, name):
-        if not self.rooms_of(user):
-            raise Fault(f"{user} is no user of a room")
-        rosters.need_display_name(name)
-        change = Change(self.places)
-        self.put_names(change, {user: name})
-        change.happen()
-        self.say(f"{user} is shown as {name or user}")
-
-    def user_passwd(self, user, given=None):
-        if not self.rooms_of(user):
-            raise Fault(f"{user} is no user of a room")
-        change = Change(self.places)
-        if given is None:
-            drawn = self.put_drawn(change, {user: secrets.token_urlsafe(DRAWN)})
-            change.happen(lambda: self.tell_password(user, drawn))
-        else:
-            rosters.need_password(given)
-            self.put_passwords(change, {user: rosters.hashed_chosen(given)})
-            change.happen()
-            self.say(f"{user} has the given password")
-
-    def user_owns(self, user, *rooms, to=None):
-        """What the latest backups say that a user owns, and which lists name the user, with the line that hands it
-        over."""
-        for room in rooms or self.places.rooms():
-            try:
-                lines = owned.told(self.places, room, user, to)
-            except (Fault, OSError) as fault:
-                lines = [f"what {user} owns in {room} is not known: {fault}; {owned.anew(room, user)}"]
-            for it in lines:
-                self.say(it)
-
-    # The commands for many.
-
-    def user_import(self, room, path, is_update):
-        """Users as a table has them. All of it is looked at before anything happens."""
-        there, names = self.users(room), self.names()
-        rows, faults = sheets.read_users(path, there, is_update)
-        if not faults and len({*there, *rows}) > rosters.USERS:
-            faults = [f"the room {room} would have {len({*there, *rows})} users, and {rosters.USERS} are the most"]
-        self.need_none(faults, path)
-        its_groups = {user: groups for user, (groups, _) in rows.items() if there.get(user) != groups}
-        change = self.change_rosters({room: its_groups}) if its_groups else Change(self.places)
-        drawn = self.draw(change, *rows)
-        self.put_names(change, {user: names.get(user) if name is None else name for user, (_, name) in rows.items()})
-        new = [it for it in rows if it not in there]
-        change.happen(lambda: self.tell_passwords(drawn, (
-            f"{room}: {len(new)} new users, {len(its_groups) - len(new)} with other groups, {len(rows)} in the table")))
-        if its_groups:
-            self.until_answers(room)
-        self.trash_for(room, *new)
-
-    def need_none(self, faults, path):
-        more = len(faults) - FAULTS
-        for it in [*faults[:FAULTS], *[f"and {more} others"] * (more > 0)]:
-            print(f"fileroom-admin: {it}", file=sys.stderr)
-        if faults:
-            raise Fault(f"nothing was changed: {len(faults)} faults in {path}")
-
-    def user_sync(self, room, path, is_dry, is_many, is_again):
-        """Makes the room's users those of the table, with one restart: others come, have other groups, or go."""
-        there, names = self.users(room), self.names()
-        rows, faults = sheets.read_users(path, there, is_update=True)
-        step = Step(there, rows, names)
-        self.need_none([*faults, *self.against(room, step, is_many, is_again)], path)
-        for it in step.lines(room):
-            self.say(it)
-        if is_dry or not step.is_any():
-            self.say("nothing was changed (--dry-run)" if is_dry else f"{room}: all is as the table has it")
-            return
-        changed = step.changed()
-        change = self.change_rosters({room: changed}) if changed else Change(self.places)
-        self.leave_bounds(change, {room: step.gone})
-        away = dict.fromkeys(it for it in step.gone if self.rooms_of(it) == [room])
-        drawn = self.drawn_for(step.new)
-        self.put_passwords(change, {**away, **{it: rosters.hashed_drawn(word) for it, word in drawn.items()}})
-        change.drawn = [*drawn]
-        self.put_names(change, {**step.shown, **away})
-        change.happen(lambda: self.tell_passwords(drawn, f"{room}: {len(rows)} users, as the table has it"))
-        if changed:
-            self.until_answers(room)
-        for it in step.gone:
-            held.let_go(self.places, room, it)
-        self.trash_for(room, *step.new)
-        for it in step.gone:
-            self.user_owns(it, room)
-
-    def against(self, room, step, is_many, is_again):
-        """What speaks against it: a table that lacks many, or the room's owner; and names that others had."""
-        owner = owner_of(self.places, room)
-        if owner in step.gone:
-            yield f"{owner} is not in the table, and owns the room"
-        if len(step.gone) > max(FEW, len(step.there) // 5) and not is_many:
-            yield f"{len(step.gone)} of {len(step.there)} users would go; if that is right: --many"
-        if not is_again and self.places.copies(room):
-            name, known = owned.known(self.places, room, step.new)
-            for it in known:
-                yield (f"{it} is new, and the backup {name} has things or lists of somebody of that name; if it is the "
-                       "same person: --again")
-
-    def group_change(self, room, group, users, is_in):
-        """Some users at once into a group, or out of it."""
-        rosters.need_name(group, "the group")
-        there = self.users(room)
-        strangers = [it for it in users if it not in there]
-        if strangers:
-            raise Fault(f"no users of the room {room}: {', '.join(strangers)}")
-        changed = {it: [*there[it], group] if is_in else [one for one in there[it] if one != group]
-                   for it in users if (group in there[it]) != is_in}
-        full = [it for it, groups in changed.items() if len(groups) > rosters.GROUPS]
-        if full:
-            raise Fault(f"in {rosters.GROUPS} groups already: {', '.join(full)}")
-        if changed:
-            self.happen(self.change_rosters({room: changed}), room)
-        self.say(f"{room}: {len(changed)} users {'came to' if is_in else 'left'} {group}")
-
-    def group_list(self, room=None):
-        for it in [room] if room else self.places.rooms():
-            groups = {}
-            for user, its in self.users(it).items():
-                for group in its:
-                    groups.setdefault(group, []).append(user)
-            for group, users in sorted(groups.items()):
-                self.say(f"{it}  {group}  {','.join(users)}")
-
-    def bound(self, room, bound, user, group):
-        self.need_room(room)
-        bounds = held.Bounds(self.places)
-        if bound and user:
-            self.need_user(room, user)
-        if bound:
-            bounds.put(room, bound, *(("users", user) if user else ("groups", group) if group else ()))
-        for it in bounds.lines(room):
-            self.say(it)
-
-    def user_list(self, room=None, is_table=False):
-        logins, names = rosters.logins_of(self.passwords()), self.names()
-        if is_table:
-            self.say(sheets.written(self.users(room), names).rstrip("\n"))
-            return
-        for it in [room] if room else self.places.rooms():
-            for user, groups in self.users(it).items():
-                name = f"  {names[user]}" if user in names else ""
-                self.say(f"{it}  {user}  {','.join(groups) or '-'}  "
-                         f"{'login' if user in logins else 'no login'}{name}")
-
-    # Trashes.
-
-    def trash_for(self, room, *users):
-        """(What the room refuses here can be done later.)"""
-        faults = {}
+def user_owns(call, user, *rooms, to=None, given=()):
+    """What the latest backups say that a user owns, but in rooms where it was given away, and which lists name the
+    user, with the line that hands it over."""
+    for room in rooms or call.places.rooms():
         try:
-            with Trashes(self.places.socket(room), self.users(room)) as trashes:
-                for user in users:
-                    try:
-                        trashes.settle(user)
-                    except Fault as fault:
-                        faults[user] = fault
-        except Fault as fault:
-            faults = dict.fromkeys(users, fault)
-        for user, fault in list(faults.items())[:3]:
-            self.say(f"{user} has no trash: {fault}; then: fileroom-admin trash {room}")
-        if len(faults) > 3:
-            self.say(f"and {len(faults) - 3} others have none")
+            lines = owned.told(call.places, room, user, to, is_given=room in given)
+        except (Fault, OSError) as fault:
+            lines = [f"what {user} owns in {room} is not known: {fault}; {owned.anew(room, user)}"]
+        for it in lines:
+            call.say(it)
 
-    def trash(self, room, some=()):
-        """For each user of a room one that is theirs alone; `some` are looked at also where they had one before."""
-        for user in some:
-            self.need_user(room, user)
-        users, done, faults = some or self.users(room), 0, []
-        with Trashes(self.places.socket(room), self.users(room), is_anew=bool(some)) as trashes:
+
+# The commands for many.
+
+def user_import(call, room, path, is_update):
+    """Users as a table has them. All of it is looked at before anything happens."""
+    there, names = now.users(call.places, room), now.names(call.places)
+    tables, faults = sheets.read_rooms(path, {room: there}, room, is_update)
+    rows = tables[room]
+    if not faults and len({*there, *rows}) > rosters.USERS:
+        faults = [f"the room {room} would have {len({*there, *rows})} users, and {rosters.USERS} are the most"]
+    need_none(faults, path)
+    its_groups = {user: groups for user, (groups, _) in rows.items() if there.get(user) != groups}
+    change = change_rosters(call.places, {room: its_groups}) if its_groups else Change(call.places)
+    drawn = draw(change, *rows)
+    put_names(change, {user: names.get(user) if name is None else name for user, (_, name) in rows.items()})
+    new = [it for it in rows if it not in there]
+    change.happen(lambda: tell_passwords(call, drawn, (
+        f"{room}: {len(new)} new users, {len(its_groups) - len(new)} with other groups, {len(rows)} in the table")))
+    if its_groups:
+        trash_for(call, room, *new)
+
+
+def need_none(faults, path):
+    more = len(faults) - FAULTS
+    for it in [*faults[:FAULTS], *[f"and {more} others"] * (more > 0)]:
+        print(f"fileroom-admin: {it}", file=sys.stderr)
+    if faults:
+        raise Fault(f"nothing was changed: {len(faults)} faults in {path}")
+
+
+def group_change(call, room, group, users, is_in):
+    """Some users at once into a group, or out of it."""
+    rosters.need_name(group, "the group")
+    there = now.users(call.places, room)
+    strangers = [it for it in users if it not in there]
+    if strangers:
+        raise Fault(f"no users of the room {room}: {', '.join(strangers)}")
+    changed = {it: [*there[it], group] if is_in else [one for one in there[it] if one != group]
+               for it in users if (group in there[it]) != is_in}
+    full = [it for it, groups in changed.items() if len(groups) > rosters.GROUPS]
+    if full:
+        raise Fault(f"in {rosters.GROUPS} groups already: {', '.join(full)}")
+    if changed:
+        change_rosters(call.places, {room: changed}).happen()
+    call.say(f"{room}: {len(changed)} users {'came to' if is_in else 'left'} {group}")
+
+
+def group_list(call, room=None):
+    for it in [room] if room else call.places.rooms():
+        groups = {}
+        for user, its in now.users(call.places, it).items():
+            for group in its:
+                groups.setdefault(group, []).append(user)
+        for group, users in sorted(groups.items()):
+            call.say(f"{it}  {group}  {','.join(users)}")
+
+
+def bound(call, room, its_bound, user, group):
+    now.need_room(call.places, room)
+    bounds = held.Bounds(call.places)
+    if its_bound and user:
+        now.need_user(call.places, room, user)
+    if its_bound:
+        bounds.put(room, its_bound, *(("users", user) if user else ("groups", group) if group else ()))
+    for it in bounds.lines(room):
+        call.say(it)
+
+
+def user_list(call, room=None, is_table=False):
+    places, names = call.places, now.names(call.places)
+    logins, without = now.logins(places), "directory" if signin.is_on(places) else "no login"
+    if is_table:
+        call.say(sheets.written(now.users(places, room), names).rstrip("\n"))
+        return
+    for it in [room] if room else places.rooms():
+        for user, groups in now.users(places, it).items():
+            name = f"  {names[user]}" if user in names else ""
+            call.say(f"{it}  {user}  {','.join(groups) or '-'}  {'login' if user in logins else without}{name}")
+
+
+# Trashes.
+
+def trash_for(call, room, *users):
+    """Of those who come: one of that name may be another's by now. (What the room refuses here can be done later.)"""
+    faults = {}
+    try:
+        with Trashes(call.places.socket(room), now.users(call.places, room), is_anew=True) as trashes:
             for user in users:
                 try:
-                    done += trashes.settle(user)
+                    trashes.settle(user)
                 except Fault as fault:
-                    faults.append(f"{user} has no trash: {fault}")
-        for it in faults:
-            self.say(it)
-        self.say(f"{room}: {len(users) - len(faults)} of {len(users)} users have a trash ({done} new)")
-        if faults:
-            raise Fault(f"{len(faults)} users have no trash")
+                    faults[user] = fault
+    except Fault as fault:
+        faults = dict.fromkeys(users, fault)
+    for user, fault in list(faults.items())[:3]:
+        call.say(f"{user} has no trash: {fault}; then: fileroom-admin trash {room}")
+    if len(faults) > 3:
+        call.say(f"and {len(faults) - 3} others have none")
+
+
+def trash(call, room, some=()):
+    """For each user of a room one that is theirs alone; `some` are looked at also where they had one before."""
+    for user in some:
+        now.need_user(call.places, room, user)
+    there = now.users(call.places, room)
+    users, done, faults = some or there, 0, []
+    with Trashes(call.places.socket(room), there, is_anew=bool(some)) as trashes:
+        for user in users:
+            try:
+                done += trashes.settle(user)
+            except Fault as fault:
+                faults.append(f"{user} has no trash: {fault}")
+    for it in faults:
+        call.say(it)
+    call.say(f"{room}: {len(users) - len(faults)} of {len(users)} users have a trash ({done} new)")
+    if faults:
+        raise Fault(f"{len(faults)} users have no trash")

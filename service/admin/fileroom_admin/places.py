@@ -28,7 +28,8 @@ def said(*words, stdin=""):
     """The status of a program, and all that it says."""
     env = {**os.environ, "PATH": SEARCHED, "LC_ALL": "C"}
     try:
-        done = subprocess.run(words, input=stdin, capture_output=True, text=True, env=env, cwd="/", timeout=120)
+        done = subprocess.run(words, input=stdin, capture_output=True, encoding="utf-8", errors="replace", env=env,
+                              cwd="/", timeout=120)
     except FileNotFoundError:
         return 127, f"there is no {words[0]}"
     except subprocess.TimeoutExpired:
@@ -82,6 +83,10 @@ class Places:
         proxy = f"fileroom-proxy@{room}"
         return [f"{self.unit(room)}.service", *rejoin, f"{proxy}.socket", f"{proxy}.service", f"{backup}.service",
                 f"{backup}.timer", f"fileroom-try@{room}.service", f"fileroom-try@{room}.timer"]
+
+    def started(self, room):
+        """Those that serve a room, back it up, and try its backups."""
+        return f"fileroom@{room}", f"fileroom-backup@{room}.timer", f"fileroom-try@{room}.timer"
 
     def read_front(self, how="reload-or-restart"):
         """The words that have nginx read its files. (Where a room has a standby, the cluster's manager starts it.)"""
@@ -157,13 +162,14 @@ def read_json(path, kind):
     return found
 
 
-def write(text, path, mode=0o644, group=-1):
-    """A reader of the file has the text of before, or this one."""
+def write(text, path, mode=0o644, group=None):
+    """A reader of the file has the text of before, or this one. (The unit of numbers may set no owner.)"""
     handle, made = tempfile.mkstemp(prefix=".fileroom-", dir=os.path.dirname(os.path.abspath(path)))
     try:
         with open(handle, "w", encoding="utf-8") as file:
             file.write(text)
-            os.fchown(file.fileno(), -1, group)
+            if group is not None:
+                os.fchown(file.fileno(), -1, group)
             os.fchmod(file.fileno(), mode)  # (its name may be another file's by now, in a folder of somebody's)
         os.replace(made, path)
     except BaseException:

@@ -62,6 +62,14 @@ def users_of(text, path="the roster"):
     return users
 
 
+def twins_of(users):
+    """The names among these that differ by capitals alone: a directory takes them for one."""
+    alike = {}
+    for it in {*users}:
+        alike.setdefault(it.lower(), []).append(it)
+    return {tuple(sorted(its)) for its in alike.values() if len(its) > 1}
+
+
 def line_of(user, groups):
     key = f'"{user}"' if "." in user else user
     return f"{key} = {json.dumps(groups)}"

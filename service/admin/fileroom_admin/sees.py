@@ -4,19 +4,22 @@ A room tells that of one object at a time, and to whom may see its list. So here
 docs/LISTS.md; a test compares it with the program's own report.
 """
 import itertools
+import re
 from dataclasses import dataclass
 
 from room_client.manifest import FOLDER, NAME, PART
 from room_client.who import TRAVERSE, large_words, of_large
 from room_client.words import ALL, FILE, GROUP, INHERITED, LARGE, NOT_HERE, SETS, entry_words, mask_words
 
-from . import owned, rosters
-from .places import Fault, read
+from . import now, owned
+from .places import Fault
+from .trash import TOP
 
 OWNERS = 0x60000  # READ_ACL and WRITE_ACL, which an owner always has
 NEEDED = {FOLDER: 0xF00E7, FILE: 0xF0087, LARGE: 0xF0087}  # the rights that some command asks for
 KINDS = FILE, FOLDER
-FEW = 4  # documents of a folder, alike and other than it, that have a line each; more share one
+FEW = 4  # documents of a folder, alike and other than it, or others' trashes, that have a line each; more share one
+OF_TRASH = re.compile("/trash/@[0-9a-f]/([^/]+)")  # docs/FILES.md
 NODES = "SELECT id, parent, name, kind, owner, grp FROM node"
 ENTRIES = "SELECT node, type, flag, mask, who FROM entry"
 
@@ -86,6 +89,10 @@ class Line:
 
     def folder(self):
         return self.path.rpartition("/")[0]
+
+    def is_shut_trash(self):
+        """In which the user may do nothing, or what is written down beside it."""
+        return bool(OF_TRASH.fullmatch(self.path)) and not self.thing.mask & NEEDED[self.thing.kind]
 
     def told(self):
         more = f"  (and {things(self.alike)} below)" if self.alike else ""
@@ -162,7 +169,11 @@ def whole(table, subject):
     lines = [Line("/", root)]
     if root.is_open():
         gather(root, "", lines[0], lines)
-    return told_of(lines)
+    shut = [it for it in lines if it.is_shut_trash()]
+    if len(shut) <= FEW:
+        return told_of(lines)
+    rest = told_of(it for it in lines if it not in shut)
+    return [*rest, f"{TOP}  none  of {len(shut)} things that others have there"]
 
 
 class Node:
@@ -241,7 +252,7 @@ def look(places, room, user, groups, path):
 
 def tell(places, user, room, path, say):
     """Of one room, or of all whose user it is. The status of the command."""
-    rosters_of = {it: rosters.users_of(read(places.roster(it)), places.roster(it)) for it in places.rooms()}
+    rosters_of = {it: now.users(places, it) for it in places.rooms()}
     rooms = [it for it, users in rosters_of.items() if user in users and room in (None, it)]
     if not rooms:
         raise Fault(f"{user} is no user of {f'the room {room}' if room else 'a room'}")

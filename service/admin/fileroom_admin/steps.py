@@ -2,14 +2,19 @@
 
 
 class Step:
-    """From the users who are `there`, with their groups, to those of a table's rows; `names` are shown now."""
+    """From the users who are `there`, with their groups, to those of a table's rows; `names` are shown now. Who `stays`
+    is as before, whatever the table has."""
 
-    def __init__(self, there, rows, names):
-        self.there = there
+    def __init__(self, there, rows, names, stays=()):
+        self.there, self.rows, self.names, self.stays = there, rows, names, stays
         self.new = [it for it in rows if it not in there]
         self.gone = [it for it in there if it not in rows]
         self.groups = {user: groups for user, (groups, _) in rows.items() if {*there.get(user, [""])} != {*groups}}
         self.shown = {user: name for user, (_, name) in rows.items() if name not in (None, names.get(user, ""))}
+
+    def but(self, stays):
+        """The same, but these stay, who would go."""
+        return Step(self.there, {**self.rows, **{it: (self.there[it], None) for it in stays}}, self.names, stays)
 
     def is_any(self):
         return bool(self.groups or self.gone or self.shown)
@@ -21,7 +26,5 @@ class Step:
         for user, groups in self.groups.items():
             was = "comes" if user in self.new else f"was in {', '.join(self.there[user]) or 'no group'}"
             yield f"{room}: {user}, in {', '.join(groups) or 'no group'} ({was})"
-        for user, name in self.shown.items():
-            yield f"{user} is shown as {name or user}"
         for user in self.gone:
             yield f"{room}: {user} goes (back: fileroom-admin user add {' '.join([room, user, *self.there[user]])})"

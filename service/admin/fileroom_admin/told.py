@@ -8,11 +8,10 @@ import os
 import re
 import zlib
 
-from room_client.manifest import FOLDER
-from room_client.words import FILE, GROUP, flag_words, mask_words
-
+from .lists import Lists, begins
 from .owned import of_backups
 from .places import CHANGES, Fault
+from .words import entries, is_entry
 
 DONE_MOST = 24  # bytes of a reply: {"code":0,"size":65536} is the longest of what was done, and refusals are longer
 ODD_MOST = 200  # letters of one in an odd form
@@ -78,9 +77,11 @@ class Command:
         files = {part and part[1] for part in map(PART.fullmatch, self.paths)}
         return files.pop() if len(files) == 1 and self.cmd in OF_A_FILE else None
 
-    def is_below(self, top):
-        """Whether it is, or may be: a path that is not known can be any."""
-        return not self.path or any(it == top or it.startswith(f"{top.rstrip('/')}/") for it in self.paths)
+    def is_about(self, top):
+        """Whether it is of this path, of what is below it, or moves a folder above; or may be: a path that is not known
+        can be any."""
+        return not self.path or any(it == top or is_in(it, top) or self.cmd == "RENAME" and is_in(top, it)
+                                    for it in self.paths)
 
     def words(self):
         more = self.more()
@@ -92,13 +93,18 @@ class Command:
         if "" in texts:
             return None
         if self.cmd == "SETLIST":
-            return entries(self.asked.get("entries"))
+            its = self.asked.get("entries")
+            return f": {entries(its)}" if isinstance(its, list) and all(map(is_entry, its)) else None
         return f" {'->' if self.cmd == 'RENAME' else 'to'} {':'.join(texts)}" if texts else ""
 
     def odd(self):
         """Its beginning, without what only fills it."""
         cut = f" (cut, or no command: {len(self.text)} letters are kept)" if self.asked is None else ""
         return f"in an odd form{cut}: {' '.join(self.text.split())[:ODD_MOST] or 'blanks alone'}"
+
+
+def is_in(path, folder):
+    return path.startswith(f"{folder.rstrip('/')}/")
 
 
 class Change:
@@ -113,9 +119,10 @@ class Change:
         self.time, self.user, self.source = datetime.datetime.fromisoformat(its["time"]), its["user"], its["from"]
         self.sum = hashlib.sha256(command.text.encode(errors="surrogatepass")).digest()
         self.file, self.whose, self.cmd, self.words = command.file, command.whose, command.cmd, command.words()
+        self.path, self.to, self.entries = command.path, command.word("to"), (command.more() or "").removeprefix(": ")
         self.count, self.parts, self.cmds, self.last = 1, 0, set(), self.time
         self.status, self.outcome = its["status"], outcome_of(its["status"], its["length"])
-        self.is_wanted = is_wanted(self.user, command)
+        self.is_wanted = is_wanted(self, command)
 
     def is_again(self, other):
         return (self.number, self.sum, self.user) == (other.number, other.sum, other.user)
@@ -124,6 +131,7 @@ class Change:
         """It was sent again. What the room did stands, whatever else was answered before or after; and what had no
         answer may have acted, whatever else was refused."""
         self.count += 1
+        self.is_wanted |= other.is_wanted
         if other.tells() > self.tells():
             self.status, self.outcome = other.status, other.outcome
 
@@ -164,32 +172,14 @@ def members_of(text):
     return found if isinstance(found, dict) else None
 
 
-def entries(its):
-    """A list in the client's words; None of what is none."""
-    if not isinstance(its, list) or not all(map(is_entry, its)):
-        return None
-    return f": {'; '.join(map(entry, its)) or 'an empty list'}"
-
-
-def entry(it):
-    """(Whoever asks may send any number. Of what kind the object is, the log does not say.)"""
-    who = f"group:{it['who']}" if it["flag"] & GROUP else it["who"]
-    kind = "deny" if it["type"] == 1 else "allow"
-    return " ".join([kind, who, mask_words(it["mask"], FILE, FOLDER), *flag_words(it["flag"])])
-
-
-def is_entry(it):
-    return isinstance(it, dict) and isinstance(it.get("who"), str) and all(
-        type(it.get(name)) is int for name in ("type", "flag", "mask"))
-
-
 class Told:
     """What came of a room's lines: each change once, with the requests of a large file as one, in the order in which
     they began. Of a log of any length WAITING changes wait at most, and so many slots are known: what is sent again
     after more of them, or belongs to a large file that began before them, is told by itself."""
 
-    def __init__(self, tell):
+    def __init__(self, tell, lists):
         self.tell, self.waiting, self.last, self.files = tell, collections.deque(), collections.OrderedDict(), {}
+        self.lists = lists
 
     def take(self, change):
         file = change.user, change.file, change.whose
@@ -219,7 +209,8 @@ class Told:
         if self.last.get(change.slot) is change:
             del self.last[change.slot]
         if change.is_wanted:
-            self.tell(change.told())
+            self.tell(change.told() + self.lists.before(change))
+        self.lists.note(change)
 
     def end(self):
         while self.waiting:
@@ -229,20 +220,24 @@ class Told:
 def log(places, room, given, say):
     """Those of a room, of one user, at or below a path, since a time, as wanted."""
     since = since_when(given.since) if given.since else None
-    odd, shown = 0, of_backups().shown
-    told = Told(lambda text: say(shown(text)))
+    begin = since and begins(places, room, since)
+    odd, shown, lists = 0, of_backups().shown, Lists(places, room, begin)
+    told = Told(lambda text: say(shown(text)), lists)
 
-    def is_wanted(user, command):
-        return given.user in (None, user) and (given.path is None or command.is_below(given.path))
+    def is_wanted(change, command):
+        return (since is None or change.time >= since) and given.user in (None, change.user) and (
+            given.path is None or command.is_about(given.path))
 
-    for line in lines_of(places, since):
+    for line in lines_of(places, begin):
         try:
             change = Change(line, is_wanted)
         except (ValueError, KeyError, TypeError, AttributeError):
             odd += 1
             continue
-        if change.room == room and (since is None or change.time >= since):
+        lists.begin = lists.begin or change.time
+        if change.room == room:
             told.take(change)
-    told.end()
+    with lists.stack:
+        told.end()
     if odd:
         raise Fault(f"{odd} lines of the log cannot be read")

@@ -1,25 +1,13 @@
-"""The trash of each user: a folder of the room that is theirs alone (docs/FILES.md). The room is asked for it by its
-socket, which takes the name of any user from root."""
+"""The trash of each user: a folder of the room that is theirs alone (docs/FILES.md)."""
 import base64
 import contextlib
-import http.client
-import json
 import os
 import secrets
-import socket
-import time
 
-from .owned import of_backups
+from .asking import ACCESS, NOENT, Patience, Session, shown
 from .places import Fault
-from .told import is_entry
 
 TOP = "/trash"
-WAIT = 20  # seconds that a room may take for a request, or to start
-IN_ALL = 300  # and for all that it is asked here, while no other change can happen; the next call goes on
-LONGEST = 1 << 20  # bytes of an answer: the names of a folder take fewer
-HEAD = 1 << 16  # and of its head
-TOLD = 200  # letters of what the room says
-NOENT, ACCESS = 1, 5
 FOLDER = "folder"
 ALL, VIEW = 0x1F07FF, 0x1200A9  # rights
 FOLLOWS, PROTECTED = 1, 2  # whether a list takes over what the folder above hands down; the second counts
@@ -50,148 +38,9 @@ def is_private(its, user):
                                for it in its["entries"])
 
 
-def is_text(it):
-    return isinstance(it, str)
-
-
-def is_data(it):
-    try:
-        return base64.b64decode(it) is not None
-    except (TypeError, ValueError):
-        return False
-
-
-def are_names(it):
-    return isinstance(it, list) and all(
-        isinstance(pair, list) and len(pair) == 2 and all(map(is_text, pair)) for pair in it)
-
-
-def are_entries(it):
-    return isinstance(it, list) and all(map(is_entry, it))
-
-
-READ_HERE = {  # of the answer to what was done, by the command (docs/WIRE.md)
-    "STAT": {"owner": is_text, "group": is_text, "kind": is_text}, "LIST": {"names": are_names},
-    "GETLIST": {"aclflag": lambda it: type(it) is int, "entries": are_entries}, "READ": {"data": is_data}}
-
-
-def is_reply(it, cmd):
-    """Whether it has what is read of it here: somebody else's process may have taken the room over."""
-    if not isinstance(it, dict) or type(it.get("code")) is not int:
-        return False
-    if it["code"]:
-        return is_text(it.get("error", "")) and is_text(it.get("path", ""))
-    return all(fits(it.get(name)) for name, fits in READ_HERE.get(cmd, {}).items())
-
-
-def shown(text):
-    return of_backups().shown(text[:TOLD])
-
-
 def part_of(user):
     """(A folder holds 256 things, and a room has up to 1,000 users.)"""
     return f"{TOP}/@{sum(user.encode()) % 16:x}"
-
-
-class Patience:
-    """Until when what answers may take its time, which all sessions share."""
-
-    def __init__(self):
-        self.end = time.monotonic() + IN_ALL
-
-    def more(self):
-        self.end = max(self.end, time.monotonic() + WAIT)
-
-    def of_one(self):
-        now = time.monotonic()
-        if now >= self.end:
-            raise Fault(f"the room took longer than {IN_ALL} seconds in all")
-        return min(self.end, now + WAIT)
-
-
-class Bounded(socket.socket):
-    """One that reads until `end`, however slowly the bytes come, and `most` of them: what answers may be no room."""
-
-    def recv_into(self, *words):
-        left = self.end - time.monotonic()
-        if left <= 0 or self.most <= 0:
-            raise TimeoutError
-        self.settimeout(left)
-        count = super().recv_into(*words)
-        self.most -= count
-        return count
-
-
-class Line(http.client.HTTPConnection):
-    """One connection to a room's socket."""
-
-    def __init__(self, path, end):
-        super().__init__("localhost")
-        self.path, self.end = path, end
-
-    def connect(self):
-        self.sock = Bounded(socket.AF_UNIX)
-        self.sock.end, self.sock.most = self.end, LONGEST + HEAD
-        self.sock.settimeout(max(self.end - time.monotonic(), 0.001))
-        self.sock.connect(self.path)
-
-
-class Session:
-    """A user's, of one slot: a request is sent until it is answered, and acts once."""
-
-    def __init__(self, path, user, patience):
-        self.path, self.user, self.patience, self.number = path, user, patience, 0
-        self.target = f"/v1/sessions/{secrets.token_hex(16)}"
-        self.opened = self.send("POST", self.target, {"slots": 1})
-
-    def send(self, method, target, body=None):
-        end = self.patience.of_one()
-        while time.monotonic() < end:
-            status, text = self.once(method, target, body, end)
-            if status not in (0, 503):
-                return self.reply_of(text, (body or {}).get("cmd"))
-            time.sleep(0.1)
-        self.patience.of_one()  # (or all time is over)
-        raise Fault(f"the room does not answer at {self.path}")
-
-    def once(self, method, target, body, end):
-        line = Line(self.path, end)
-        try:
-            text = b"" if body is None else json.dumps(body).encode()
-            line.request(method, target, text, {"room-user": self.user, "connection": "close"})
-            answer = line.getresponse()
-            return answer.status, answer.read(LONGEST + 1)
-        except (OSError, http.client.HTTPException, ValueError):
-            return 0, b""
-        finally:
-            line.close()
-
-    def reply_of(self, text, cmd):
-        try:
-            reply = json.loads(text) if len(text) <= LONGEST else None
-        except (ValueError, RecursionError):
-            reply = None
-        if not is_reply(reply, cmd):
-            raise Fault(f"what answers at {self.path} answers {cmd or 'a session'} in another form than a room does")
-        return reply
-
-    def ask(self, cmd, path, **more):
-        if self.opened["code"]:
-            return self.opened
-        self.number += 1
-        return self.send("POST", f"{self.target}/slots/0/{self.number}", {"cmd": cmd, "path": path, **more})
-
-    def need(self, cmd, path, *but, **more):
-        """The reply, where it is none of a refusal, or one of these."""
-        reply = self.ask(cmd, path, **more)
-        if reply["code"] and reply["code"] not in but:
-            raise Fault(f"{self.user} is refused {cmd} {path}: {shown(reply.get('error', ''))} ({reply['code']})"
-                        + (f" at {shown(reply['path'])}" if "path" in reply else ""))
-        return reply
-
-    def end(self):
-        if not self.opened["code"]:
-            self.send("DELETE", self.target)
 
 
 class Trashes:

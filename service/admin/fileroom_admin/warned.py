@@ -4,6 +4,7 @@ whose login is held.
 /etc/nginx/fileroom/warnings/LOGIN.json has the rooms of that owner of which this is so: {"plans":{"numbers_days":7}}.
 """
 import contextlib
+import fcntl
 import grp
 import json
 import os
@@ -59,13 +60,23 @@ def owner_of(places, room):
 
 
 def put(places):
-    """All of them as they are now, and none of before."""
-    folder, told = places.front(FOLDER), {}
+    """All of them as they are now, and none of before. (One call at a time: several logins may be held at once.)"""
+    folder = places.front(FOLDER)
+    own_folder(places, folder)
+    lock = os.open(folder, os.O_RDONLY | os.O_DIRECTORY | os.O_CLOEXEC)
+    try:
+        fcntl.flock(lock, fcntl.LOCK_EX)
+        put_alone(places, folder)
+    finally:
+        os.close(lock)
+
+
+def put_alone(places, folder):
+    told = {}
     for room in places.rooms():
         its, owner = of_room(places, room), owner_of(places, room)
         if its and owner:
             told.setdefault(owner, {})[room] = its
-    own_folder(places, folder)
     for owner, its in told.items():
         write(json.dumps(its) + "\n", os.path.join(folder, f"{owner}.json"), 0o640, group_of_workers(places))
     for name in {*os.listdir(folder)} - {f"{it}.json" for it in told}:

@@ -6,9 +6,10 @@ import json
 import os
 import sqlite3
 import subprocess
+import time
 
 import manifests
-from served import HERE, PROGRAM, Line, Room, session, slot
+from served import HERE, PROGRAM, Line, Room, session, slot, until
 
 SERVICE = os.path.join(HERE, "..", "service")
 BACKUP = os.path.join(SERVICE, "fileroom-backup")
@@ -53,7 +54,8 @@ def filled(folder):
 
 
 def backed_up(room, folder, env=None):
-    """The backup of a room that is not served."""
+    """The backup of a room that is not served. (Each is named by its second.)"""
+    until(lambda: not os.path.exists(os.path.join(folder, time.strftime("%Y-%m-%dT%H-%M-%SZ", time.gmtime()))))
     env = env or {**os.environ, "FILEROOM": PROGRAM}
     done = subprocess.run([BACKUP, room.db, room.roster, folder], env=env, capture_output=True, text=True)
     assert (done.returncode, done.stderr) == (0, "")
@@ -75,6 +77,13 @@ def measured(*words, **env):
         _, status, its = os.wait4(it.pid, 0)
         it.returncode = os.waitstatus_to_exitcode(status)
     return it.returncode, faults, its.ru_maxrss
+
+
+def said(*words, **env):
+    """The status, and all that a command says."""
+    how = {"capture_output": True, "text": True, "timeout": 60, "env": {**os.environ, "FILEROOM": PROGRAM, **env}}
+    done = subprocess.run(words, **how)
+    return done.returncode, done.stdout, done.stderr
 
 
 def below(folder):

@@ -15,7 +15,7 @@ import time
 import types
 
 from nginx import PATH
-from served import PROGRAM, Line, Room, free_port, session, slot, text_of
+from served import PROGRAM, Line, Room, free_port, put_file, session, slot, text_of
 from transcripts import as_told, by_shell, lines_of, scenes
 
 from . import fits
@@ -103,9 +103,7 @@ class Machine:
         return os.path.join(self.root, path)
 
     def write(self, path, text):
-        os.makedirs(os.path.dirname(self.at(path)), exist_ok=True)
-        with open(self.at(path), "w", encoding="utf-8") as file:
-            file.write(text)
+        put_file(self.at(path), text)
 
     def does(self, *words, stdin="", first=(), within=()):
         """Status, what is said, and what is told as a fault."""
@@ -187,19 +185,19 @@ class Machine:
 
 
 class Served:
-    """The machine's room plans, at its socket, as systemd-socket-proxyd hands on what comes there."""
+    """A room of the machine, at its socket, where what comes is handed on as it came."""
 
-    def __init__(self, machine):
+    def __init__(self, machine, name="plans"):
         self.machine, self.room = machine, Room.__new__(Room)
         machine.rooms.append(self)
-        self.room.db = machine.at("var/lib/fileroom/plans/room.db")
-        self.room.roster = machine.at("etc/fileroom/plans.toml")
+        self.room.db = machine.at(f"var/lib/fileroom/{name}/room.db")
+        self.room.roster = machine.at(f"etc/fileroom/{name}.toml")
         self.room.env, self.room.port, self.numbers = None, free_port(), {}
         self.meanwhile, self.one_by_one = lambda: None, threading.Lock()  # what happens behind each request
         self.askers = set()  # who asked by the socket
         self.room.start()
-        os.makedirs(machine.at("run/fileroom"))
-        self.path = machine.at("run/fileroom/plans.sock")
+        os.makedirs(machine.at("run/fileroom"), exist_ok=True)
+        self.path = machine.at(f"run/fileroom/{name}.sock")
         self.listener = socket.socket(socket.AF_UNIX)
         self.listener.bind(self.path)
         self.listener.listen()
@@ -233,6 +231,25 @@ class Served:
             told = line.ask(slot(0, self.numbers[user], {"cmd": cmd, "path": path, **more}, user, sid))
             line.close()
         return json.loads(told.body)
+
+    def killed(self, *words, behind):
+        """Kills this call of fileroom-admin once it has asked the room that often and once more."""
+        its, asked, begun, ended = self.machine, [], threading.Event(), threading.Event()
+
+        def one():
+            asked.append(1)
+            if len(asked) > behind and not ended.is_set():
+                begun.wait()
+                call[0].kill()
+                call[0].wait()
+                ended.set()
+        self.meanwhile, call = one, []
+        call.append(subprocess.Popen([sys.executable, "-B", ADMIN, "--root", its.root, *words],
+                                     stdout=subprocess.DEVNULL,
+                                     env=its.env | {"TMPDIR": its.folder}))  # (what a kill leaves there)
+        begun.set()
+        assert ended.wait(60)
+        self.meanwhile = lambda: None
 
     def end(self):
         self.room.kill()

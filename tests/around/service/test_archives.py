@@ -10,7 +10,7 @@ from unittest import mock
 
 import pytest
 from fileroom_admin import moving, places
-from served import HERE, bytes_of, text_of
+from served import HERE, bytes_of, put_file, text_of
 
 from .contents import edit
 from .machines import ADMIN
@@ -29,7 +29,7 @@ OTHERS = {  # forms that nginx takes too: of no bound, of another cost, of none,
 # the front's files for rooms of these names, as `fileroom-admin` writes them
 OF_ROOMS = """import json, sys
 sys.path.insert(0, sys.argv[1])
-from fileroom_admin.commands import OF_ROOM, of_room
+from fileroom_admin.front import OF_ROOM, of_room
 print(json.dumps({f"{folder}/{it}.conf": of_room(name, it) for folder, name in OF_ROOM.items() for it in sys.argv[2:]}))
 """
 
@@ -52,8 +52,7 @@ def member(name, data, **how):
 
 def packed(path, its, more=b"", without=()):
     """An archive of these parts, with some bytes before them."""
-    with open(path, "wb") as file:
-        file.write(more + b"".join(member(*it) for it in its.items() if it[0] not in without) + bytes(1024))
+    put_file(path, more + b"".join(member(*it) for it in its.items() if it[0] not in without) + bytes(1024))
     return path
 
 
@@ -169,8 +168,7 @@ def test_a_room_in_which_somebody_wrote(there, exported, path, folder, what):
     ring = "UPDATE node SET parent = (SELECT id FROM node WHERE name = 'below') WHERE name = 'minutes'"
     at = os.path.join(folder, "edited.db")
     for end in "", "-wal":
-        with open(at + end, "wb") as file:
-            file.write(exported.its[f"room.db{end}"])
+        put_file(at + end, exported.its[f"room.db{end}"])
     edit(at, *([ring] if what == "a ring" else EDITED[what]["sql"]))
     packed(path, exported.its | {"room.db": bytes_of(at)}, without=["room.db-wal"])
     refuses(there, path, has="it is no room: ")

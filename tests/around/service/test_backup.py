@@ -11,28 +11,20 @@ import time
 import pytest
 from clients import Pieces
 from given import each, number
-from served import PROGRAM, Line, Room, bytes_of, session, text_of
+from served import Room, bytes_of, put_file, session, text_of
 
-from .contents import BACKUP, INSIDE, SERVICE, backed_up, below, odd_manifests
+from .contents import BACKUP, INSIDE, SERVICE, backed_up, below, odd_manifests, said
 
 ROUNDS = number("ROUNDS", 5)
 NOBODY = 65534
 pytestmark = pytest.mark.usefixtures("alone")
 
 
-def said(*words, **env):
-    """The status, and all that a command says."""
-    how = {"capture_output": True, "text": True, "timeout": 60, "env": {**os.environ, "FILEROOM": PROGRAM, **env}}
-    done = subprocess.run(words, **how)
-    return done.returncode, done.stdout, done.stderr
-
-
 def stand_in(folder, name, line):
     """Makes a folder with a program of this name, which does this: the PATH with it in front."""
     made = os.path.join(folder, f"stand-in-{name}")
     os.makedirs(made, exist_ok=True)
-    with open(os.path.join(made, name), "w", encoding="utf-8") as file:
-        file.write(f"#!/bin/sh\n{line}\n")
+    put_file(os.path.join(made, name), f"#!/bin/sh\n{line}\n")
     os.chmod(os.path.join(made, name), 0o755)
     return f"{made}:{os.environ['PATH']}"
 
@@ -44,10 +36,6 @@ def refuses(why, *words, **env):
 
 
 # A room that moves
-
-def need(fact, text):
-    assert fact, text
-
 
 def write_until_killed(room, client, seconds):
     """Sends pieces until the server is killed."""
@@ -65,7 +53,7 @@ def write_until_killed(room, client, seconds):
 @pytest.mark.parametrize("round_", range(ROUNDS))
 def test_killed_backed_up_and_restored(folder, round_):
     here, there, backups = (os.path.join(folder, it) for it in ("here", "there", "backups"))
-    room, client = Room(here).start(), Pieces(need)
+    room, client = Room(here).start(), Pieces()
     write_until_killed(room, client, 0.2 + 0.1 * round_)
     copied = backed_up(room, backups)
     shutil.rmtree(here)
@@ -169,8 +157,7 @@ def test_a_copy_that_is_no_room(room, looked_at_later):
 
 
 def test_a_copy_that_may_not_be_on_the_disk(room, looked_at_later):
-    with open(os.path.join(looked_at_later, "boot"), "w", encoding="utf-8") as file:
-        file.write("of another start of the machine")
+    put_file(os.path.join(looked_at_later, "boot"), "of another start of the machine")
     status, output, faults = said(BACKUP, "--look", room.backups)
     assert (status, output) == (0, "") and "dropped" in faults
 
@@ -269,9 +256,6 @@ class UsersFolder:
     def does(self, *words, **env):
         return said(f"{self.top}/bin/fileroom-backup", *words, **{"FILEROOM": f"{self.top}/bin/fileroom", **env})
 
-    def backs_up(self, **env):
-            return self.does(self.db, self.roster, self.backups, **env)
-
     def swapped(self, begin, folder, times, does):
         """Does it some times, while the user swaps folders that begin so."""
         words = ["/usr/bin/python3", "-I", "-c", SWAPS, begin, self.victim]
@@ -368,12 +352,11 @@ def test_a_users_program_has_nothing_of_roots(users):
 def test_of_the_front(folder):
     """Rosters, passwords and the front's files, readable by who made them alone, as they were; the latest are kept."""
     etc, backups, put = (os.path.join(folder, it) for it in ("etc", "of-the-front", "put-back"))
-    names = {"fileroom/plans.toml", "fileroom/plans.env", "fileroom/bounds.json", "nginx/fileroom/users",
-             "nginx/fileroom/rooms/plans.conf", "nginx/fileroom/tls/key.pem", "nginx/conf.d/fileroom.conf"}
+    names = {"fileroom/plans.toml", "fileroom/plans.env", "fileroom/bounds.json", "fileroom/roster.conf",
+             "fileroom/directory-ca.pem", "nginx/fileroom/users", "nginx/fileroom/rooms/plans.conf",
+             "nginx/fileroom/tls/key.pem", "nginx/conf.d/fileroom.conf"}
     for it in names | {"passwd", "nginx/nginx.conf"}:
-        os.makedirs(os.path.dirname(os.path.join(etc, it)), exist_ok=True)
-        with open(os.path.join(etc, it), "w", encoding="utf-8") as file:
-            file.write(it)
+        put_file(os.path.join(etc, it), it)
     os.mkdir(backups, 0o700)
     made = {"2001-01-01.tar.gz", "2002-01-01.tar.gz"}
     for it in made:

@@ -11,7 +11,7 @@ import sys
 import pytest
 from given import each
 from nginx import Front
-from served import HERE, Line, Room, bytes_of, message
+from served import HERE, Line, Room, bytes_of, message, put_file
 
 from .contents import INSIDE, measured
 from .machines import ADMIN
@@ -94,7 +94,7 @@ def test_owners_and_lists_within_a_large_file(folder):
         ("TURN", f"{inside}/000", {}))])
     of = "of the large file /c"
     assert tells(folder) == (0, [["ann", f"done  {it}"] for it in (
-        f"CREATE+MKDIR {of} (2 requests)", f"SETLIST {inside}/000: allow eve all",
+        f"CREATE+MKDIR {of} (2 requests)", f"SETLIST {inside}/000: allow eve all  (before: not known)",
         f"CHOWN {of} to bob:eng (2 requests)", f"CHOWN {of} to eve:eng (1 requests)", f"TURN {inside}/000")], "")
 
 
@@ -138,9 +138,10 @@ CHANGES = [{"body": {"cmd": "MKDIR", "path": "/a"}}, {"body": {"cmd": "RENAME", 
 
 @pytest.mark.parametrize("words, paths", [
     ("--user bob", ["/a/x"]), ("--path /a/c", ["/a/b", "/a/c:", "/a/c"]), ("--since 1h", ["/d"]),
+    ("--path /a/b/x", ["/a/b"]), ("--path /a/c/x/y", ["/a/b"]), ("--path /a/cx", []),
     ("--since 2020-01-01", ["/a", "/a/b", "/a/c:", "/a/c", "/a/x", "/d"]), ("--since 2999-02-01", [])])
 def test_some_of_it(folder, words, paths):
-    """By user, path, and time."""
+    """By user, path, and time. What was in a folder went, or came, with it."""
     status, lines, _ = tells(log_of(folder, [{**it} for it in CHANGES]), *words.split())
     assert (status, [line.split()[2] for _, line in lines]) == (0, paths)
 
@@ -151,8 +152,7 @@ def test_no_time(folder):
 
 def test_a_log_that_was_turned_over_and_a_line_that_cannot_be_read(folder):
     log_of(folder, [{**it} for it in CHANGES], "changes.log.2.gz")
-    with open(os.path.join(folder, LOG, "changes.log.1"), "w", encoding="utf-8") as file:
-        file.write("no line\n")
+    put_file(os.path.join(folder, LOG, "changes.log.1"), "no line\n")
     status, lines, faults = tells(folder)
     assert (status, len(lines), faults) == (1, 6, "fileroom-admin: 1 lines of the log cannot be read\n")
 

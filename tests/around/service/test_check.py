@@ -4,8 +4,10 @@ import re
 import shutil
 import subprocess
 import time
+from unittest import mock
 
 import pytest
+from fileroom_admin import looking, places
 from given import each
 from served import PROGRAM, end_with_parent, started_here, text_of
 from transcripts import by_shell
@@ -177,3 +179,13 @@ def test_a_rooms_process_runs_what_is_installed(installed):
 def test_one_version_and_no_unit_in_the_place_of_its_own(installed):
     installed.machine.shows("")
     installed.machine.plays("units.txt")
+
+
+def test_whose_a_rooms_file_is(looked_at):
+    """What is told to do about it gives away nothing that a link leads to."""
+    its, path = places.Places(looked_at.root), looked_at.at("var/lib/fileroom/plans/link")
+    os.symlink("/etc/passwd", path)
+    its.is_machine, found = True, looking.Findings(its)
+    with mock.patch.object(looking.os, "stat", side_effect=AssertionError("it was followed")):
+        found.owner(path)
+    assert [remedy for _, remedy in found.found] == [f"chown -h fileroom:fileroom {path}"]

@@ -3,55 +3,20 @@ nginx, with the filters, jails and action as they are shipped, but for smaller n
 import json
 import os
 import re
-import shutil
-import subprocess
-import time
 
 import pytest
+from ban import Fail2ban
 from nginx import Front
 from served import HERE, text_of, until
 
-from .contents import SERVICE
 from .machines import Machine, Served, stamp
 
-SOON = 20  # seconds
+SOON = 120  # seconds, on a machine that has much to do
 SMALL = {"2000": "3", "20000": "12", "200000": "40", "3277": "5", "32768": "20", "327680": "60"}  # in the place of each
-USERS = "ann", "bob", "kim", "lou", "max", "ned", "pam", "sue", "--at"
+BEHIND = "u1", "u2", "u3", "u4", "u5"  # who ask behind others, each once
+USERS = "ann", "bob", "kim", "lou", "max", "ned", "pam", "sue", "--at", *BEHIND
 STAT = {"cmd": "STAT", "path": "/"}
 PADDED = ('{"cmd":"STAT","path":"/"' + " " * 5000 + "}").encode()
-
-
-class Fail2ban:
-    """A server of one's own, with the machine's settings and ours."""
-
-    def __init__(self, folder, log, env):
-        self.folder, self.env = folder, env
-        etc = os.path.join(folder, "etc")
-        shutil.copytree("/etc/fail2ban", etc, symlinks=True)
-        shutil.rmtree(os.path.join(etc, "jail.d"))
-        os.mkdir(os.path.join(etc, "jail.d"))
-        jails = text_of(os.path.join(SERVICE, "fail2ban", "bounds.conf"))
-        jails = re.sub(r"maxretry = (\d+)", lambda it: f"maxretry = {SMALL[it[1]]}", jails)
-        for name, text in {"fail2ban.local": "[Definition]\ndbfile = :memory:\n",
-                           "jail.d/bounds.conf": jails.replace("/var/log/fileroom/changes.log", log),
-                           **{f"{to}.conf": text_of(os.path.join(SERVICE, "fail2ban", f"{it}.conf")) for it, to in (
-                               ("made", "filter.d/fileroom-made"), ("sent", "filter.d/fileroom-sent"),
-                               ("hold", "action.d/fileroom-hold"))}}.items():
-            with open(os.path.join(etc, name), "w", encoding="utf-8") as file:
-                file.write(text)
-        words = ["fail2ban-server", "-f", *self.words(), "-p", os.path.join(folder, "pid"), "--logtarget",
-                 os.path.join(folder, "log"), "start"]
-        self.server = subprocess.Popen(words, env=env, stdout=subprocess.DEVNULL, stderr=subprocess.DEVNULL)
-
-    def words(self):
-        return ["-c", os.path.join(self.folder, "etc"), "-s", os.path.join(self.folder, "sock")]
-
-    def asked(self, *words):
-        done = subprocess.run(["fail2ban-client", *self.words(), *words], env=self.env, capture_output=True, text=True)
-        return done.stdout
-
-    def has_begun(self):
-        return len(re.findall("fileroom-(?:made|sent)-(?:few|usual|many)", self.asked("status"))) == 6
 
 
 class Caller:
@@ -100,11 +65,10 @@ def ground(tmp_path_factory, begun):
 def ban(tmp_path_factory, ground):
     folder = str(tmp_path_factory.mktemp("b"))
     ground.stand_in("fail2ban-client", f'exec /usr/bin/fail2ban-client -s {folder}/sock "$@"')
-    it = Fail2ban(folder, os.path.join(ground.front.folder, "work/changes.log"), ground.env)
-    assert until(it.has_begun, SOON)
+    it = Fail2ban(folder, os.path.join(ground.front.folder, "work/changes.log"), ground.env, lambda jails: re.sub(
+        r"maxretry = (\d+)", lambda it: f"maxretry = {SMALL[it[1]]}", jails))
     yield it
-    it.server.terminate()
-    it.server.wait()
+    it.end()
 
 
 def is_held(machine, user, room="plans"):
@@ -117,6 +81,17 @@ def soon_held(machine, user, room="plans"):
 
 def soon_free(machine, user):
     return until(lambda: not is_held(machine, user), SOON)
+
+
+def until_counted(machine, user, bodies):
+    """Until fail2ban has acted on all that was asked before: it holds who asks for so much behind that."""
+    behind = Caller(machine.front, user)
+    assert {behind.asks(it).status for it in bodies} == {200}
+    assert soon_held(machine, user)
+
+
+def until_made(machine, user):
+    until_counted(machine, user, [{"cmd": "MKDIR", "path": f"/{user}-{at}"} for at in range(12)])
 
 
 # At the front
@@ -149,7 +124,7 @@ def test_who_makes_more(ground):
     for body in ({"cmd": "LIST", "path": "/"}, {"cmd": "WRITE", "path": "/none", "data": ""},
                  {"cmd": "MKDIR", "path": "/"}):
         assert {bob.asks(body).status for _ in range(3)} == {200}
-    time.sleep(3)
+    until_made(ground, "u1")
     assert not is_held(ground, "bob")
     assert bob.asks(b'{"cmd":"\\u004dKDIR","path":"/bob-odd"}').body == b'{"code":0}'
     assert soon_held(ground, "bob")
@@ -161,7 +136,7 @@ def test_who_sends_more(ground):
     max_ = Caller(ground.front, "max")
     bodies = [PADDED, json.dumps({"cmd": "WRITE", "path": "/none", "data": "A" * 2000}).encode()]
     assert {max_.asks(bodies[at % 2]).status for at in range(19)} == {200}
-    time.sleep(3)
+    until_counted(ground, "u2", [PADDED] * 20)
     assert not is_held(ground, "max")
     max_.asks(bodies[0])
     assert soon_held(ground, "max")
@@ -172,10 +147,11 @@ def test_whose_day_is_over(ground, ban):
     name is like an option.)"""
     at = Caller(ground.front, "--at")
     assert at.makes(*range(12)) == {200}
-    assert soon_held(ground, "--at")
-    time.sleep(3)
+    until_made(ground, "u5")
+    assert until(lambda: "u5@plans" in ban.asked("status", "fileroom-made-few"), SOON)  # (it has counted all before)
+    assert is_held(ground, "--at") and "--at@plans" in ban.asked("status", "fileroom-made-few")
     ban.asked("set", "fileroom-made-few", "unbanip", "--at@plans")
-    time.sleep(2)
+    assert "--at@plans" not in ban.asked("status", "fileroom-made-few")
     assert is_held(ground, "--at")
     ban.asked("set", "fileroom-made-usual", "unbanip", "--at@plans")
     assert soon_free(ground, "--at")
@@ -190,7 +166,7 @@ def test_bounds_of_a_group_and_of_ones_own(ground):
     assert Caller(ground.front, "kim").makes(*range(3)) == {200}
     assert Caller(ground.front, "lou").makes(*range(30)) == {200}
     assert soon_held(ground, "kim")
-    time.sleep(3)
+    until_made(ground, "u3")
     assert not is_held(ground, "lou")
 
 
@@ -212,7 +188,7 @@ def test_who_is_released_is_counted_anew(ground, ban):
     assert ground.does("user", "release", "plans", "pam") == (0, "pam is not held in plans\n", "")
     assert "pam@plans" not in ban.asked("status", "fileroom-made-usual")
     assert pam.makes("b", *(f"c{at}" for at in range(10))) == {200}
-    time.sleep(3)
+    until_made(ground, "u4")
     assert not is_held(ground, "pam")
     assert pam.makes("d") == {200}
     assert soon_held(ground, "pam")
@@ -242,7 +218,8 @@ def test_who_is_told_of_it(machine):
     for user in "ann", "bob":
         assert machine.does("user", "hold", "plans", user) == (0, f"{user} is held in plans\n", "")
     told = [it for it in machine.does("check")[1].splitlines() if " is held since " in it]
-    assert [it.split()[1] for it in told] == ["ann", "bob"]
+    assert [(it.split()[1], it.partition(", ")[2]) for it in told] == [
+        (user, "by hand, or as `user remove --to` left something") for user in ("ann", "bob")]
     assert [it for it in machine.numbers().items() if it[0].startswith("fileroom_held")] == [
         ('fileroom_held{room="club"}', "0"), ('fileroom_held{room="plans"}', "2")]
     path = machine.at("etc/nginx/fileroom/warnings/ann.json")

@@ -1,14 +1,15 @@
 """What `make install` puts, with its modes, and what is left after `make uninstall`; each unit by systemd's own tools,
-the man pages by groff, root's scripts by shellcheck; and the installed client at a room."""
+the man pages by groff, root's scripts by shellcheck. (At work: tests/around/firstday.)"""
+import glob
+import json
 import os
 import re
 import stat
-import subprocess
 
 import pytest
-from served import HERE, PROGRAM, Room, bytes_of, text_of
+from served import HERE, PROGRAM, bytes_of, text_of
 
-from .contents import SERVICE, below
+from .contents import SERVICE, below, said
 from .machines import FOLDER, TOLD
 
 TOP = os.path.join(HERE, "..")
@@ -16,11 +17,12 @@ SHARE = "share/fileroom"
 ROSTER = "share/doc/fileroom/roster.toml"
 ROWS = [it.split() for it in text_of(os.path.join(FOLDER, "installed.txt")).splitlines() if it[:1].isdigit()]
 MODES, EXPOSURES = {it[1]: f"0o{it[0]}" for it in ROWS}, {it[1]: float(it[2]) for it in ROWS if len(it) > 2}
-UNITS = [it for it in MODES if it.startswith("lib/systemd/system/fileroom")]
+UNITS = [it for it in MODES if it.startswith("lib/systemd/system/fileroom") and not it.endswith(".conf")]
 PAGES = [it for it in MODES if it.startswith("share/man")]
 FOLDERS = {  # whole folders of the checkout: where each is installed, and what of it
     "client/room_client": (f"{SHARE}/client/room_client", r".*\.py"),
     "dav/fileroom_dav": (f"{SHARE}/dav/fileroom_dav", r".*\.py"),
+    "signin/fileroom_signin": (f"{SHARE}/signin/fileroom_signin", r".*\.py"),
     "service/admin/fileroom_admin": (f"{SHARE}/admin/fileroom_admin", r".*\.py"),
     "page": (f"{SHARE}/page", r".*\.(html|css|js|svg)"),
     "front": (f"{SHARE}/front", r".*\.conf"),
@@ -29,13 +31,6 @@ FOLDERS = {  # whole folders of the checkout: where each is installed, and what 
 # each file of these as it is installed, with where it stands in the checkout
 IN_FOLDERS = {f"{to}/{name}": os.path.join(TOP, it, name) for it, (to, which) in FOLDERS.items()
               for name in os.listdir(os.path.join(TOP, it)) if re.fullmatch(which, name)}
-
-
-def said(*words, **env):
-    """The status, and all that a command says."""
-    how = {"capture_output": True, "text": True, "timeout": 60, "env": {**os.environ, "FILEROOM": PROGRAM, **env}}
-    done = subprocess.run(words, **how)
-    return done.returncode, done.stdout, done.stderr
 
 
 def newest():
@@ -62,6 +57,7 @@ def test_what_is_left_when_it_is_taken_away(folder):
     open(os.path.join(folder, "etc-that-stays"), "w").close()
     status, _, faults = said(os.path.join(SERVICE, "install"), "--remove", "", folder)
     assert (status, faults, below(folder)) == (0, "", ["etc-that-stays"])
+    assert glob.glob(os.path.join(folder, "lib/systemd/system/fileroom*")) == []
 
 
 OF_SITE = {f"etc/nginx/{it}" for it in (
@@ -94,10 +90,15 @@ def test_the_site_goes_with_what_serves_it(machine, pair, reads):
 
 
 def test_versions(top):
-    for word in "--version", "-V":
-        assert said(os.path.join(top, "bin/fileroom"), word) == (0, f"fileroom {newest()}\n", "")
+    for name, word in ("fileroom", "--version"), ("fileroom", "-V"), ("room", "--version"):
+        assert said(os.path.join(top, "bin", name), word) == (0, f"{name} {newest()}\n", "")
     for it in PAGES:
         assert f'"fileroom {newest()}"' in text_of(os.path.join(top, it)), it
+
+
+def test_a_trial_finds_the_client(top):
+    status, output, faults = said(os.path.join(top, SHARE, "fileroom-tried"), "plans", BACKUPS=top)
+    assert (status, output, faults) == (1, "", f"fileroom-tried: there is no backup in {top}/plans\n")
 
 
 def test_the_sample_of_a_roster(top):
@@ -106,7 +107,7 @@ def test_the_sample_of_a_roster(top):
 
 @pytest.mark.parametrize("unit", UNITS, ids=os.path.basename)
 def test_a_unit(top, unit):
-    """(Its exposure is counted by its file alone: lab/machine asks the systemd that has read it.)"""
+    """(Its exposure is counted by the files alone: lab/machine asks the systemd that has read them.)"""
     path = os.path.join(top, unit)
     assert re.findall(r"@[A-Z]+@", text_of(path)) == []  # (each place is filled in)
     one = path.replace("@.", "@plans.")
@@ -121,11 +122,19 @@ def test_a_unit(top, unit):
         assert float(re.search(r"exposure level for \S+: ([0-9.]+)", told)[1]) <= EXPOSURES[unit]
 
 
+@pytest.mark.parametrize("unit", EXPOSURES, ids=os.path.basename)
+def test_systemd_takes_what_all_units_shut_out(top, unit):
+    keys = {*re.findall(r"(?m)^(\w+)=", text_of(os.path.join(SERVICE, "hardening.conf")))}
+    words = "systemd-analyze", "security", "--offline=true", "--json=short", os.path.join(top, unit)
+    found = [(it["json_field"].partition("_")[0], it["set"]) for it in json.loads(said(*words)[1])]
+    assert {it for it in found if it[0] in keys} == {(it, True) for it in keys}
+
+
 def test_a_standbys_unit_shuts_out_what_the_rooms_does(top):
-    shut = [text_of(os.path.join(top, f"lib/systemd/system/{it}@.service")).partition("NoNewPrivileges")[2]
+    shut = [text_of(os.path.join(top, f"lib/systemd/system/{it}@.service")).partition("PrivateNetwork")[2]
             .partition("\n[Install]")[0].strip() for it in ("fileroom", "fileroom-standby")]
     assert shut[0] == shut[1]
-    assert "ProtectSystem=strict\n" in shut[0] and "MemoryMax=80%" in shut[0]
+    assert "CapabilityBoundingSet=\n" in shut[0] and "MemoryMax=80%" in shut[0]
 
 
 def test_man_pages(top):
@@ -155,12 +164,3 @@ def test_as_in_the_checkout(top):
         if name.endswith("/version.py"):
             want = want.replace("@VERSION@", newest())
         assert text_of(os.path.join(top, name)) == want, name
-
-
-@pytest.mark.usefixtures("alone")
-def test_the_client_asks_a_room(top, folder):
-    room = Room(folder).start()
-    words = ["--url", f"http://127.0.0.1:{room.port}", "--room-user", "ann", "--state", os.path.join(folder, "state")]
-    tries = (["--version"], f"room {newest()}\n"), (["mkdir", "/plans"], "/plans: made\n"), (["ls"], "plans/\n")
-    for more, want in tries:
-        assert said(os.path.join(top, "bin/room"), *words, *more) == (0, want, "")

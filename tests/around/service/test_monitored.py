@@ -11,13 +11,14 @@ import pytest
 from fileroom_admin import places
 from given import each
 from nginx import Front, login
-from served import HERE, Room, bytes_of, text_of
+from served import HERE, Room, bytes_of, least, put_file, text_of
 
 from .contents import BACKUP, SERVICE
 from .machines import Served, stamp
 
 SAMPLE = r"fileroom_[a-z_]+(\{[a-z]+=\"[^\"]*\"(,[a-z]+=\"[^\"]*\")*\})? -?[0-9.e+-]+"
 HOUR = 3600
+WRONG = 1.8  # seconds that a wrong login is not answered
 PLANS = "var/backups/fileroom/plans"
 
 
@@ -100,6 +101,14 @@ def test_to_a_file(machine, folder):
     assert os.listdir(os.path.join(folder, "to")) == ["fileroom.prom"]
 
 
+def test_no_owner_is_set(folder):
+    """The unit's filter ends a program that sets one."""
+    path = os.path.join(folder, "fileroom.prom")
+    with mock.patch.object(places.os, "fchown", side_effect=AssertionError("an owner is set")):
+        places.write("numbers", path)
+    assert text_of(path) == "numbers"
+
+
 def test_another_file_in_its_place(folder):
     """Who has the folder puts a link to a file of root's where the new one was just made: that file stays as it is."""
     secret = os.path.join(folder, "secret")
@@ -147,7 +156,7 @@ def test_panels_and_rules_name_numbers_that_there_are():
     assert {it for it in asked if it.removeprefix("fileroom_") not in names} == set()
     ruled = set(re.findall(r"\bfileroom_([a-z_]+)\b", text_of(os.path.join(SERVICE, "alerts.yml"))))
     assert ruled - names == set()
-    assert {"numbers_left_days", "memory_left_days", "disk_left_days"} <= ruled
+    assert {"numbers_left_days", "memory_left_days", "disk_left_days", "certificate_seconds"} <= ruled
 
 
 # A backup is restored, served and asked
@@ -179,8 +188,7 @@ def test_a_backup_that_is_none(machine, latest, name, edit):
     """It is told, and does not count as tried."""
     path = os.path.join(latest, name)
     data = edit(bytes_of(path))
-    with open(path, "wb") as file:
-        file.write(data)
+    put_file(path, data)
     status, _, faults = tries(machine)
     assert (status, len(faults.splitlines()), hidden(machine)) == (1, 1, []), faults
 
@@ -204,11 +212,14 @@ def front(tmp_path_factory):
 
 def test_health(front):
     """A stranger is told that the front is there, below the limits and in no log."""
-    begin = time.monotonic()
+    def seconds(more):
+        begin = time.monotonic()
+        got = front.once(None, "GET", "/health", more=more)
+        assert (got.status, got.body) == (200, b"well\n")
+        return time.monotonic() - begin
     front.once(None, "GET", "/Health")
-    answers = [front.once(None, "GET", "/health", more=more) for more in ((), [login("ann", "wrong")], [login("", "")])]
-    assert [(it.status, it.body) for it in answers] == 3 * [(200, b"well\n")]
-    assert time.monotonic() - begin < 2  # (nobody waits for it)
+    for more in (), [login("ann", "wrong")], [login("", "")]:
+        assert least(lambda its=more: seconds(its), WRONG) < WRONG  # (nobody waits for it)
     many = [front.once(None, "GET", "/health", source="127.0.9.9") for _ in range(260)]
     assert {it.status for it in many if it} <= {200, 429}
     work = os.path.join(front.folder, "work")

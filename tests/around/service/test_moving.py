@@ -92,3 +92,14 @@ def test_removed_and_back(machine):
     assert machine.does("dav", "list")[1] == "no room has WebDAV\n"
     assert text_of(machine.at("etc/fileroom/plans.toml")) == roster
     assert bytes_of(os.path.join(folder, "room.db")) == db
+
+
+@pytest.mark.parametrize("words", [("add", "second", "lou", "eng"), ("import", "--as", "second", "PATH")])
+def test_backups_of_a_room_of_before_are_not_those_of_a_new_one(there, exported, words):
+    """They would be what `check` and `sees` look at."""
+    there.write(f"var/backups/fileroom/second/{exported.backup}/room.db", "")
+    call = "room", *(exported.path if it == "PATH" else it for it in words)
+    status, _, faults = there.does(*call)
+    assert (status, "has backups of a room of before" in faults) == (1, True)
+    os.rename(there.at("var/backups/fileroom/second"), there.at("var/backups/fileroom/second.before"))
+    assert there.does(*call)[::2] == (0, "")

@@ -13,8 +13,9 @@ import threading
 import time
 
 import pytest
-from fileroom_admin import places, sheets, trash
+from fileroom_admin import asking, places, sheets, trash
 from given import each
+from room_client.line import MOST
 from served import text_of
 
 from .machines import ADMIN
@@ -151,32 +152,32 @@ class HeadsWithoutEnd:
             self.sent = max(self.sent, sent)
 
 
-def takes_its_time(taken, monkeypatch, sends, in_all):
-    """What is told of a room that sends so to somebody who waits two seconds for an answer, and so long in all."""
+def takes_its_time(taken, monkeypatch, sends, wait, in_all):
+    """What is told of a room that sends so to somebody who waits so many seconds for an answer, and so many in all."""
     taken.sends = sends
-    monkeypatch.setattr(trash, "WAIT", 2)
-    monkeypatch.setattr(trash, "IN_ALL", in_all)
+    monkeypatch.setattr(asking, "WAIT", wait)
+    monkeypatch.setattr(asking, "IN_ALL", in_all)
     users = {"ann": ["eng"], **{f"user{at}": [] for at in range(3)}}
     begin = time.monotonic()
     with pytest.raises(places.Fault) as fault, trash.Trashes(taken.path, users) as trashes:
         for user in users:
             trashes.settle(user)
-    assert time.monotonic() - begin < 6
+    assert time.monotonic() - begin < 15
     return str(fault.value)
 
 
-@pytest.mark.parametrize("sends, in_all, what", [(byte_by_byte, 4, "does not answer"),
-                                                 (a_bit_late, 3, "longer than 3 seconds in all")])
-def test_a_room_that_takes_its_time(taken, monkeypatch, sends, in_all, what):
+@pytest.mark.parametrize("sends, wait, in_all, what", [
+    (byte_by_byte, 2, 4, "does not answer"), (a_bit_late, 12, 3, "longer than 3 seconds in all")])
+def test_a_room_that_takes_its_time(taken, monkeypatch, sends, wait, in_all, what):
     """It holds the lock of all changes for as long as a room may take, however it spends that."""
-    assert what in takes_its_time(taken, monkeypatch, sends, in_all)
+    assert what in takes_its_time(taken, monkeypatch, sends, wait, in_all)
 
 
 def test_heads_without_end(taken, monkeypatch):
     """They take no memory."""
     endless = HeadsWithoutEnd()
-    assert "does not answer" in takes_its_time(taken, monkeypatch, endless, 4)
-    assert trash.LONGEST <= endless.sent < 2 * trash.LONGEST
+    assert "does not answer" in takes_its_time(taken, monkeypatch, endless, 2, 4)
+    assert MOST <= endless.sent < 2 * MOST
 
 
 def test_stopped_by_hand(machine, taken):
@@ -247,3 +248,19 @@ def test_a_terminal_that_lacks_a_letter(machine, folder):
     assert in_ascii(machine, "--root", root, "log", "plans").endswith("  MKDIR /\\u0150\n")
     machine.does("user", "name", "ann", "\u0150")
     assert "ann,eng,\u0150\n" in in_ascii(machine, "--root", machine.root, "user", "list", "--csv", "plans")
+
+
+# Bytes that are no UTF-8
+
+def test_a_program_that_says_such(machine):
+    """Its words are told; and nothing is changed."""
+    machine.stand_in("nginx", r"printf 'odd \xff'; exit 1")
+    before = machine.files()
+    assert machine.does("front") == (1, "", "fileroom-admin: nginx -tq: odd \ufffd\n")
+    assert machine.files() == before
+
+
+def test_a_path_of_such(machine):
+    machine.backed_up()
+    status, said, faults = machine.does("sees", "ann", "plans", os.fsdecode(b"/\xff"))
+    assert (status, said, faults.count("\n"), "Traceback" in faults) == (1, "", 1, False), faults

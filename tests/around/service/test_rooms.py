@@ -2,11 +2,14 @@
 step, and the next call at one of its own."""
 import os
 import subprocess
+from unittest import mock
 
 import pytest
+from fileroom_admin import changes
+from fileroom_admin.places import Fault
 from given import each
 from nginx import certified
-from served import PROGRAM, text_of
+from served import text_of
 
 from .stopped import stopped, stops, undone
 
@@ -17,7 +20,6 @@ HTTPS = ["systemctl reload-or-restart nginx", "systemctl reload-or-restart filer
 NEW = [f"systemctl {it}" for it in (
     "daemon-reload", "enable fileroom-ports", "reload-or-restart fileroom-ports", "enable --now fileroom@new",
     "enable --now fileroom-backup@new.timer", "enable --now fileroom-try@new.timer", "reload-or-restart nginx")]
-ROSTER = ["systemctl try-restart fileroom@plans"]
 LONG = "x" * 256
 
 
@@ -47,8 +49,6 @@ def test_a_password_has_a_slow_hash_and_one_that_was_drawn_a_quick_one(machine):
 
 @each("what, words, asked", [
     *((f"a room, {it}", it.split()[-1], "room add new ann eng", NEW) for it in NEW[2:]),
-    *((it, "fileroom@plans", it, ROSTER) for it in (
-        "user add plans kim eng", "user groups plans bob staff", "user remove plans bob")),
     *((f"a certificate, {it}", it.split()[-1], "tls CERT KEY", HTTPS) for it in HTTPS),
     *((f"front, {it}", it.split()[-1], "front", FRONT) for it in FRONT[1:])])
 def test_a_service_that_fails_leaves_all_as_it_was(machine, pair, what, words, asked):
@@ -124,6 +124,15 @@ def test_written_since_it_was_stopped(machine):
     assert "lee" not in text_of(machine.at("etc/nginx/fileroom/rooms/plans.users.json"))
 
 
+def test_a_journal_that_is_cut(machine):
+    """Whoever looks at it decides: nothing is done."""
+    machine.write("etc/fileroom/admin.journal", '{"files": [')
+    status, _, told = machine.does("user", "add", "plans", "lee", "eng")
+    assert (status, told.count("\n")) == (1, 1) and "admin.journal is no JSON: " in told
+    assert text_of(machine.at("etc/fileroom/admin.journal")) == '{"files": ['
+    assert "lee" not in text_of(machine.at("etc/fileroom/plans.toml"))
+
+
 # A certificate
 
 @pytest.fixture(scope="session")
@@ -163,3 +172,26 @@ def test_a_certificate(machine, certificates):
     front = machine.does("room", "list")[1].splitlines()[-1]
     assert front.partition("  until ")[0] == (
         "front  https://room.example/ https://www.room.example/ https://127.0.0.1/ https://[2001:db8::1]/")
+
+
+def test_a_key_in_the_certificates_file(machine, certificates, folder):
+    """It does not come into the file that every user of the machine may read."""
+    both = os.path.join(folder, "both.pem")
+    with open(both, "w", encoding="utf-8") as file:
+        file.write(text_of(certificates["KEY"]) + text_of(certificates["CERT"]))
+    assert machine.does("tls", both, both)[0] == 0
+    cert, key = (machine.at(f"etc/nginx/fileroom/tls/{name}.pem") for name in ("cert", "key"))
+    assert (text_of(cert), text_of(key)) == (text_of(certificates["CERT"]), text_of(both))
+    assert os.stat(key).st_mode & 0o777 == 0o600
+
+
+def test_a_program_that_ends_each_time_is_not_waited_for():
+    """The room's unit starts it again a second later, for ever."""
+    places, tries = mock.Mock(is_machine=True), iter(range(100))
+    starts = lambda *_: (0, f"NRestarts={next(tries)}")
+    with mock.patch.object(changes, "answers", return_value=False), mock.patch.object(changes, "said", starts), \
+            mock.patch.object(changes, "time", mock.Mock(monotonic=lambda: 0)) as clock, \
+            pytest.raises(Fault, match="journalctl -u fileroom@plans"):
+        clock.sleep.side_effect = [None] * 9
+        changes.wait_until_answers(places, "plans")
+    assert 2 < clock.sleep.call_count < 9

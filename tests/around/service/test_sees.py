@@ -131,6 +131,19 @@ def test_what_is_told(machine, school, words, lines):
     assert machine.does("sees", *words.split()) == (0, "".join(f"{it}\n" for it in [first, *lines]), "")
 
 
+def test_trashes_of_many_others_are_one_line(machine, room):
+    """A school has hundreds; one's own has a line."""
+    for at in range(6):
+        assert machine.does("user", "add", "plans", f"m{at}")[0] == 0
+    assert machine.does("trash", "plans")[0] == 0
+    room.room.kill()
+    backup = os.path.basename(machine.backed_up())
+    status, said, _ = machine.does("sees", "ann", "plans")
+    assert (status, said.splitlines()) == (0, [
+        f"plans, by the backup {backup}, with ann in eng:", "/  all  (and 16 things below)",
+        "/trash  none  of 9 things that others have there"])
+
+
 @each("words, said, faults", [
     ("no such path", "kim plans /class/no", "what kim may do in plans is not known: there is no /class/no\n", ""),
     ("no user", "zed", "", "fileroom-admin: zed is no user of a room\n"),

@@ -1,15 +1,16 @@
 """A room with a standby: what is left where its volume cannot be made, what reaches another host, and how its room
 rests for a backup."""
 import os
+import runpy
 import subprocess
 import time
 
 import pytest
 from nginx import PATH
-from served import text_of
+from served import put_file, text_of
 
-from .contents import SERVICE, below
-from .test_backup import said, stand_in
+from .contents import SERVICE, below, said
+from .test_backup import stand_in
 
 TOOL = os.path.join(SERVICE, "standby/fileroom-standby")
 
@@ -31,20 +32,32 @@ def test_a_volume_that_cannot_be_made(folder, etc):
     assert os.listdir(os.path.join(etc, "fileroom")) == ["plans.toml"]
 
 
+def test_words_of_others_that_are_no_text(folder):
+    """Any process of the machine may have them."""
+    server = os.path.join(folder, "glusterfs")
+    os.symlink("/bin/sh", server)
+    mount = runpy.run_path(TOOL)["Mount"]("plans")
+    odd, its = (subprocess.Popen([server, "-c", "read line", "sh", it], stdin=subprocess.PIPE)
+                for it in (b"\xff", mount.folder))
+    with odd, its:
+        assert mount.words()[-2] == mount.folder
+
+
 @pytest.mark.parametrize("cut, is_whole", [("head -c 20000", False), ("cat", True)])
 def test_files_reach_another_host_whole(folder, etc, cut, is_whole):
-    other, logs = os.path.join(folder, "other"), os.path.join(folder, "logs")
-    os.mkdir(other)
-    os.makedirs(os.path.join(logs, "nginx"))
-    with open(os.path.join(etc, "fileroom/plans.hosts"), "w", encoding="utf-8") as file:
-        file.write("localhost\n127.0.0.2\n")
+    other, logs, before = os.path.join(folder, "other"), os.path.join(folder, "logs"), "nginx/fileroom/signin/a.toml"
+    for it in os.path.dirname(os.path.join(other, before)), os.path.join(logs, "nginx"):
+        os.makedirs(it)
+    put_file(os.path.join(other, before), "")  # (of a directory that is asked no more)
+    put_file(os.path.join(etc, "fileroom/plans.hosts"), "localhost\n127.0.0.2\n")
     there = f"s,/etc,{other},g; s,/var/log,{logs},g; s, -g [a-z-]*,,"
-    stand_in(folder, "systemctl", "")
+    stand_in(folder, "systemctl", f'echo "$*" >>{folder}/told')
     ssh = stand_in(folder, "ssh", f'{cut} | sh -c "$(echo "$2" | sed "{there}")" 2>/dev/null')
     how = {"ETC": etc, "PATH": f"{folder}/stand-in-systemctl:{ssh}"}
     said("sh", "-c", said(TOOL, "copy", "plans", **how)[1].replace("-C /etc --ex", f"-C {etc} --ex"), **how)
-    assert below(other) == (below(etc) if is_whole else [])
+    assert below(other) == (below(etc) if is_whole else [before])
     if is_whole:
+        assert text_of(f"{folder}/told").splitlines()[-1] == "try-restart fileroom-standby@plans nginx fileroom-signin"
         assert [oct(os.stat(os.path.join(logs, it)).st_mode & 0o777) for it in (
             "fileroom", "nginx/fileroom-logins.log")] == ["0o710", "0o640"]
 
@@ -61,8 +74,7 @@ class Manager:
         stand_in(folder, "crm_resource", "")
         path = f"{folder}/stand-in-systemctl:{folder}/stand-in-crm_resource:{PATH}"
         self.env = {**os.environ, "ETC": folder, "RUN": folder, "CIB_file": self.cib, "PATH": path}
-        with open(self.cib, "w", encoding="utf-8") as file:
-            file.write(self.does("cibadmin", "--empty"))
+        put_file(self.cib, self.does("cibadmin", "--empty"))
         off = "<nvpair id='s' name='stonith-enabled' value='false'/>"
         self.does("cibadmin", "--create", "-o", "resources", "--xml-text", "<group id='plans'><primitive "
                   "id='plans-room' class='ocf' provider='pacemaker' type='Dummy'/></group>")

@@ -8,7 +8,7 @@ import subprocess
 import sys
 
 import pytest
-from served import HERE, bytes_of, text_of, until
+from served import HERE, bytes_of, put_file, text_of, until
 
 from .contents import BACKUP, SERVICE
 from .machines import ADMIN
@@ -17,13 +17,14 @@ from .machines import ADMIN
 ORDER = """import os, sys
 sys.path.insert(0, sys.argv[1])
 from fileroom_admin.command import main
-kept, told = set(), os.fdopen(os.dup(1), "w")
+kept, told = {}, os.fdopen(os.dup(1), "w")  # how many bytes of each
 def fsync(handle, task=os.fsync):
-    kept.add(os.path.realpath(f"/proc/self/fd/{handle}"))
+    kept[os.path.realpath(f"/proc/self/fd/{handle}")] = os.fstat(handle).st_size
     return task(handle)
 def replace(old, new, task=os.replace, **how):
-    print("renamed" if os.path.realpath(old) in kept else "NOT KEPT", new, file=told, flush=True)
-    kept.discard(os.path.dirname(os.path.realpath(new)))
+    is_kept = kept.get(os.path.realpath(old)) == os.path.getsize(old)
+    print("renamed" if is_kept else "NOT KEPT", new, file=told, flush=True)
+    kept.pop(os.path.dirname(os.path.realpath(new)), None)
     before.append(new)
     return task(old, new, **how)
 def link(*words, task=os.link):
@@ -53,7 +54,7 @@ def test_one_waits(machine):
 
 
 def test_kept_first(machine):
-    """Each file is on the disk before it has its name, and its name before what reads it is asked."""
+    """Each file is on the disk, whole, before it has its name, and its name before what reads it is asked."""
     words = [sys.executable, "-B", "-c", ORDER, os.path.dirname(ADMIN), "--root", machine.root, "user", "add", "plans",
              "kim", "eng"]
     done = subprocess.run(words, env=machine.env, capture_output=True, text=True)
@@ -71,8 +72,7 @@ def test_a_restore_that_ends_at_a_step(machine, folder, most):
     os.mkdir(copy)
     os.mkdir(there)
     for it, data in whole.items():
-        with open(os.path.join(copy, it), "wb") as file:
-            file.write(data)
+        put_file(os.path.join(copy, it), data)
     # (each command of the script counts, and the last one ends it)
     for name in "cp", "mv", "sync":
         machine.stand_in(name, f"""echo >>{steps}

@@ -1,17 +1,21 @@
 """What ends within days is told in time: to a monitor, by `check`, and on the page to the owner of the room alone."""
+import fcntl
 import json
 import os
 import shutil
+import subprocess
+import sys
 from unittest import mock
 
 import pytest
 from fileroom_admin import looking, paces, places
 from given import each
-from served import text_of
+from served import text_of, until
 
-from .machines import stamp
+from .machines import ADMIN, stamp
 
 DAY, MB = 24, 1 << 20
+SOON = 60  # seconds, on a machine that has much to do
 FULL_NOT_NEAR = 1 << 50  # bytes of a disk
 AT_A_PACE = {97: 1 * MB, 49: 3 * MB, 1: 5 * MB}  # 1 MiB a day
 BACKUPS, WARNINGS = "var/backups/fileroom", "etc/nginx/fileroom/warnings"
@@ -132,3 +136,24 @@ def test_an_owner_by_a_link(machine, few_numbers):
     machine.write("of-root", "ann\n")
     os.symlink(machine.at("of-root"), machine.at(f"{few_numbers}/owner"))
     assert warned(machine) == {}
+
+
+def is_waiting(pid):
+    """For a lock."""
+    rows = map(str.split, text_of("/proc/locks").splitlines())
+    return any(it[1:3] == ["->", "FLOCK"] and it[5] == str(pid) for it in rows)
+
+
+def test_one_writes_at_a_time(machine, few_numbers):
+    """Another's new file, of which it knows nothing, would pass for one of before."""
+    assert len(warned(machine)) == 1
+    new, lock = machine.at(f"{WARNINGS}/.fileroom-new"), os.open(machine.at(WARNINGS), os.O_RDONLY)
+    fcntl.flock(lock, fcntl.LOCK_EX)
+    machine.write(new, "")
+    line = [sys.executable, "-B", ADMIN, "--root", machine.root, "warn"]
+    with subprocess.Popen(line, env=machine.env) as other:
+        until(lambda: is_waiting(other.pid) or other.poll() is not None, SOON)
+        assert os.path.exists(new)
+        os.remove(new)
+        os.close(lock)
+    assert other.returncode == 0

@@ -1,5 +1,5 @@
 """`fileroom-admin` over the years: many users at once, renamed and removed ones, groups. Each command is one change,
-with one restart of each room that it concerns, and waits until that answers again."""
+which a room that is served has taken once the command has ended, without a restart."""
 import json
 import os
 import subprocess
@@ -10,13 +10,16 @@ import time
 import pytest
 from served import HERE, text_of
 
+from .machines import LOOKS
 from .stopped import stops
 
 CLIENT = os.path.join(HERE, "..", "client", "room")
 ALL = {"type": 0, "flag": 3, "mask": 0x1F07FF}
+ACCESS, UNKNOWN_USER = 5, 42
 ANEW = "for a list of now: systemctl start fileroom-backup@{}; fileroom-admin user owns {}"
 
 
+@pytest.mark.timeout(900)
 def test_what_is_typed_and_said(bare):
     bare.plays("years.txt")
 
@@ -96,12 +99,12 @@ def test_a_sync_keeps_the_owner_and_gives_no_old_name_to_somebody_new(machine, p
     refused = f"fileroom-admin: nothing was changed: 1 faults in {path}\n"
     machine.write("../table.csv", "user,groups\nkim,eng\nbob,eng\n")
     assert machine.does(*sync) == (
-        1, "", f"fileroom-admin: ann is not in the table, and owns the room\n{refused}")
+        1, "", f"fileroom-admin: ann is not in the table, and owns the room plans\n{refused}")
     assert machine.does("user", "remove", "plans", "bob")[0] == 0
     machine.write("../table.csv", "user,groups\nann,eng\nbob,eng\nkim,eng\n")
     assert machine.does(*sync) == (
-        1, "", f"fileroom-admin: bob is new, and the backup {owned} has things or lists of somebody of that name; if "
-        f"it is the same person: --again\n{refused}")
+        1, "", f"fileroom-admin: bob is new, and the backup {owned} of plans has things or lists of somebody of that "
+        f"name; if it is the same person: --again\n{refused}")
     assert machine.does(*sync, "--again")[0] == 0
     assert "bob = " in text_of(machine.at("etc/fileroom/plans.toml"))
 
@@ -114,18 +117,55 @@ def test_a_backup_whose_rows_are_no_rooms(machine, owned):
     assert (status, said.count("cannot be read"), faults) == (0, 1, "")
 
 
-def test_a_room_is_waited_for(machine, plans):
-    """One that is served answers again once a command has ended; one that does not run is not waited for."""
+def test_a_room_takes_its_users_without_a_restart(machine, plans):
+    """Each change counts from the next request on, and the session of who comes back goes on."""
+    pid = plans.room.server.pid
+    machine.told()
+    for words, code in (("add plans kim eng", 0), ("groups plans kim", ACCESS), ("groups plans kim eng", 0),
+                        ("remove plans kim", UNKNOWN_USER), ("add plans kim eng", 0)):
+        assert machine.does("user", *words.split())[0] == 0
+        assert plans.holds("kim", "LIST", "/")["code"] == code, words
+        plans.numbers["kim"] -= code == UNKNOWN_USER  # (it used up no number)
+    assert (plans.room.server.pid, plans.room.server.poll()) == (pid, None)
+    assert not [it for it in machine.told() if "start" in it]
+
+
+@pytest.mark.timeout(900)
+def test_nobody_waits_while_users_come(machine, plans):
+    """Appends, each by a connection of its own, while fifty users come: none is refused, and the room goes on."""
+    assert plans.holds("ann", "CREATE", "/log", data="")["code"] == 0
+    codes, is_over = [], threading.Event()
+    machine.told()
+
+    def append():
+        while not is_over.wait(0.005):
+            codes.append(plans.holds("ann", "APPEND", "/log", data="IQ==")["code"])
+
+    appending = threading.Thread(target=append)
+    appending.start()
+    try:
+        for at in range(50):
+            assert machine.does("user", "add", "plans", f"new{at}", "eng")[0] == 0
+            assert plans.holds(f"new{at}", "LIST", "/")["code"] == 0
+    finally:
+        is_over.set()
+        appending.join()
+    assert ({*codes}, len(codes) > 50) == ({0}, True)
+    assert [it for it in machine.told() if not LOOKS.match(it)] == []
+
+
+def test_a_room_that_is_renewed_is_waited_for(machine, plans):
+    """One that is served answers again once the command has ended; one that does not run is not waited for."""
     plans.room.kill()
     done = []
-    words = "user", "groups", "plans", "bob", "staff"
-    command = threading.Thread(target=lambda: done.append(machine.does(*words)[0]))
+    command = threading.Thread(target=lambda: done.append(machine.does("room", "renew", "plans")[0]))
     command.start()
-    time.sleep(4)
+    told = []
+    while command.is_alive() and "systemctl start fileroom@plans" not in told:
+        told += machine.told()
+        time.sleep(0.1)
+    time.sleep(1)
     assert done == []
     plans.room.start()
     command.join()
     assert done == [0]
-    plans.room.kill()
-    machine.stand_in("systemctl", '[ "$1" != is-active ]')
-    assert machine.does("user", "groups", "plans", "bob")[0] == 0

@@ -1,0 +1,50 @@
+"""The users of several rooms become those of a table: one change, whole or not at all."""
+import os
+
+from served import text_of
+
+from .stopped import stops
+
+
+def test_what_is_typed_and_said(machine):
+    machine.plays("tables.txt")
+
+
+def test_stopped_at_a_step(machine):
+    machine.write("../table.csv", "user,rooms,groups,name\nann,club plans,eng,Ann\nkim,plans club,staff,Kim\n")
+    stops(machine, "user", "import", "--sync", os.path.join(machine.folder, "table.csv"))
+
+
+def test_the_owner_of_a_room_without_a_backup_stays(machine, plans):
+    """The room itself says whose it is; and who owns it later, the backup."""
+    machine.write("../table.csv", "user,rooms\nbob,plans\n")
+    path = os.path.join(machine.folder, "table.csv")
+    before = text_of(machine.at("etc/fileroom/plans.toml"))
+    assert machine.does("user", "import", "--sync", path) == (
+        1, "", "fileroom-admin: ann is not in the table, and owns the room plans\n"
+        f"fileroom-admin: nothing was changed: 1 faults in {path}\n")
+    assert text_of(machine.at("etc/fileroom/plans.toml")) == before
+    plans.room.kill()
+    machine.backed_up()
+    plans.room.start()
+    plans.askers.clear()
+    assert machine.does("user", "import", "--sync", path)[0] == 1
+    assert plans.askers == set()
+
+
+def test_what_those_own_who_go_is_told_by_numbers(machine, plans):
+    """Of many one line each, and with a large file as one thing."""
+    entry = {"type": 0, "flag": 3, "mask": 0x1F07FF}
+    entries = [entry | {"who": it} for it in ("OWNER@", "EVERYONE@")]
+    plans.holds("ann", "SETLIST", "/", aclflag=0, entries=entries)
+    for it in "/f", "/f/.room-pieces-0123456789abcdef", "/f/.room-pieces-0123456789abcdef/000", "/g":
+        plans.holds("bob", "MKDIR", it)
+    plans.holds("ann", "SETLIST", "/g", aclflag=1, entries=[entry | {"who": "bob"}])
+    plans.room.kill()
+    backup = os.path.basename(machine.backed_up())
+    plans.room.start()
+    machine.write("../table.csv", "user,rooms\nann,plans club\n")
+    status, said, faults = machine.does("user", "import", "--sync", os.path.join(machine.folder, "table.csv"))
+    assert (status, faults) == (0, "")
+    assert said.splitlines()[-1] == (
+        f"plans: bob owns 2 things and is named in 1 lists, by the backup {backup}: fileroom-admin user owns bob")
