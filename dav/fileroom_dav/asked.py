@@ -1,6 +1,5 @@
 """One request as it came, and one answer."""
 import base64
-import binascii
 import mmap
 import re
 from dataclasses import dataclass, field
@@ -92,7 +91,7 @@ def login_of(told: str) -> tuple[str, str]:
     kind, _, pair = told.partition(" ")
     try:
         user, colon, password = base64.b64decode(pair.strip(), validate=True).decode().partition(":")
-    except (binascii.Error, UnicodeDecodeError):
+    except ValueError:
         colon = user = password = ""
     if kind.lower() != "basic" or not colon or not USER.fullmatch(user) or len(password) > MOST_PASSWORD:
         raise Answered(401, "a login is needed")

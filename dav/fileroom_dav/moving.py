@@ -9,7 +9,7 @@ from room_client.manifest import is_hidden
 from . import pool
 from .asked import Asked, Reply
 from .faults import Answered, is_refused, is_sure
-from .names import above, below, beside, is_backup, is_below, is_passing, is_short_lived, is_temporary, last
+from .names import below, beside, is_backup, is_below, is_passing, is_short_lived, is_temporary, last
 from .rules import Rules
 from .saving import awaited, exchange, is_closed, put_as_named, put_backup, put_in_place, renamed
 from .steps import Aside, Step

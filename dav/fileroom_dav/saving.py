@@ -49,7 +49,8 @@ def put_in_place(gate, visit: Visit, room: str, path: str, data: bytes, is_new: 
 def put_as_named(gate, visit: Visit, room: str, path: str, data: bytes, is_new: bool = False) -> bool:
     """Under a program's name it is for nobody else."""
     if not is_temporary(path):
-        return put_bytes(visit, path, data, is_new)
+        user = visit.settings.user
+        return put_bytes(visit, path, data, is_new, gate.asides.is_fresh(room, user, path) or gate.seen.has(room, path))
     is_large = len(data) > MOST_BYTES
     is_kept = need_private(gate, visit, room, path)
     if is_kept and is_large and is_left_veiled(visit, path):
@@ -87,12 +88,13 @@ def need_private(gate, visit: Visit, room: str, path: str) -> bool:
     return True
 
 
-def put_bytes(visit: Visit, path: str, data: bytes, is_new: bool = False) -> bool:
-    """Makes a file or a new version of it. Whether it was not there before."""
+def put_bytes(visit: Visit, path: str, data: bytes, is_new: bool = False, is_known: bool = False) -> bool:
+    """Makes a file or a new version of it. Whether it was not there before. (Where one was a moment ago that is asked
+    for first.)"""
     try:
         if len(data) > MOST_BYTES:
             return not pool.Upload(visit, path, data, unheard).run(is_new, False)
-        return not files.put(visit, path, data, is_new=is_new)
+        return not files.put(visit, path, data, is_new=is_new, is_known=is_known)
     except Refused as fault:
         raise making(fault) from None
 
@@ -290,7 +292,7 @@ def exchange(gate, visit: Visit, one: Aside, old: Thing, *, data: bytes = b"", s
         if old.large:
             put_large(visit, step, version, data)
         else:
-            put_bytes(visit, one.path, data)
+            put_bytes(visit, one.path, data, is_known=True)
         finish(visit, step)
     gate.asides.moved(one.room, one.user, one.aside, one.path)
 

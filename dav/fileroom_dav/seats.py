@@ -10,8 +10,9 @@ from room_client.faults import Fault, SessionLost
 
 from .behind import Behind
 from .faults import Busy, as_answered
+from .front import Connections
 from .turns import Floor, MOST_AT_WORK, TOO_MANY
-from .visit import UserPace, Visit, file_of_front
+from .visit import States, UserPace, Visit, file_of_front
 
 SEATS = MOST_AT_WORK  # of a user in a room, and one more for what comes behind answers
 MOST_PACES = 2000
@@ -19,7 +20,7 @@ MOST_PACES = 2000
 
 class Seats:
     def __init__(self, front: str, folder: str, patience: float):
-        self.front, self.folder, self.patience = front, folder, patience
+        self.front, self.folder, self.patience, self.states = Connections(front), folder, patience, States()
         self.taken: set[tuple[str, str, int]] = set()
         self.paces: dict[str, UserPace] = {}
         self.mutex, self.floor, self.behind = threading.Lock(), Floor(), Behind()
@@ -93,7 +94,7 @@ class Seats:
     def visit(self, room: str, user: str, password: str, number: int) -> Visit:
         state = self.state(room, user, number)
         settings = self.settings(user, password, url=f"http://localhost/rooms/{room}", state=state)
-        return Visit(settings, self.front, self.pace(user))
+        return Visit(settings, self.front, self.states, self.pace(user))
 
     def state(self, room: str, user: str, number: int) -> str:
         """(No user's name has an @: the files beside this one, .lock or .1, are no other user's.)"""

@@ -46,6 +46,13 @@ class Seen:
                     self.table.execute("ROLLBACK")
                 return dict.fromkeys(sums, int(self.now()))
 
+    def has(self, room: str, path: str) -> bool:
+        """Whether a version was seen there. (It may be gone.)"""
+        with self.mutex, contextlib.suppress(sqlite3.Error):
+            its = self.table.execute("SELECT 1 FROM seen WHERE room = ? AND path = ?", (room, path))
+            return its.fetchone() is not None
+        return False
+
     def _time(self, room: str, path: str, its: str) -> int:
         row = self.table.execute("SELECT sum, time FROM seen WHERE room = ? AND path = ?", (room, path)).fetchone()
         if row and row[0] == its:

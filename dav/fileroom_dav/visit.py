@@ -1,34 +1,36 @@
 """One request's way to a room: the caller's own login to the front, over its socket, in a session that is kept.
 
-What `room_client` has is used as it is. Four things differ from a desk: the front is reached by a socket's path; a file
-is not flushed, since what a start of the machine ends is not late either, and another session begins then; what was
-left pending is never done late; and a refusal by the front is known by its status.
+What `room_client` has is used as it is. Four things differ from a desk: the front is reached by its socket (front.py);
+a file is not flushed, since what a start of the machine ends is not late either, and another session begins then; what
+was left pending is never done late; and a refusal by the front is known by its status.
 """
 import base64
 import contextlib
 import errno
 import functools
-import http.client
 import json
 import os
-import socket
 import threading
+from collections import OrderedDict
 from dataclasses import replace
 
 from room_client import Room, Settings
 from room_client.faults import Fault, LocalFault, SessionLost
-from room_client.line import Answer, Line, reply_of
 from room_client.room import CHANGES, counted, unheard
 from room_client.slots import Pace, Slot
 from room_client.state import Session, State
 
+from .front import Connections, FrontLine
 from .pool import bin_of
 from .turns import Floor
 
-RATE = 240.0  # requests a second of one user, below what the front's socket takes of one (front/fileroom.conf)
+# Requests a second of one user, behind some at once (a folder of 256 is listed, or a file of 16 MiB taken): both below
+# what the front's socket takes of one (front/fileroom.conf).
+RATE, BURST = 400.0, 500.0
 PAGE = 4096
 WIDTH = 4  # slots of a session: with four sessions of a user that is what a front takes of one at once
 AT_ONCE = 2  # requests to rooms of one user, over all sessions: a room answers one at a time, and others wait for few
+MOST_IDLE = 128  # sessions whose files stay open
 BOOT = "/proc/sys/kernel/random/boot_id"
 
 
@@ -40,52 +42,14 @@ def boot_id() -> str:
         return file.read().strip()
 
 
-class Connection(http.client.HTTPConnection):
-    away = contextlib.nullcontext  # (the floor's, once a seat has it)
-
-    def getresponse(self):
-        with self.away():
-            self.sock.recv(1, socket.MSG_PEEK)
-        return super().getresponse()
-
-
-class SocketConnection(Connection):
-    def __init__(self, path: str):
-        super().__init__("localhost")
-        self.path = path
-
-    def connect(self) -> None:
-        self.sock = socket.socket(socket.AF_UNIX)
-        self.sock.settimeout(self.timeout)
-        self.sock.connect(self.path)
-
-
-@functools.cache
-def line_to(front: str) -> type[Line]:
-    """Lines to the front: at the path of its socket, or at 127.0.0.1:PORT."""
-    class FrontLine(Line):
-        def __init__(self, settings, context=None):
-            super().__init__(settings, context)
-            if front.startswith("/"):
-                self.connection = SocketConnection(front)
-            else:
-                host, _, port = front.rpartition(":")
-                self.connection = Connection(host, int(port))
-
-        def ask(self, method: str, target: str, body: bytes) -> Answer:
-            status, self.text = self._answered(method, target, body)
-            return Answer(status, reply_of(self.text), self.is_held)
-
-        _watch = staticmethod(lambda _: None)  # (the other end is on this machine)
-
-    return FrontLine
-
-
 class KeptState(State):
-    """As a desk has it, and no flush: it lasts over a kill of this program, and a start of the machine is seen."""
+    """As a desk has it, and no flush: it lasts over a kill of this program, and a start of the machine is seen. Between
+    two visits it is kept, so that its files are read once."""
 
     away = contextlib.nullcontext  # (the floor's, once a seat has it)
     width = WIDTH
+    home: "States | None" = None  # (once it is whole)
+    is_noted = False  # that it is of this start of the machine
 
     def __init__(self, *how):
         super().__init__(*how)
@@ -94,6 +58,9 @@ class KeptState(State):
 
     def begin_anew(self) -> None:
         self.save(replace(Session.fresh(self.session.url, self.session.user), slots=self.width))
+
+    def close(self) -> None:
+        self.home.leave(self) if self.home else super().close()
 
     def _read(self, path: str, kind: type):
         """(What a halt of the machine cut is as if it was not there: another session begins.)"""
@@ -104,8 +71,8 @@ class KeptState(State):
 
     def _write(self, path: str, what: dict) -> None:
         """One page in its place, which a kill does not cut: a file that is replaced waits for the disk."""
-        text = json.dumps(what).encode().ljust(PAGE)
-        if len(text) == PAGE and os.path.exists(path) and os.path.getsize(path) == PAGE:
+        text = json.dumps(what | {"pending": without_bytes(what["pending"])}).encode().ljust(PAGE)
+        if len(text) == PAGE and is_page(path):
             return put(path, text, os.O_WRONLY)
         with self.away():
             put(path + ".new", text, os.O_WRONLY | os.O_CREAT | os.O_TRUNC)
@@ -116,17 +83,62 @@ class KeptState(State):
         return self.path + ".boot"
 
     def is_of_this_start(self) -> bool:
-        with contextlib.suppress(OSError, ValueError), open(self.boot_path, encoding="ascii") as file:
-            return file.read() == boot_id()
-        return False
+        if not self.is_noted:
+            with contextlib.suppress(OSError, ValueError), open(self.boot_path, encoding="ascii") as file:
+                self.is_noted = file.read() == boot_id()
+        return self.is_noted
 
     def note_start(self) -> None:
         with open(self.boot_path, "w", encoding="ascii") as file:
             file.write(boot_id())
+        self.is_noted = True
 
 
 class LaterState(KeptState):
     width = 1
+
+
+class States:
+    """Those that no visit has. (One visit has a session at a time: seats.py.)"""
+
+    def __init__(self):
+        self.mutex, self.idle = threading.Lock(), OrderedDict()
+
+    def take(self, kind: type[KeptState], path: str, *how) -> KeptState:
+        with self.mutex:
+            its = self.idle.pop(path, None)
+        if its and not os.path.exists(path):  # (its files were taken away)
+            its.home = None
+            its.close()
+            its = None
+        if its is None:
+            its = kind(path, *how)
+            its.home = self
+        return its
+
+    def leave(self, its: KeptState) -> None:
+        """(Who came long ago is read again.)"""
+        with self.mutex:
+            self.idle[its.path] = its
+            old = self.idle.popitem(last=False)[1] if len(self.idle) > MOST_IDLE else None
+        if old:
+            old.home = None
+            old.close()
+
+
+def without_bytes(request: str | None) -> str | None:
+    """What stands in a file of a request. It is never sent from there, so the bytes of a document are not written with
+    it: of the piece of a large file that was half of the gateway's work."""
+    if request is None:
+        return None
+    begin, sign, rest = request.partition('"data":"')  # (the quotes of a name have a \ before them)
+    return begin + sign + rest[rest.find('"'):] if sign else request
+
+
+def is_page(path: str) -> bool:
+    with contextlib.suppress(FileNotFoundError):
+        return os.stat(path).st_size == PAGE
+    return False
 
 
 def put(path: str, text: bytes, how: int) -> None:
@@ -143,7 +155,7 @@ class UserPace(Pace):
     which others have during each wait."""
 
     def __init__(self, user: str, floor: Floor):
-        super().__init__(is_free=False, rate=RATE)
+        super().__init__(is_free=False, rate=RATE, burst=BURST)
         self.user, self.floor, self.places = user, floor, threading.BoundedSemaphore(AT_ONCE)
 
     def computing(self):
@@ -171,7 +183,7 @@ class Seat(Slot):
 
     def __init__(self, *how):
         super().__init__(*how)
-        self.line.connection.away = self.pace.floor.away
+        self.line.away = self.pace.floor.away
         if self.state:
             self.state.away = self.pace.floor.away
 
@@ -192,11 +204,12 @@ class Seat(Slot):
 class Visit(Room):
     """A room during one request of WebDAV. `has_changed` says whether a change was done by it, or may have been."""
 
-    slot_kind, state_kind = Seat, KeptState
+    slot_kind = Seat
 
-    def __init__(self, settings: Settings, front: str, pace: UserPace):
+    def __init__(self, settings: Settings, front: Connections, states: States, pace: UserPace):
         super().__init__(settings, self._heard)
-        self.line_kind, self.pace = line_to(front), pace
+        self.line_kind = lambda settings, _: FrontLine(front, settings)
+        self.states, self.pace, self.state_kind = states, pace, functools.partial(states.take, KeptState)
         self.has_changed, self.told = False, []
 
     def _heard(self, text: str) -> None:
@@ -211,7 +224,7 @@ class Visit(Room):
 
     def move_to(self, settings: Settings) -> None:
         """Another session, in which it asks one thing at a time, so that its user's next request goes on beside it."""
-        self.settings, self.state_kind, self.slots = settings, LaterState, {}
+        self.settings, self.state_kind, self.slots = settings, functools.partial(self.states.take, LaterState), {}
 
     @functools.cached_property
     def bin(self) -> str | None:
@@ -243,6 +256,10 @@ class Visit(Room):
     def __exit__(self, *_) -> None:
         """(What was answered is pending no longer, however the visit ends.)"""
         super().__exit__(None, None, None)
+
+    def _hang_up(self) -> None:
+        for slot in self.slots.values():
+            slot.line.leave()
 
     def begin_anew(self) -> None:
         """Another session, at the next visit, where the room does not know this one."""
@@ -284,11 +301,12 @@ class Visit(Room):
         return self.ask({"cmd": "ACCESS", "keep": False, "mask": mask, "path": path})["allowed"]
 
 
-def file_of_front(front: str, settings: Settings, pace: UserPace, target: str, fields: dict) -> tuple[int, bytes]:
+def file_of_front(front: Connections, settings: Settings, pace: UserPace, target: str, fields: dict) -> (
+        tuple[int, bytes]):
     """What the front answers to a caller's own login, beside the rooms: asked until it answers, as a room is."""
-    line = line_to(front)(settings)
+    line = FrontLine(front, settings)
     line.fields |= fields
     try:
         return Seat(0, line, settings, None, pace, lambda _: None).until_answered("GET", target, "").status, line.text
     finally:
-        line.close()
+        line.leave()

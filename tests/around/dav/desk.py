@@ -19,7 +19,7 @@ from between import Between
 from gateway import stop
 from nginx import Front, login
 from room_client import Room, Settings
-from served import HERE, WAIT, Room as Served, session, slot, sqlite, until
+from served import HERE, WAIT, Room as Served, put_file, session, slot, sqlite, text_of, until
 
 PAGE = os.path.join(HERE, "..", "page")
 ROSTER = '[users]\nann = ["eng"]\nbob = ["eng", "staff"]\ncat = ["pupils"]\n'
@@ -30,7 +30,7 @@ BOB_READS = {"flag": 3, "mask": 0x1200A9, "type": 0, "who": "bob"}
 BOB_WRITES = BOB_READS | {"mask": 0x1301EF}
 CHANGES = [f'"cmd":"{it}"'.encode() for it in ("CREATE", "MKDIR", "RENAME", "SETLIST", "WRITE")]
 PIECE = 65536
-QUIET, LONGEST = 0.5, 30  # seconds
+QUIET = 0.5  # seconds
 STEP = re.compile(r"(\w+) ([A-Z]+) (.*?)(?: (\d{3}))?(?: > (.*))?")
 LOCKINFO = (b'<?xml version="1.0"?><D:lockinfo xmlns:D="DAV:"><D:lockscope><D:%s/></D:lockscope><D:locktype><D:write/>'
             b"</D:locktype><D:owner>me &amp; mine</D:owner></D:lockinfo>")
@@ -54,6 +54,14 @@ def asks(cmd, *words):
 
 def makes_changes(message):
     return any(it in message for it in CHANGES)
+
+
+def is_at_work(pid):
+    """Whether a thread of this process runs, or would."""
+    with contextlib.suppress(OSError):
+        return any(text_of(f"/proc/{pid}/task/{it}/stat").rpartition(")")[2].split()[0] == "R"
+                   for it in os.listdir(f"/proc/{pid}/task"))
+    return False
 
 
 def make_folders(room, **lists):
@@ -111,16 +119,20 @@ class Desk:
 
     def start_front(self):
         folder = self.path(f"front{self.host}")
-        rooms = {"plans": self.served.port} | {name: it.port for name, it in self.beside.items()}
+        rooms = {"plans": self.at_room()} | {name: it.port for name, it in self.beside.items()}
         how = {"dav": self.path("gate.sock"), "opens": "600r/m", **self.how}
         self.front = Front(folder, self.passwords, rooms, PAGE, **how)
         self.at_front = os.path.join(folder, "work", "dav.sock")
+
+    def at_room(self):
+        """The room's port, or the path of a socket before it."""
+        return self.served.port
 
     def start_gateway(self, **env):
         to = self.path("lossy.sock") if self.loser else self.at_front
         with open(self.path(self.log), "a") if self.log else contextlib.nullcontext() as log:
             self.gateway = gateway.start(to, self.path(f"state{self.host}"), self.path("gate.sock"), log,
-                                         PATIENCE=str(self.patience), **env)
+                                         **{"PATIENCE": str(self.patience)} | env)
 
     def settle(self):
         """What a test has left ends with it: nothing is lost any more, and all is served."""
@@ -133,12 +145,13 @@ class Desk:
             self.start_gateway()
 
     def quiet(self):
-        """Until nothing is asked any more."""
+        """Until nothing is asked any more, and nobody who might ask waits for a processor."""
         def is_quiet():
             before = self.loser.count
             time.sleep(QUIET)
-            return self.loser.count == before
-        assert until(is_quiet, LONGEST), "it goes on asking"
+            return self.loser.count == before and not any(
+                map(is_at_work, (self.gateway.pid, self.front.server.pid, self.served.server.pid)))
+        assert until(is_quiet), "it goes on asking"
 
     def at(self, path):
         return path if path.startswith("/") else f"{self.top}/{path}"
@@ -279,9 +292,7 @@ def laid(top, its):
     """A folder on the disk, with these files."""
     for at, data in its.items():
         path = os.path.join(top, at)
-        os.makedirs(os.path.dirname(path), exist_ok=True)
-        with open(path, "wb") as file:
-            file.write(data)
+        put_file(path, data)
     return top
 
 

@@ -211,6 +211,14 @@ def test_passing_files_are_few():
     assert sum(len(path) + len(data) for (_, _, path), (_, data) in its.kept.items()) < passing.MOST_OF_ALL
 
 
+def test_passing_files_of_one_leave_room_to_others():
+    its = passing.Passing(now=lambda: 0.0)
+    its.put("plans", "bob", "/._x", b"his")
+    for at in range(2 * passing.MOST_OF_ONE // passing.MOST_BYTES):
+        its.put("plans", "ann", f"/{at}/._x", bytes(passing.MOST_BYTES))
+    assert its.get("plans", "bob", "/._x") == b"his"
+
+
 @pytest.mark.parametrize("path", [f"/dav/plans/{'n' * 65}/._x", f"/dav/plans/{'a/' * 16}._x"], ids=["long", "deep"])
 def test_passing_files_have_names_of_the_room(tmp_path, path):
     gate = app.Gate("/none", str(tmp_path))

@@ -9,14 +9,15 @@ from concurrent.futures import ThreadPoolExecutor
 
 import pytest
 from given import each
-from served import WAIT
+from fileroom_dav.behind import SECONDS
+from served import WAIT, least
 
 from .desk import PIECE, asks, makes_changes, stop
 from .saves import TRASH, Saves
 
-HOW = {"kind": Saves, "patience": 10}
+HOW = {"kind": Saves, "patience": WAIT}
 SIZE = 2 * PIECE + 99
-SOON = 5  # seconds
+SOON = 20  # seconds; the gateway waits longer for the room
 
 
 @contextlib.contextmanager
@@ -71,17 +72,22 @@ def test_the_session_is_lost(desk):
 
 def test_a_stop_in_order(desk):
     """What is behind answers is done, and requests are answered meanwhile."""
-    name, _ = desk.large(30 * PIECE)
-    desk.does("ann", "PUT", name, 204, os.urandom(30 * PIECE))
-    desk.gateway.send_signal(signal.SIGTERM)
-    assert desk.ask("bob", "GET", name).status == 200
+    name, _ = desk.large()
+    with held(desk) as came:
+        desk.does("ann", "PUT", name, 204, os.urandom(SIZE))
+        assert came.wait(WAIT)
+        desk.gateway.send_signal(signal.SIGTERM)
+        assert desk.ask("bob", "GET", name).status == 200
     assert desk.gateway.wait(WAIT) == 0
     desk.need_one_spare(name)
-    desk.start_gateway()
-    begin = time.monotonic()
-    desk.gateway.send_signal(signal.SIGTERM)
-    assert desk.gateway.wait(WAIT) == 0
-    assert time.monotonic() - begin < 2
+
+    def seconds():
+        desk.settle()
+        begin = time.monotonic()
+        desk.gateway.send_signal(signal.SIGTERM)
+        assert desk.gateway.wait(WAIT) == 0
+        return time.monotonic() - begin
+    assert least(seconds, SECONDS / 2) < SECONDS / 2
 
 
 def test_stops(desk):

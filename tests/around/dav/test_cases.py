@@ -4,7 +4,6 @@ from urllib.parse import unquote
 
 import cases
 from cases import No
-from given import each
 
 RESPONSE = re.compile(r"<D:response>(.*?)</D:response>", re.DOTALL)
 
@@ -53,11 +52,6 @@ class Gateway:
             loser.meanwhile = hears and (lambda message: hears(message), lambda: None)
 
 
-def need(name, got, want):
-    assert got == want, name
-
-
-@each("number, case", [(it["name"], at, it) for at, it in enumerate(cases.TABLE["case"])
-                       if Gateway.name not in it.get("not", {})])
+@cases.each_case(Gateway)
 def test_case(desk, number, case):
-    cases.Played(number, case, Gateway(desk), cases.Judge(desk.served.port), need).play()
+    cases.Played(number, case, Gateway(desk), cases.Judge(desk.served.port)).play()

@@ -2,12 +2,14 @@
 themselves."""
 import contextlib
 import errno
+import json
 import os
 import time
 from unittest import mock
 
 import pytest
 from fileroom_dav import app, faults, locks, saving, seats, seen, spool, steps, visit
+from room_client import slots
 from room_client.faults import NoAnswer
 
 
@@ -302,3 +304,17 @@ def test_what_is_kept_of_a_slot(tmp_path):
             assert (os.stat(path).st_ino == before) == is_page, kept[:9]
         with contextlib.closing(visit.KeptState(path, "http://x", "ann", 1.0)) as again:
             assert again.kept[0] == state.kept[0]
+
+
+@pytest.mark.parametrize("name", ["a", '"data":"', "\\"])
+def test_bytes_of_a_document_are_in_no_file_of_a_slot(tmp_path, name):
+    """What is pending is asked for by its number, and told by its names."""
+    path, command = str(tmp_path / "ann@0"), {"cmd": "WRITE", "data": "eHl6" * 20_000, "path": f"/{name}"}
+    with contextlib.closing(visit.KeptState(path, "http://x", "ann", 1.0)) as state:
+        for slot in 0, 1:
+            state.record("a", slot)
+            state.record(slots.compact(command), slot)
+            assert json.loads(state.kept[slot].pending) == command
+    assert [os.path.getsize(it) for it in (path, f"{path}.1")] == [visit.PAGE] * 2
+    with contextlib.closing(visit.KeptState(path, "http://x", "ann", 1.0)) as again:
+        assert [json.loads(it.pending) for it in again.kept[:2]] == [command | {"data": ""}] * 2

@@ -10,7 +10,7 @@ from concurrent.futures import ThreadPoolExecutor
 from urllib.parse import quote
 
 import pytest
-from served import HERE, text_of, until
+from served import HERE, put_file, text_of, until, waiting_at
 
 from .desk import ANNS, BOB_READS, BOB_WRITES, make_folders
 from fileroom_dav.latest import Latest
@@ -156,17 +156,31 @@ def test_a_move_whose_line_is_held_back(place):
     with ThreadPoolExecutor(2) as crew:
         os.kill(room, signal.SIGSTOP)
         first = crew.submit(does, '{"cmd":"RENAME","path":"/open/plan","to":"/shut/before"}')
-        time.sleep(0.2)  # (the room has its request first)
+        assert until(lambda: waiting_at(place.served.port) == 1)
         second = crew.submit(does, '{"cmd":"RENAME","path":"/shut/new","to":"/open/plan"}')
-        time.sleep(0.2)
+        assert until(lambda: waiting_at(place.served.port) == 2)
+        time.sleep(0.5)  # (so the front holds the answers back for some ten seconds)
         os.kill(room, signal.SIGCONT)
-        assert until(lambda: place.asked("cat", "STAT", "/open/plan")["code"] == 0, 10)
+        assert until(lambda: place.asked("cat", "STAT", "/open/plan")["code"] == 0)
         found = who(place, "cat")
         assert not first.done() and not second.done() and found == {}
         first.result(), second.result()
     place.does("ann", "PUT", "/open/after", 201, BYTES)
     found = who(place, "cat")
     assert found["after"] == "ann" and found.get("plan") in (None, "ann")
+
+
+def test_the_log_of_before_tells_what_came_before(place):
+    """Once the log was turned over."""
+    log = f"{place.front.folder}/work/latest.log"
+    place.does("ann", "PUT", "/open/a", 201, BYTES)
+    place.does("ann", "PUT", "/open/b", 201, BYTES)
+    assert until(lambda: '/open/b' in text_of(log), 10)
+    os.rename(log, f"{log}.1")
+    os.kill(place.front.server.pid, signal.SIGUSR1)
+    assert until(lambda: os.path.exists(log), 10)
+    place.does("bob", "PUT", "/open/a", 204, b"bob's")
+    assert who(place, "cat") == {"a": "bob", "b": "ann"}
 
 
 def test_a_large_file_has_no_dates_without_its_manifest(place):
@@ -188,8 +202,7 @@ def test_a_login_that_comes_back_sees_what_it_may_see_then(place):
     with open(users, "w") as file:
         file.writelines(it for it in before.splitlines(True) if not it.startswith("cat:"))
     latest(place, "cat", "/open", 401)
-    with open(users, "w") as file:
-        file.write(before)
+    put_file(users, before)
     place.wire("ann", "SETLIST", "/open", aclflag=3, entries=[ANNS, BOB_WRITES])
     latest(place, "cat", "/open", 403)
     assert who(place, "bob") == {"a": "ann"}

@@ -25,6 +25,30 @@ def test_what_a_look_costs(desk):
         assert desk.loser.count - before <= most, path
 
 
+@pytest.mark.parametrize("first, most", [("PUT /made 201 > 1", 1), ("CREATE /read; ann GET /read 200", 1),
+                                         ("CREATE /unseen", 2)])
+def test_what_a_save_costs(desk, first, most):
+    """One request, where this document was made or read a moment ago."""
+    desk.play(f"ann {first}")
+    path, before = first.split()[1].rstrip(";"), desk.loser.count
+    desk.does("ann", "PUT", path, 204, b"new")
+    assert desk.loser.count - before == most
+    assert desk.get("ann", path) == b"new"
+
+
+def test_a_save_over_what_is_gone(desk):
+    """It is made anew, and also where it is a folder by now what stands there stays."""
+    desk.play("ann PUT /gone 201 > 1; ann GET /gone 200")
+    with desk.room() as room:
+        room.remove("/gone")
+    desk.does("ann", "PUT", "/gone", 201, b"2")
+    with desk.room() as room:
+        room.remove("/gone")
+        room.mkdir("/gone")
+    desk.does("ann", "PUT", "/gone", 405, b"3")
+    desk.does("ann", "DELETE", "/gone", 204)
+
+
 def test_a_copy_that_may_not_replace(desk):
     desk.does("ann", "PUT", "/source", 201, b"mine")
     with meanwhile(desk, "CREATE", "/target", lambda room: room.create("/target", b"theirs")):

@@ -16,6 +16,8 @@ def kinds_in(room, path):
 
 
 def test_losses_change_no_outcome(desk, tell):
+    stop(desk.gateway)
+    desk.start_gateway(PATIENCE="120")  # (among so many requests one is lost many times in turn)
     desk.loser.share, large = SHARE, os.urandom(150_000)
     for it in range(FILES):
         folder = f"/d{it}"
@@ -39,6 +41,7 @@ def test_losses_change_no_outcome(desk, tell):
             assert (room.children(f"/d{it}"), room.read(f"/d{it}/b")) == ({"b": "file"}, b"second %d" % it)
         assert kinds_in(room, "/large") == ["file", "gone", "pieces"]
     tell(f"dav: lost on the way: {desk.loser.lost}")
+    stop(desk.gateway)
 
 
 def test_no_answer(desk):

@@ -38,7 +38,8 @@ def test_logins(desk):
     desk.does("cat", "PROPFIND", "/", 403, Depth="1")
 
 
-@pytest.mark.parametrize("field", [b"", b"Authorization: Basic YW5uOndyb25n\r\n"], ids=["none", "wrong"])
+@pytest.mark.parametrize("field", [b"", b"Authorization: Basic YW5uOndyb25n\r\n",
+                                   b"Authorization: Basic YW5uOm5vbg==\xff\r\n"], ids=["none", "wrong", "odd"])
 @pytest.mark.parametrize("method", ["GET", "PROPFIND", "UNLOCK", "PUT"])
 def test_the_gateway_alone_lets_nobody_in(desk, method, field):
     """Whoever reaches its socket past the front gets nothing without a login that the front takes."""
@@ -112,7 +113,8 @@ def test_a_name_with_a_blank_that_the_room_has(desk):
     ("DELETE", "/", 403, {}), ("PATCH", "/both", 501, {}), ("PROPFIND", "/", 403, {"Depth": "infinity"}),
     ("PROPFIND", "/", 400, {"Depth": "2"})], ids=lambda it: ascii(it)[:30])
 def test_where_it_cannot_be(desk, method, path, status, fields):
-    desk.does("ann", method, path, status, **fields)
+    got = desk.does("ann", method, path, status, **fields)
+    assert (status == 405) == ("PROPFIND" in got.fields.get("allow", ""))
 
 
 def test_nothing_takes_its_own_place(desk):
@@ -146,6 +148,7 @@ def test_versions(desk):
     desk.does("ann", "GET", "/v", 304, If_None_Match=tag)
     desk.does("ann", "GET", "/v", 412, If_Match=tag_of(b"two"))
     assert len(desk.does("ann", "GET", "/v", 200, Range="bytes=0-4", If_Range=tag_of(b"two")).body) == 23
+    assert desk.does("ann", "GET", "/v", 206, Range="bytes=0-4", If_Range=tag).body == b"three"
     head = desk.does("ann", "HEAD", "/v", 200)
     assert (head.fields["content-length"], head.body) == ("23", b"")
     desk.does("ann", "PUT", "/v", 400, b"x", Content_Range="bytes 0-0/3")
@@ -238,9 +241,20 @@ def test_locks(desk):
     desk.does("bob", "MOVE", "/both/l", 423, to="/both/m")
     assert [token.strip("<>") in desk.told(it, "/both/l", "0") for it in ("bob", "ann")] == [False, True]
     desk.unlock("bob", "/both/l", token, 409)
-    desk.does("ann", "LOCK", "/both/l", 200, If=f"({token})", Timeout="Second-60")
+    for seconds in "1800", "60":
+        assert f"Second-{seconds}<" in desk.told("bob", "/both/l", "0")
+        desk.does("ann", "LOCK", "/both/l", 200, If=f"({token})", Timeout="Second-60")
     desk.unlock("ann", "/both/l", token)
     desk.does("bob", "PUT", "/both/l", 204, b"3")
+
+
+@each("method, status, to", [("removed", "DELETE", 204, None), ("moved", "MOVE", 201, "/both/elsewhere")])
+def test_what_is_gone_is_locked_no_longer(desk, method, status, to):
+    desk.does("ann", "PUT", "/both/gone", 201, b"hers")
+    token = desk.locked("ann", "/both/gone", Depth="0")
+    desk.does("ann", method, "/both/gone", status, to=to, If=f"({token})")
+    desk.does("bob", "PUT", "/both/gone", 201, b"his")
+    desk.does("bob", "DELETE", "/both/gone", 204)
 
 
 def test_locks_of_folders(desk):

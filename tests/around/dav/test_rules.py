@@ -1,6 +1,7 @@
 """Rules of WebDAV's own, what is left after a refusal, and what goes between front and gateway."""
 import glob
 import json
+import re
 import socket
 import threading
 
@@ -10,6 +11,7 @@ from .desk import ANNS, BOB_READS, BOB_WRITES, EXCLUSIVE, HERS, Desk, make_folde
 
 HOW = {"is_lossy": False}
 SIZE = b"<D:getcontentlength>%d<"
+DATE = re.compile(r"[A-Z][a-z]{2}, \d\d [A-Z][a-z]{2} \d{4} [0-9:]{8} GMT")
 
 
 @pytest.fixture(scope="module")
@@ -106,11 +108,13 @@ def test_a_refused_move_comes_back(desk):
 
 
 def test_the_time_of_the_next_version(desk):
+    """By HTTP's one form of a date, in a listing too."""
     said = []
     for status, data in (201, b"a"), (204, b"b"), (204, b"b"):
         desk.does("ann", "PUT", "/later", status, data)
         said.append(desk.does("ann", "GET", "/later", 200).fields["last-modified"])
     assert said[0] != said[1] == said[2]
+    assert DATE.fullmatch(said[2]) and f"<D:getlastmodified>{said[2]}<" in desk.told("ann", "/later", "0")
 
 
 def test_a_listing_after_a_move(desk):
@@ -124,9 +128,11 @@ def test_a_listing_after_a_move(desk):
 
 def test_a_start_that_cannot_be_read(desk):
     desk.does("ann", "PUT", "/unread", 201, b"1")
+    stop(desk.gateway)
     for path in glob.glob(desk.path("state/sessions/plans/ann@?.boot")):
         with open(path, "wb") as file:
             file.write(b"\xff\xfe")
+    desk.start_gateway()
     desk.does("ann", "PUT", "/unread", 204, b"2")
 
 

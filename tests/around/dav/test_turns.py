@@ -1,6 +1,8 @@
 """Whose turn it is: threads, the processor, what comes behind answers, what is asked again. The gateway's parts by
 themselves."""
 import contextlib
+import os
+import re
 import socket
 import threading
 import time
@@ -10,13 +12,12 @@ from unittest import mock
 
 import pytest
 from fileroom_dav import app, behind, faults, seats, tree, turns, visit
-from nginx import login
+from nginx import FOLDER, login
 from room_client import slots
 from room_client.faults import SessionLost
-from served import WAIT, until
+from served import WAIT, text_of, until
 
 put = visit.put
-SOON = 5  # seconds
 
 
 class Channel:
@@ -50,7 +51,7 @@ def test_turns_to_threads():
 
 def test_one_login_is_told_at_once(tmp_path):
     gate, goes, said = app.Gate("/none", str(tmp_path)), threading.Event(), []
-    gate.seats = types.SimpleNamespace(visits=lambda *_: goes.wait(20) and app.Reply(204))
+    gate.seats = types.SimpleNamespace(visits=lambda *_: goes.wait(WAIT) and app.Reply(204))
 
     def ask(user):
         environ = {"REQUEST_METHOD": "GET", "PATH_INFO": "/dav/plans/x",
@@ -99,7 +100,7 @@ def test_turns_to_compute(floor):
         crew.append(threading.Thread(target=computes, args=(user, seconds, among), daemon=True))
         count = count_of(floor)
         crew[-1].start()
-        until(lambda: count_of(floor) > count, 5)
+        assert until(lambda: count_of(floor) > count or not crew[-1].is_alive())
 
     def others_come():
         """(While eve computes.)"""
@@ -154,6 +155,25 @@ def test_long_answers_are_made_in_parts(floor):
             floor.clock += 2 * turns.LONGEST
         floor.pause()
     assert order == ["eve", "fay", "eve"]
+
+
+LISTING, FILE = 257, 300  # requests for the first listing of a full folder, and for a file of 16 MiB
+
+
+def test_one_asks_at_once_what_a_file_takes():
+    """And all in all less than the front lets the gateway ask for one."""
+    clock = types.SimpleNamespace(now=0.0, monotonic=lambda: clock.now)
+    conf = text_of(os.path.join(FOLDER, "fileroom.conf"))
+    (rate,), bursts = (set(re.findall(it, conf)) for it in (
+        r"zone=fileroom_(?:by_)?gateway:1m rate=(\d+)r/s", r"zone=fileroom_(?:by_)?gateway burst=(\d+) nodelay"))
+    with mock.patch.object(slots, "time", clock), mock.patch.object(visit.UserPace, "rest", lambda _, seconds: setattr(
+            clock, "now", clock.now + seconds)):
+        pace, asked = visit.UserPace("eve", turns.Floor()), 0
+        while clock.now < 10:
+            pace.wait()
+            asked += 1
+            assert clock.now == 0 or asked > max(LISTING, FILE)
+            assert asked <= min(map(int, bursts)) + int(rate) * clock.now
 
 
 def test_a_wait_is_nobodys_turn():
@@ -230,13 +250,17 @@ def test_the_floor_is_free_while_the_front_answers(tmp_path):
         return app.Reply(204)
     with front_saying(str(tmp_path / "front"), b"200 OK", meanwhile=look), mock.patch.object(gate, "done", done):
         gate.in_turn(ANN)
+        gate.seats.front.take(5.0).close()  # (which is kept, and waited for else)
     assert (seen, gate.floor.login) == (["ann", None, "ann"], None)
 
 
 def test_a_login_is_asked_for_again(tmp_path):
-    """Where the front lets no more through for now; and no connection is held in the wait."""
+    """Where the front lets no more through for now; and no connection is held in the wait. (The last one is kept.)"""
     with front_saying(str(tmp_path / "front"), b"429 Too Many Requests", b"503 Service Unavailable", b"200 OK") as said:
-        assert app.Gate(str(tmp_path / "front"), str(tmp_path)).need_login(ANN, "/whoami") == b"{}"
+        gate = app.Gate(str(tmp_path / "front"), str(tmp_path))
+        assert gate.need_login(ANN, "/whoami") == b"{}"
+        assert until(lambda: said == [b""] * 2)
+        gate.seats.front.take(5.0).close()
     assert said == [b""] * 3
 
 
@@ -264,8 +288,8 @@ def work():
         its.queue.add(login, lambda: (its.at_work.append(login), its.may_end.wait(WAIT)))
 
     def wait_for(count):
-        until(lambda: len(its.at_work) >= count, SOON)
-        time.sleep(0.1)
+        assert until(lambda: len(its.at_work) >= count)
+        time.sleep(0.1)  # (no more come)
         return sorted(its.at_work)
     its.add, its.wait_for = add, wait_for
     yield its
@@ -315,4 +339,4 @@ def test_a_stop_of_what_is_behind(work):
     assert not work.queue.has_room("bob")
     threading.Timer(0.2, work.may_end.set).start()
     work.queue.stop(WAIT)
-    assert time.monotonic() - begin < SOON
+    assert time.monotonic() - begin < WAIT
