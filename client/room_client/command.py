@@ -21,7 +21,6 @@ from .slots import told
 from .state import State
 from .sync import sync
 from .version import version
-from .words import shown
 
 STOPPED = 130  # the exit status after a stop at the keyboard, as of a shell
 
@@ -264,9 +263,9 @@ def main(arguments: list[str]) -> int:
     for stream in (sys.stdout, sys.stderr):
         stream.reconfigure(errors="backslashreplace")
     if "ROOM_COMPLETE" in os.environ:
-        words = argparse.ArgumentParser(add_help=False, exit_on_error=False)
-        add_settings(words)
-        return completing.complete(words, arguments, os.environ["ROOM_COMPLETE"])
+        flags = argparse.ArgumentParser(add_help=False, exit_on_error=False)
+        add_settings(flags)
+        return completing.complete(parser(), flags, arguments, os.environ["ROOM_COMPLETE"])
     asked = parser().parse_args(arguments)
     try:
         run(asked)
@@ -275,8 +274,10 @@ def main(arguments: list[str]) -> int:
     except Fault as fault:
         say(str(fault))
         return fault.status
-    except BrokenPipeError:
+    except OSError as fault:  # (of files by name a LocalFault tells)
         os.dup2(os.open(os.devnull, os.O_WRONLY), sys.stdout.fileno())
+        if not isinstance(fault, BrokenPipeError):
+            say(f"{fault.filename or 'standard output'}: {fault.strerror}")
         return LocalFault.status
     except KeyboardInterrupt:
         return STOPPED

@@ -166,7 +166,7 @@ def get(room: Room, asked) -> None:
     *paths, to = asked.paths if len(asked.paths) > 1 else [*asked.paths, None]
     paths = [there(room, it) for it in paths]
     if asked.recursive:
-        return each(paths, lambda it: get_folder(room, asked, it, to or ".", len(paths) > 1))
+        return each(paths, lambda it: get_folder(room, it, to or ".", len(paths) > 1))
     if len(paths) > 1 and not os.path.isdir(to):
         raise LocalFault(f"{shown(to)} is no folder here, and several files are to go there")
     each(paths, lambda it: get_one(room, it, to))
@@ -199,7 +199,7 @@ def read_all(room: Room, path: str) -> bytes:
         bar.end()
 
 
-def get_folder(room: Room, asked, path: str, to: str, is_one_of_some: bool) -> None:
+def get_folder(room: Room, path: str, to: str, is_one_of_some: bool) -> None:
     """What is in a folder of the room, into a folder here."""
     if room.stat(path)["kind"] == FILE or manifest_at(room, path):
         return get_one(room, path, to)

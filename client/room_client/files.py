@@ -35,13 +35,16 @@ def write(room: Room, path: str, data: bytes, **how) -> str | None:
     return other_owner(room, path) if put(room, path, data, **how) else None
 
 
-def put(room: Room, path: str, data: bytes, *, is_new: bool = False, fills: bool = False,
+def put(room: Room, path: str, data: bytes, *, is_new: bool = False, fills: bool = False, is_known: bool = False,
         heard: Callable[[dict], None] = unheard) -> bool:
     """Makes the file, or a new version of it: with `is_new` only where nothing is there. With `fills` an empty folder
-    is taken for what is left of an upload that was stopped. Whether a file was there before."""
+    is taken for what is left of an upload that was stopped. A document that `is_known` is most likely there, and takes
+    one request. Whether a file was there before."""
     need_size(data, path)
     if len(data) > MOST_BYTES:
         return Upload(room, path, data, heard).run(is_new, fills)
+    if is_known and not is_new and is_written(room, path, data):
+        return True
     try:
         room.create(path, data)
         return False
@@ -55,6 +58,17 @@ def put(room: Room, path: str, data: bytes, *, is_new: bool = False, fills: bool
             raise
         Upload(room, path, data, heard).run(is_new, fills)
     return True
+
+
+def is_written(room: Room, path: str, data: bytes) -> bool:
+    """Into a document, where one is there."""
+    try:
+        room.write(path, data)
+        return True
+    except Refused as fault:
+        if not refused_as(fault, "NOENT", "NOTDIR", "ISDIR"):
+            raise
+        return False
 
 
 def other_owner(room: Room, path: str) -> str | None:

@@ -6,6 +6,7 @@ import json
 import os
 import socket
 import ssl
+import time
 from dataclasses import dataclass
 
 from .faults import LocalFault, NoAnswer, reading
@@ -13,6 +14,7 @@ from .settings import Settings, read_url
 from .words import shown
 
 MOST = 1 << 20  # bytes of an answer; a room's have at most some 90,000
+MOST_OF_HEAD = 1 << 16  # and of its head, at a room's socket
 OTHER_NAME = (62, 64)  # of OpenSSL's codes: the certificate is for another name, or another address
 EXPIRED = 10
 NO_TLS = ("HTTP_REQUEST", "WRONG_VERSION_NUMBER")
@@ -30,6 +32,10 @@ class NotSent(Exception):
 
 class Lost(Exception):
     """The request may have gone out, and no whole answer came."""
+
+
+class TooLong(Lost):
+    """The answer is longer than any of a room's."""
 
 
 @dataclass(frozen=True)
@@ -57,7 +63,7 @@ class Answer:
 def reply_of(body: bytes) -> dict | None:
     try:
         reply = json.loads(body)
-    except ValueError:
+    except (ValueError, RecursionError):
         return None
     return reply if isinstance(reply, dict) and isinstance(reply.get("code"), int) else None
 
@@ -86,15 +92,48 @@ def untrusted(fault: ssl.SSLError, host: str) -> str | None:
     return f"{host} speaks no TLS there: ask who runs the room for its address" if fault.reason in NO_TLS else None
 
 
+class Bounded(socket.socket):
+    """One whose answer has these seconds, however slowly its bytes come, and so many bytes."""
+
+    def settimeout(self, seconds: float) -> None:
+        self.end, self.most = time.monotonic() + seconds, MOST + MOST_OF_HEAD
+        super().settimeout(seconds)
+
+    def recv_into(self, *words) -> int:
+        left = self.end - time.monotonic()
+        if left <= 0 or self.most <= 0:
+            raise TimeoutError
+        super().settimeout(left)
+        count = super().recv_into(*words)
+        self.most -= count
+        return count
+
+
+class ToSocket(http.client.HTTPConnection):
+    """To a room's socket on its own machine. What answers there may be no room."""
+
+    def __init__(self, path: str):
+        super().__init__("localhost")
+        self.path = path
+
+    def connect(self) -> None:
+        self.sock = Bounded(socket.AF_UNIX)
+        self.sock.settimeout(self.timeout)
+        self.sock.connect(self.path)
+
+
 class Line:
     """Opened when it is first needed, and again after a fault. A room serves one connection after another, so an open
-    one holds others back: close it before a wait."""
+    one holds others back: close it before a wait. `path` is a room's socket on this machine, in the place of the URL.
+    """
 
-    def __init__(self, settings: Settings, context: ssl.SSLContext | None = None):
+    def __init__(self, settings: Settings, context: ssl.SSLContext | None = None, path: str | None = None):
         parts, port = read_url(settings.url)
         self.url, self.base = settings.url, parts.path.rstrip("/")
         self.context = context
-        if parts.scheme == "https":
+        if path:
+            self.connection = ToSocket(path)
+        elif parts.scheme == "https":
             self.context = context or trusting(settings.ca_file)
             self.connection = http.client.HTTPSConnection(parts.hostname, port, context=self.context)
         else:
@@ -125,7 +164,8 @@ class Line:
             if told:
                 raise NoAnswer(f"{self.url}: {told}") from None
             raise NotSent(fault.strerror or str(fault)) from None
-        self._watch(self.connection.sock)
+        if self.connection.sock.family != socket.AF_UNIX:
+            self._watch(self.connection.sock)
 
     @staticmethod
     def _watch(sock: socket.socket) -> None:
@@ -153,13 +193,13 @@ class Line:
             self.connection.request(method, self.base + target, body, self.fields)
             response = self.connection.getresponse()
             if (response.length or 0) > MOST:
-                raise http.client.HTTPException("an answer that is too long")
+                raise TooLong("an answer that is too long")
             self.is_held = response.status == 429 and response.getheader(HELD) is not None
             return response.status, response.read()
         except (OSError, http.client.HTTPException) as fault:
             self.close()
             raise Lost(str(fault) or type(fault).__name__) from None
-        except BaseException:
+        except BaseException:  # (an answer that is too long, too)
             self.close()
             raise
 

@@ -158,7 +158,7 @@ class Room:
         if any(it["cmd"] in CHANGES for it in commands):
             self.finished = []
         # (a room's port serves one connection after another: a second one would wait for the end of the first)
-        width = 1 if self.settings.login is None else self.state.session.slots
+        width = 1 if self.settings.login is None else min(SLOTS, self.state.session.slots)
         slots = [self.slot(number) for number in range(min(width, len(commands)))]
         crew = Crew(commands, heard, keeps)
         if len(slots) > 1:

@@ -1,4 +1,5 @@
 """Where the room is and who asks: from flags, the environment, and a small file, in this order."""
+import functools
 import getpass
 import hashlib
 import ipaddress
@@ -70,6 +71,7 @@ class Settings:
             raise BadWords("no password: give --password-file, or run it at a terminal") from None
 
 
+@functools.lru_cache(64)
 def read_url(url: str) -> tuple[SplitResult, int | None]:
     try:
         parts = urlsplit(url)

@@ -2,6 +2,7 @@
 import contextlib
 import json
 import random
+import string
 import threading
 import time
 from collections.abc import Callable, Sequence
@@ -15,9 +16,10 @@ from .words import shown
 FIRST_PAUSE, LONGEST_PAUSE = 0.05, 5.0  # seconds between two attempts
 WORD_AFTER = 2.0  # seconds without an answer until the user is told why
 LONGEST_ATTEMPT = 90.0  # seconds; a room may be held for a minute by somebody else
-RATE, BURST = 95.0, 60.0  # requests a second: a front takes 100 of a login, and a page may be open beside
+RATE, BURST = 380.0, 60.0  # requests a second: a front takes 400 of a login, and a page may be open beside
 FALSE_RETRY, UNCACHED, BAD_REQUEST = 23, 25, 43
 HARMLESS = {"cmd": "STAT", "path": "/"}
+BASE64 = f"{string.ascii_letters}{string.digits}+/=".encode()
 FRONT = {
     401: "the login or its password is wrong: correct --login or the password file",
     403: "the front does not let you in, or you began too many sessions: wait a minute, or ask who runs it",
@@ -40,6 +42,14 @@ WAITS = {
 
 
 def compact(command: dict) -> str:
+    """(Base64 has nothing to escape: looking for that takes as long as all else of a piece.)"""
+    data = command.get("data")
+    if isinstance(data, str) and data.isascii() and not data.encode().translate(None, BASE64):
+        return written(command | {"data": ""}).replace('"data":""', f'"data":"{data}"', 1)
+    return written(command)
+
+
+def written(command: dict) -> str:
     return json.dumps(command, ensure_ascii=False, separators=(",", ":"), sort_keys=True)
 
 
@@ -52,9 +62,9 @@ def told(command: dict) -> str:
 class Pace:
     """What the slots share: together they keep below what a front takes, and say once that they wait."""
 
-    def __init__(self, is_free: bool, rate: float = RATE):
-        self.lock, self.is_free, self.rate = threading.Lock(), is_free, rate
-        self.left, self.at = BURST, time.monotonic()
+    def __init__(self, is_free: bool, rate: float = RATE, burst: float = BURST):
+        self.lock, self.is_free, self.rate, self.burst = threading.Lock(), is_free, rate, burst
+        self.left, self.at = burst, time.monotonic()
         self.has_told = False
 
     def is_first_word(self) -> bool:
@@ -68,7 +78,7 @@ class Pace:
             return
         with self.lock:
             now = time.monotonic()
-            self.left, self.at = min(self.left + (now - self.at) * self.rate, BURST) - 1, now
+            self.left, self.at = min(self.left + (now - self.at) * self.rate, self.burst) - 1, now
             pause = -self.left / self.rate
         if pause > 0:
             self.rest(pause)

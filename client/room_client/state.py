@@ -10,12 +10,12 @@ import json
 import os
 import secrets
 import time
-from dataclasses import asdict, dataclass, replace
+from dataclasses import dataclass, replace
 
 from .faults import LocalFault, reading
 
 NUMBERS = 1 << 32
-SLOTS = 8  # of a session that begins: so many requests are under way at once, at most
+SLOTS = 4  # of a session that begins: so many requests are under way at once, at most, as a front takes of a login
 
 
 @dataclass(frozen=True)
@@ -97,7 +97,7 @@ class State:
 
     def save(self, session: Session) -> None:
         """Writes the session, is sure that it is there, and takes it."""
-        self._write(self.path, asdict(session))
+        self._write(self.path, vars(session))
         if session.name != self.session.name:
             self._clear_slots()
             self.kept = [Kept() for _ in range(session.slots)]
@@ -130,8 +130,8 @@ class State:
 
     def keep(self, slot: int, kept: Kept) -> None:
         if slot == 0:
-            return self.save(replace(self.session, **asdict(kept)))
-        self._write(self._slot_path(slot), {"session": self.session.name, **asdict(kept)})
+            return self.save(replace(self.session, **vars(kept)))
+        self._write(self._slot_path(slot), {"session": self.session.name, **vars(kept)})
         self.kept[slot] = kept
 
     def record(self, request: str, slot: int = 0) -> None:

@@ -6,7 +6,6 @@ from unittest import mock
 import cases
 import pytest
 from cases import No
-from given import each
 from room_client.line import Line
 from served import HERE, text_of
 
@@ -77,11 +76,6 @@ def test_each_case_is_of_a_rule():
     assert [it["rule"] for it in cases.TABLE["case"] if it["rule"] not in text] == []
 
 
-def need(name, got, want):
-    assert got == want, name
-
-
-@each("number, case", [(it["name"], at, it) for at, it in enumerate(cases.TABLE["case"])
-                       if Client.name not in it.get("not", {})])
+@cases.each_case(Client)
 def test_case(desk, number, case):
-    cases.Played(number, case, Client(desk), cases.Judge(desk.served.port), need).play()
+    cases.Played(number, case, Client(desk), cases.Judge(desk.served.port)).play()

@@ -9,12 +9,10 @@ from unittest import mock
 import pytest
 from room_client import NoAnswer, Settings
 from room_client.line import Line, Lost
-from served import end_with_parent, loopback
+from served import loopback
 
-PATH = os.pathsep.join([os.environ.get("PATH", ""), "/usr/sbin"])
 DROP = "table inet x { chain y { type filter hook output priority 0; oif lo drop; }; }"
 PATIENT = 60  # seconds that the request may take
-INSIDE = "DEAD_INSIDE"  # is set in a network of its own
 
 
 def test_at_an_address_at_which_nobody_is(desk):
@@ -33,14 +31,8 @@ def test_at_an_address_at_which_nobody_is(desk):
 
 
 @pytest.mark.skipif(os.geteuid() != 0, reason="it wants root")
+@pytest.mark.within("unshare", "--net")
 def test_a_peer_that_goes_silent():
-    """(Once more by a process in a network of its own.)"""
-    if INSIDE not in os.environ:
-        words = ["unshare", "--net", "pytest-3", f"{__file__}::test_a_peer_that_goes_silent"]
-        how = {"capture_output": True, "text": True, "preexec_fn": end_with_parent, "timeout": 2 * PATIENT}
-        done = subprocess.run(words, env={**os.environ, "PATH": PATH, INSIDE: "1"}, **how)
-        assert done.returncode == 0, done.stdout
-        return
     loopback()
     with socket.create_server(("127.0.0.1", 0)) as server:  # (it takes what comes, and answers nothing)
         line = Line(Settings(url=f"http://127.0.0.1:{server.getsockname()[1]}", room_user="ann"))

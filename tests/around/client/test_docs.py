@@ -32,7 +32,7 @@ def test_docs_show_what_it_prints(desk):
                                   "client/room_client/__init__.py"])
 def test_docs_have_the_ports_of_the_front_and_a_first_room(name):
     front = re.search(r"listen 127\.0\.0\.1:(\d+)", text_of(os.path.join(TOP, "front", "listen.conf")))[1]
-    admin = text_of(os.path.join(TOP, "service", "admin", "fileroom_admin", "commands.py"))
+    admin = text_of(os.path.join(TOP, "service", "admin", "fileroom_admin", "front.py"))
     ports = {"/": front, "": re.search(r"(?m)^PORT = (\d+)", admin)[1]}
     text = text_of(os.path.join(TOP, name)) if name else command.parser().format_help()
     found = re.findall(r"http://127\.0\.0\.1:(\d+)(/?)", text)

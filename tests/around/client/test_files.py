@@ -1,6 +1,7 @@
 """Large files: two writers at once, uploads that are stopped at each step, and what is told of them."""
 import contextlib
 import os
+import pathlib
 import random
 import re
 import subprocess
@@ -201,21 +202,26 @@ def test_stopped_at_each_step(desk, before, want):
 
 
 def test_stopped_at_random_over_several_slots(desk):
-    dice, data, stops, said = random.Random(SEED), some(20 * PIECE, 1), 0, []
+    """Each writer is told of what the one before left on record, by a file that they all write. (Each has 20 pieces to
+    send, by two steps, behind some looks, so the last of them is stopped as pieces are under way.)"""
+    dice, before, told = random.Random(SEED), OLD, pathlib.Path(desk.path("told"))
+    mine = {"state": desk.path("mine"), "say": lambda words: told.open("a").write(f"{words}\n")}
     with desk.behind() as room:
         room.mkdir("/d")
         files.write(room, "/d/a", OLD)
-    for _ in range(12):
-        stops += put_in_child(data, dice.randrange(70), desk.behind(state=desk.path("mine"))) == STOPPED
-        with desk.behind(said.append) as room:
-            assert files.read(room, "/d/a") in (OLD, data)
-    assert stops > 4
-    with desk.behind(said.append, state=desk.path("mine")) as room:
+    for seed, stop_at in enumerate([*(dice.randrange(40) for _ in range(11)), 39]):
+        data = some(20 * PIECE, seed)
+        assert put_in_child(data, stop_at, desk.behind(**mine)) == STOPPED
+        with desk.behind() as room:
+            now = files.read(room, "/d/a")
+        assert now in (before, data)
+        before = now
+    with desk.behind(**mine) as room:
         files.write(room, "/d/a", data)
         assert files.read(room, "/d/a") == data
         room.settle()
         desk.need_tidy(room, "/d/a")
-    assert GIVE_AGAIN in said
+    assert GIVE_AGAIN in told.read_text().splitlines()
 
 
 @each("stop_at, sign, comes, stands, says", [

@@ -119,3 +119,11 @@ def test_report_that_is_none(text, says):
 
 def test_report_of_nothing():
     assert report.read_report(b"") == []
+
+
+def test_output_that_takes_nothing(tmp_path):
+    """A full disk is told in a line, as a fault of this machine."""
+    (tmp_path / "it").write_text(f"001f07ff {'ann':32} /a\n")
+    with open("/dev/full", "wb") as full:
+        done = subprocess.run([COMMAND, "report", "--csv", tmp_path / "it"], stdout=full, stderr=subprocess.PIPE)
+    assert (done.returncode, done.stderr) == (5, b"room: standard output: No space left on device\n")

@@ -137,10 +137,11 @@ def race(rooms, data):
 
 
 def test_race_of_two_writers(desk, one, other, tell):
-    """Each ends in a version of one of them, and who is told that it is there was not overtaken unseen."""
+    """Each ends in a version of one of them, and who is told that it is there was not overtaken unseen. (They go on
+    until one was overtaken.)"""
     ends = []
-    for seed in range(RACES):
-        data = [some(2 * PIECE - it, seed) for it in range(2)]
+    while len(ends) < RACES or 1 not in ends and len(ends) < 10 * RACES:
+        data = [some(2 * PIECE - it, len(ends)) for it in range(2)]
         told = race((one, other), data)
         assert files.read(one, "/a") in [it for it, is_told in zip(data, told) if is_told]
         ends.append(sum(told))
@@ -148,7 +149,7 @@ def test_race_of_two_writers(desk, one, other, tell):
     one.settle()
     desk.need_tidy(one, "/a")
     assert 1 in ends
-    tell(f"spares: of {RACES} races {ends.count(1)} with one told that another came first")
+    tell(f"spares: of {len(ends)} races {ends.count(1)} with one told that another came first")
 
 
 # What one writer clears behind its answer, and what another one makes a version of meanwhile

@@ -5,7 +5,6 @@ import json
 import os
 import signal
 import threading
-import time
 import types
 from unittest import mock
 
@@ -15,7 +14,7 @@ from room_client import SessionLost, slots
 from room_client.line import Line
 from room_client.manifest import PIECE
 from room_client.state import SLOTS, State
-from served import sqlite, until
+from served import sqlite, until, waiting_at
 
 from .desk import STOPPED, in_child, is_pending, some, steps_to
 
@@ -76,11 +75,12 @@ def append_in_child(desk, steps, piece, stop_at):
 
 # At the keyboard
 
-def interrupts(desk, child, state, sign=None):
-    """Once this is on record, or anything is, and had some time for its way. Its status, and what it said."""
-    path = desk.path(state)
-    assert until(lambda: is_pending(path, sign) if sign else os.path.exists(path), 120, 0.002), "nothing is pending"
-    time.sleep(0.3)
+LONG = "--patience", "120"  # (the key comes before that ends)
+
+
+def interrupts(child, is_under_way):
+    """Once that is so. Its status, and what it said."""
+    assert until(is_under_way, pause=0.002), "nothing is under way"
     child.send_signal(signal.SIGINT)
     out, err = child.communicate(timeout=120)
     return child.returncode, out, err.decode()
@@ -100,7 +100,8 @@ def test_key_stops_a_command(desk):
     desk.prints("put", "-", "/a", want="/a: 0 bytes\n")
     desk.file("x", b"x")
     with held(desk):
-        assert interrupts(desk, desk.start("append", "x", "/a"), "ann.json", "APPEND") == (130, b"", (
+        is_sent = lambda: is_pending(desk.path("ann.json"), "APPEND") and waiting_at(desk.served.port)
+        assert interrupts(desk.start(*LONG, "append", "x", "/a"), is_sent) == (130, b"", (
             "room: APPEND /a: whether it was done is not known: it is kept, and sent again before your next command, "
             "or by: room session finish\n"))
     assert desk.does("session", "finish") == (0, "", "room: finished what was pending: APPEND /a: done\n")
@@ -114,11 +115,12 @@ def test_key_stops_several_slots(desk):
         room.mkdir("/d")
     desk.file("in", some(40 * PIECE, 1))
     with held(desk):
-        assert interrupts(desk, desk.start("put", "in", "/d/a"), "front.json")[0] == 130
+        assert interrupts(desk.start(*LONG, "put", "in", "/d/a"), lambda: waiting_at(desk.served.port))[0] == 130
     assert desk.does("put", "in", "/d/a")[0] == 0
     desk.file("in", some(40 * PIECE, 2))
     desk.front.faults[:] = 25 * ["pass"] + 99 * ["hold"]  # (it is at its pieces by then)
-    status, out, err = interrupts(desk, desk.start("put", "in", "/d/a"), "front.json.3", "CREATE")
+    is_held = lambda: len(desk.front.faults) <= 99 - SLOTS and is_pending(desk.path("front.json.3"), "CREATE")
+    status, out, err = interrupts(desk.start(*LONG, "put", "in", "/d/a"), is_held)
     del desk.front.faults[:]
     desk.front.held.set()
     assert (status, out) == (130, b"")

@@ -1,4 +1,5 @@
 """The trash: its places, the names in it, and what is not removed from it. (What each command prints: trash.txt.)"""
+import time
 from unittest import mock
 
 import pytest
@@ -51,12 +52,23 @@ def test_places_are_one_for_a_sixteenth_of_the_users():
 @each("path, name, its", [
     ("top", "/a", "a~", ("a", "/")),
     ("deep", "/photos/2026/lake.jpg", "lake.jpg~photos~2026~", ("lake.jpg", "/photos/2026")),
-    ("a mark", "/a~b", "a~b~…~", ("a~b", None)), ("a long folder", "/" + "x" * 60 + "/b", "b~…~", ("b", None)),
+    ("a mark", "/a~b", "a~b~…~", ("a~b", None)), ("a long folder", "/" + "x" * 48 + "/b", "b~…~", ("b", None)),
+    ("one that just has room", "/" + "x" * 47 + "/b", "b~" + "x" * 47 + "~", ("b", "/" + "x" * 47)),
     ("long", "/" + "x" * 60 + ".jpg", "x" * 38 + "….jpg~…~", ("x" * 38 + "….jpg", None))])
 def test_name_in_it_tells_where_it_was(path, name, its):
     assert trash.name_in_trash(path, STAMP) == name + STAMP
     assert len((name + STAMP).encode()) <= 64
     assert trash.told_by(name + STAMP) == trash.Thrown(*its, 1795729387)
+
+
+def test_when_it_was_removed_is_told_by_the_clock_of_here(monkeypatch):
+    monkeypatch.setenv("TZ", "Asia/Tokyo")
+    time.tzset()
+    try:
+        assert trash.told_by(f"a~d~{STAMP}").words() == "was in /d, removed 2026-11-27 06:43"
+    finally:
+        monkeypatch.undo()
+        time.tzset()
 
 
 @pytest.mark.parametrize("name", ["odd", STAMP, f"~{STAMP}", "a~20261326214307", f"a~…b~{STAMP}"])

@@ -1,4 +1,5 @@
 """Lists in words and back, names as they are shown, and the line of each refusal."""
+import json
 import os
 import random
 import re
@@ -6,7 +7,7 @@ import unicodedata
 
 import pytest
 from given import each
-from room_client import Refused, SessionLost, words
+from room_client import Refused, SessionLost, slots, words
 from room_client.faults import REFUSALS, refused
 from served import HERE, text_of
 
@@ -26,6 +27,16 @@ def test_flags_come_back():
         for who in ("bob", "OWNER@"):
             entry = {"flag": flag, "mask": 1, "type": flag & 1, "who": who}
             assert [words.read_entry(words.entry_words(entry, it)) for it in KINDS] == [entry] * 3
+
+
+@pytest.mark.parametrize("data", [None, "", "eHl6+/==", "eHl6" * 20_000, '","path":"/b', "\\", "\n", "\u00e4", 7])
+@pytest.mark.parametrize("path", ["/a", '/"data":""', "/\u00e4"])
+def test_a_command_as_it_is_written(data, path):
+    """Its members by their names, and letters as they are, whether its bytes are looked through or not."""
+    command = {"path": path, "keep": False, "cmd": "WRITE"} | ({} if data is None else {"data": data})
+    text = slots.compact(command)
+    assert text == json.dumps(command, ensure_ascii=False, separators=(",", ":"), sort_keys=True)
+    assert json.loads(text) == command
 
 
 def test_lists_come_back():

@@ -14,6 +14,7 @@ from .desk import CLIENT, COMMAND
 
 WHOLE = command.parser()
 COMMANDS = next(it for it in WHOLE._actions if isinstance(it, argparse._SubParsersAction)).choices
+HERE = {"get", "put", "append", "sync", "report"}  # which take files of this machine
 pytestmark = pytest.mark.front
 
 
@@ -41,29 +42,33 @@ def by_bash(*words):
 
 @pytest.fixture
 def completed(tmp_path):
-    """What stands behind some words, in an empty folder."""
-    def completed(*words):
+    """What stands behind some words, in a folder with one file."""
+    (tmp_path / "a-file").touch()
+
+    def completed(*words, begin="''"):
         how = {"capture_output": True, "text": True, "check": True, "cwd": tmp_path, "timeout": 30}
-        return {*subprocess.run(["bash", "-c", by_bash("room", *words, "''")], **how).stdout.split()}
+        return {*subprocess.run(["bash", "-c", by_bash(COMMAND, *words, begin)], **how).stdout.split()}
     return completed
 
 
-def test_bash_has_all_commands(completed):
+def test_all_commands(completed):
     assert completed() == set(COMMANDS) | flags_of(WHOLE) | {"--help"}
     assert completed("--url", "x", "ls") == completed("ls")
-    assert completed("--url") == set()
+    assert completed("--url") == completed("none") == completed("none", "ls") == set()
+    assert completed(begin="--co") == {"--config"}
 
 
 @pytest.mark.parametrize("name", COMMANDS)
-def test_bash_has_the_flags_of(completed, name):
+def test_words_of(completed, name):
     choices = next((set(it.choices) for it in COMMANDS[name]._actions if it.choices), set())
-    more = {"--help", *(["room:/"] if name == "sync" else [])}
+    more = {"--help", *(["room:/"] if name == "sync" else []), *(["a-file"] if name in HERE else [])}
     assert completed(name) == flags_of(COMMANDS[name]) | choices | more
 
 
-@pytest.mark.parametrize("name, line", [("room.zsh", "compadd -- (ls.*)"), ("room.fish", "set -l commands (.*)")])
-def test_other_shells_have_all_commands(name, line):
-    assert set(re.search(line, text_of(os.path.join(CLIENT, name)))[1].split()) == set(COMMANDS)
+@pytest.mark.parametrize("words", ["--config", "who --roster", "put x --new", "ls --json"])
+def test_files_here(completed, words):
+    """Where one may stand, they are told, as the value of an option too."""
+    assert completed(*words.split(), begin="a") == ({"a-file"} if words != "ls --json" else set())
 
 
 # Paths, as shells complete them
@@ -88,20 +93,22 @@ def completes(desk, *line, **more):
 
 @each("words, begin, want", [
     ("several", ["ls"], "/pl", ["/pl$(id)", "/pl`id` x", "/place", "/plage", "/plain/", "/plans/"]),
-    ("one", [], "/plans/", ["/plans/my notes/"]), ("none", [], "/none/", [])])
+    ("one", ["trash", "restore", "x"], "/plans/", ["/plans/my notes/"]), ("none", ["ls"], "/none/", []),
+    ("of a command without one", ["session"], "/pl", []), ("of none", [], "/pl", []),
+    ("of an option", ["who", "--roster"], "/pl", [])])
 def test_paths_by_the_client(desk, line, words, begin, want):
     assert completes(desk, *line, *words, ROOM_COMPLETE=begin) == (want, "")
 
 
 def test_paths_are_not_asked_for_a_password(desk, line):
     words = [it for it in line if it not in ("--password-file", desk.path("secret"))]
-    assert completes(desk, *words, ROOM_COMPLETE="/pl") == ([], "")
+    assert completes(desk, *words, "ls", ROOM_COMPLETE="/pl") == ([], "")
 
 
 def test_paths_leave_what_is_pending(desk, line):
     with desk.losing("MKDIR"):
         assert desk.does("mkdir", "/new")[0] == 3
-    assert completes(desk, *line, ROOM_COMPLETE="/pl") == ([], "")
+    assert completes(desk, *line, "ls", ROOM_COMPLETE="/pl") == ([], "")
     assert "finished what was pending: MKDIR /new" in desk.does("session", "finish")[2]
 
 
