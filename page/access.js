@@ -1,32 +1,25 @@
 /** The view of an access list. */
-import { FOLDER, LARGE, MOST_ENTRIES, REACH, RIGHTS, ROOT, SETS, WHOM, Refusal, addressOf, asOwn, ask, bothWords,
-  button, carried, checkbox, entriesOf, faultLine, folderOf, follows, inFolder, input, isDeny, isForNobody,
-  isInherited, isNamed, isPrivate, link, make, nameText, newEntry, orFault, ownOf, personText, rightsIn, select,
-  sentence, setOf, shown, t, tellFault, whomFault, whomOf, whomText, withFollows, withWhom } from "./common.js";
+import { rightsOn } from "./actions.js";
 import { head } from "./heads.js";
-import { NAME } from "./manifest.js";
-import { helpThem, letAll, letterOf, named, origins, setBack, setList, shutOut } from "./questions.js";
-import { NOBODY } from "./reading.js";
-import { secure } from "./secure.js";
 import { SharePanel } from "./share.js";
-import { standing } from "./stand.js";
-import { standingAt } from "./trees.js";
+import { FOLDER, LARGE, MANIFEST, MOST_ENTRIES, NOBODY, REACH, RIGHTS, ROOT, SETS, WRITE_LIST, Refusal, Seers,
+  addressOf, asOwn, ask, bothWords, button, calledIn, carried, checkbox, deciding, entriesOf, faultLine, folderOf,
+  follows, helpThem, inFolder, input, isAlike, isDeny, isForNobody, isInherited, isNamed, isPrivate, isTrash, letAll,
+  letterOf, link, make, nameText, named, newEntry, orFault, origins, ownOf, ownedWords, rightsIn, secure, select,
+  sentence, setBack, setList, setOf, shown, shutOut, standing, standingAt, t, tellFault, whomFault, whomOf, whomText,
+  withFollows, withWhom } from "./shared.js";
 
 function knownNames(roster, entries) {
-  const seen = entries.map(whomOf).map((it) => it.name).filter(Boolean);
-  const names = new Set([...Object.keys(roster ?? {}), ...Object.values(roster ?? {}).flat(), ...seen]);
+  const seen = entries.map((it) => whomOf(it).name).filter(Boolean);
+  const names = new Set([...Object.entries(roster ?? {}).flat(2), ...seen]);
   return make("datalist", { id: "known-names" }, [...names].sort().map((value) => make("option", { value })));
 }
 
 let isDetailed = false; // whether the editor is open, from one list to the next
-const isSame = (one, other) => JSON.stringify(one) === JSON.stringify(other);
-
 const sentences = (entries, standing, how = {}) =>
   make("ol.entries", how, entries.map((it) => make("li", sentence(it, standing.kind, standing))));
-
 const CHOSEN = "chosen";
 
-/** An entry as a sentence that opens into its fields. */
 class Entry {
   constructor(entry, { standing, roster, changed }) {
     Object.assign(this, { entry, standing, kind: standing.kind, roster, changed });
@@ -46,25 +39,22 @@ class Entry {
     this.changed(this.entry);
   }
 
-  verb() {
-    return select([["0", t.allow], ["1", t.deny]], isDeny(this.entry) ? "1" : "0",
-      (it) => this.set({ ...this.entry, type: Number(it) }), { "aria-label": `${t.allow} / ${t.deny}` });
-  }
-
   whom() {
     const now = whomOf(this.entry);
-    const name = input(now.name, { "aria-label": t.heads.name, list: "known-names", hidden: now.name === "" });
-    const choices = WHOM.filter((id) => id !== "" || now.id === "").map((id) => [id, t.whom[id]]);
-    const whom = select(choices, now.id, (id) => {
-      name.hidden = !isNamed(id);
-      this.set(withWhom(this.entry, { id, name: name.value }));
-    }, { "aria-label": t.whomLabel });
-    name.oninput = () => this.set(withWhom(this.entry, { id: whom.value, name: name.value.trim() }));
+    const oninput = () => {
+      name.hidden = !isNamed(whom.value);
+      this.set(withWhom(this.entry, { id: whom.value, name: name.value.trim() }));
+    };
+    const how = { "aria-label": t.heads.name, list: "known-names", hidden: now.name === "", oninput };
+    const [name, ids] = [input(now.name, how), Object.keys(t.whom).filter((id) => id !== "" || now.id === "")];
+    const whom = select(ids.map((id) => [id, t.whom[id]]), now.id, oninput, { "aria-label": t.whomLabel });
     return [whom, name];
   }
 
   rights() {
-    this.boxes = RIGHTS.map((it) => this.right(it));
+    const words = (it) => `${this.kind === FOLDER ? bothWords(it) : it[this.kind]} (${it.words.join(", ")})`;
+    this.boxes = RIGHTS.map((it) => checkbox(words(it), (this.entry.mask & it.bit) !== 0,
+      () => this.setMask(this.entry.mask ^ it.bit)));
     const choices = [...SETS.map(({ mask, does }) => [String(mask), does]), [CHOSEN, t.chosenBelow]];
     this.sets = select(choices, this.setNow(), (it) => {
       if (it !== CHOSEN) this.setMask(Number(it));
@@ -74,15 +64,7 @@ class Entry {
       make("details", make("summary", t.unaskedRights), some(false)));
   }
 
-  setNow() {
-    return String(setOf(this.entry.mask, this.kind)?.mask ?? CHOSEN);
-  }
-
-  right(it) {
-    const words = this.kind === FOLDER ? bothWords(it) : it[this.kind];
-    return checkbox(`${words} (${it.words.join(", ")})`, (this.entry.mask & it.bit) !== 0,
-      () => this.setMask(this.entry.mask ^ it.bit));
-  }
+  setNow = () => String(setOf(this.entry.mask, this.kind)?.mask ?? CHOSEN);
 
   setMask(mask) {
     this.set({ ...this.entry, mask });
@@ -98,15 +80,18 @@ class Entry {
 
   element(isOpen, buttons) {
     const rights = this.rights();
+    const verb = select([["0", t.allow], ["1", t.deny]], isDeny(this.entry) ? "1" : "0",
+      (it) => this.set({ ...this.entry, type: Number(it) }), { "aria-label": `${t.allow} / ${t.deny}` });
     return make("li", make(`details.${isDeny(this.entry) ? "deny" : "allow"}`, { open: isOpen }, this.summary,
-      make("p.row", this.verb(), this.whom(), t.to, this.sets), this.fault, rights,
+      make("p.row", verb, this.whom(), t.to, this.sets), this.fault, rights,
       this.kind === FOLDER && this.reach(), make("p.tools", buttons)));
   }
 }
 
 class ListView {
-  constructor(app, place, standing, list, roster) {
-    Object.assign(this, { app, place, standing, list, roster, aclflag: list.aclflag, own: ownOf(list), opened: null });
+  constructor(app, place, standing, list, roster, mayChange) {
+    Object.assign(this, { app, place, standing, list, roster, mayChange, aclflag: list.aclflag, own: ownOf(list),
+      opened: null, object: { path: place.path, kind: standing.kind } });
     this.copied = []; // of what was handed down
     this.changes = []; // of lists, which can be set back
     this.element = make("div.typed");
@@ -114,24 +99,22 @@ class ListView {
     this.start = this.text;
   }
 
-  get text() {
-    return JSON.stringify([this.aclflag, this.own]);
-  }
-
-  get inherited() {
-    return follows(this.aclflag) ? this.list.entries.filter(isInherited) : [];
-  }
+  get text() { return JSON.stringify([this.aclflag, this.own]); }
+  get called() { return t.listOf(shown(calledIn(this.place.room, this.place.path))); }
+  linkTo = (path) => link(addressOf({ ...this.place, path }), nameText(calledIn(this.place.room, path)));
+  get inherited() { return follows(this.aclflag) ? this.list.entries.filter(isInherited) : []; }
 
   draw() {
-    const [own, rest] = [this.own.map((it, at) => this.entry(it, at)), this.inherited];
-    const above = folderOf(this.place.path);
-    this.element.replaceChildren(this.taking(), make("h2", t.ownEntries),
-      own.length ? make("ol.entries", own) : make("p", t.isEmpty),
-      make("p.tools", button(t.addEntry, () => this.add())),
+    const [{ own, inherited: rest, mayChange }, above] = [this, folderOf(this.place.path)];
+    const entries = mayChange ? make("ol.entries", own.map((it, at) => this.entry(it, at))) :
+      sentences(own, this.standing);
+    this.element.replaceChildren(make("div", mayChange && this.taking(), make("h2", t.ownEntries),
+      own.length ? entries : make("p", t.isEmpty),
+      mayChange && make("p.tools", button(t.addEntry, () => this.add())),
       make("section.handed", { hidden: !rest.length }, make("h2", t.handedTitle),
-        make("p", t.handedBehind, link(addressOf({ ...this.place, path: above }), nameText(above))),
-        sentences(rest, this.standing, { start: own.length + 1 })),
-      make("p.actions", button(t.saveList, () => this.save(), "main"), button(t.discard, () => this.leave())));
+        make("p", t.handedBehind, this.linkTo(above)), sentences(rest, this.standing, { start: own.length + 1 })),
+      mayChange && make("p.actions", button(t.saveList, () => this.save(), "main"),
+        button(t.discard, () => this.leave()))));
   }
 
   taking() {
@@ -141,7 +124,13 @@ class ListView {
       make("p.about", its ? t.without : this.copied.length ? t.taken : t.alone));
   }
 
-  /** Without the folder's entries, copies of them become its own; with them again, those go that were not changed. */
+  get keepsControl() {
+    const [{ app: { user }, roster, standing: its, own }, right] = [this, { rights: WRITE_LIST, allowed: WRITE_LIST }];
+    const entries = [...own, ...this.inherited];
+    return !roster?.[user] || deciding({ ...its, entries }, user, roster[user], right) !== null;
+  }
+
+  /** Without what is handed down, copies of it become its own; with it again, unchanged ones go. */
   take(isWanted) {
     this.own = this.own.filter((it) => !this.copied.includes(it));
     this.copied = isWanted ? [] : this.inherited.map(asOwn);
@@ -157,94 +146,95 @@ class ListView {
       button(t.remove, () => this.drop(at))]);
   }
 
-  add() {
-    this.opened = 0;
-    this.own.unshift(newEntry(this.standing.kind));
+  open(at) {
+    this.opened = at;
     this.draw();
-    this.element.querySelector("summary").focus();
+    this.element.querySelectorAll(".entries > li > details > summary")[at]?.focus();
+  }
+
+  add() {
+    this.own.unshift(newEntry(this.standing.kind));
+    this.open(0);
+  }
+
+  drop(at) {
+    this.own.splice(at, 1);
+    this.open(null);
   }
 
   move(from, to) {
     if (to < 0 || to >= this.own.length) return;
     this.own.splice(to, 0, ...this.own.splice(from, 1));
-    this.opened = to;
-    this.draw();
-    this.element.querySelectorAll("summary")[to]?.focus();
-  }
-
-  drop(at) {
-    this.own.splice(at, 1);
-    this.opened = null;
-    this.draw();
+    this.open(to);
   }
 
   async save(news = this.news()) {
-    const about = t.listOf(shown(this.place.path));
-    const count = this.own.length;
+    const [about, count] = [this.called, this.own.length];
     const fault = this.own.some(isForNobody) ? t.needWhom : count > MOST_ENTRIES ? t.listFull(count, MOST_ENTRIES) : "";
     if (fault) return tellFault(t.about(about, fault));
     const unknown = this.own.map((it) => whomFault(it, this.roster)).filter(Boolean);
     if (unknown.length && !await ask({ title: `${t.setAllTheSame}?`, does: t.setAllTheSame,
       words: unknown.map((it) => t.countsForNobody(it)) })) return;
+    const why = { title: `${t.saveList}?`, words: t.noControl, does: t.saveList };
+    if (!this.keepsControl && !await ask(why)) return false;
     const now = await this.app.attempt(about, async () => {
       const its = await this.app.room.run("GETLIST", this.place.path);
-      if (isSame(its, this.list)) await this.set();
+      if (isAlike(its, this.list)) await this.set();
       return its;
     });
-    if (now !== null && (isSame(now, this.list) || await this.settle(now))) await this.end(news);
+    if (now !== null && (isAlike(now, this.list) || await this.settle(now))) await this.end(news);
   }
 
   async end(news) {
-    const object = { path: this.place.path, kind: this.standing.kind };
-    const found = await this.app.attempt(t.listOf(shown(object.path)), () => shutOut(this.app, object, news));
+    const { app, object } = this;
+    const found = await app.attempt(this.called, () => shutOut(app, object, news));
     const changes = this.changes.splice(0);
-    const told = found ? await helpThem(this.app, object, news, found, changes) : "";
+    const told = found ? await helpThem(app, object, news, found, changes) : "";
     const words = `${t.listSet} ${told}`.trim();
-    await this.app.done(news.length ? [words, " ", letterOf(this.place)] : words, null, this.undo(changes));
+    const undo = this.keepsControl && this.undo(changes);
+    await app.done(news.length ? [words, " ", letterOf(this.place)] : words, null, undo);
   }
 
   news() {
     const before = ownOf(this.list);
-    return this.own.filter((it) => !isDeny(it) && !before.some((other) => isSame(it, other)));
+    return this.own.filter((it) => !isDeny(it) && !before.some((other) => isAlike(it, other)));
   }
 
-  setTo(own, news) {
+  async setTo(own, news) {
+    const had = this.own;
     this.own = own;
-    return this.save(news);
+    if (await this.save(news) === false) this.own = had;
   }
 
-  /** For its owner alone, whatever the folder above hands down. */
   makePrivate() {
-    const { kind, owner } = this.standing;
     this.aclflag = withFollows(this.aclflag, false);
-    return this.setTo(entriesOf("all", { id: "user", name: owner }, kind), []);
+    return this.setTo(entriesOf("all", { id: "user", name: this.standing.owner }, this.standing.kind), []);
   }
 
-  /** Tells in the panel from where people have what is handed down, and who does not get there. */
+  shareAsAbove() {
+    this.aclflag = withFollows(this.aclflag, true);
+    return this.setTo(this.own, []);
+  }
+
   async tellMore(panel) {
-    const { app, place, list } = this;
-    const object = { path: place.path, kind: this.standing.kind };
-    for (const [it, folder] of await origins(app.room, place.path, this.inherited)) {
-      panel.tellFrom(whomOf(it), t.fromAbove, link(addressOf({ ...place, path: folder }), nameText(folder)));
-    }
-    const entries = list.entries.filter((it) => !isDeny(it));
-    const found = await shutOut(app, object, entries);
+    const { app, object, list } = this;
+    const handed = await origins(app.room, object.path, this.inherited.filter((it) => !isDeny(it)));
+    for (const [it, folder] of handed) panel.tellFrom(whomOf(it), this.linkTo(folder));
+    const found = await shutOut(app, object, list.entries.filter((it) => !isDeny(it)));
     for (const its of Map.groupBy(found, ({ whom }) => JSON.stringify(whom)).values()) {
       const [isBarred, who] = [its.some((it) => it.folders.length), named(its)];
       const words = isBarred ? t.cannotReach(who) : t.lacksStill(who, rightsIn(its[0].lacks, object.kind));
-      panel.tellShut(its[0].whom, words, isBarred && (() => this.allow(object, its)));
+      panel.tellShut(its[0].whom, words, isBarred && this.mayChange && (() => this.allow(its)));
     }
   }
 
-  async allow(object, found) {
-    const changes = [];
-    const { whom } = found[0];
-    const entries = this.list.entries.filter((it) => !isDeny(it) && isSame(whomOf(it), whom));
-    const isDone = await this.app.attempt(t.allowIn, () => letAll(this.app, object, entries, found, changes));
+  async allow(found) {
+    const [changes, { whom }] = [[], found[0]];
+    const entries = this.list.entries.filter((it) => !isDeny(it) && isAlike(whomOf(it), whom));
+    const isDone = await this.app.attempt(t.letPass, () => letAll(this.app, this.object, entries, found, changes));
     if (isDone) await this.app.done(t.allCan([whomText(whom)]), null, this.undo(changes));
   }
 
-  /** What sets lists back. */
   undo(changes) {
     return async () => {
       await setBack(this.app.room, changes);
@@ -258,42 +248,48 @@ class ListView {
   }
 
   async set(before = this.list) {
-    const { app: { room }, place: { path } } = this;
-    const isLarge = this.standing.kind === LARGE;
-    const manifest = isLarge && await room.asideIfAllowed("READ", inFolder(path, NAME));
+    const { app: { room }, object: { path, kind } } = this;
+    const manifest = kind === LARGE && await room.look("READ", inFolder(path, MANIFEST));
     this.changes.push(await setList(room, path, before, { aclflag: this.aclflag, entries: this.own }));
     this.start = this.text;
-    if (isLarge) await secure(room, path, manifest?.data, { ...NOBODY, fail: tellFault });
+    if (kind === LARGE) await secure(room, path, manifest?.data, { ...NOBODY, fail: tellFault });
   }
 
   async settle(now) {
     const parts = [[t.theirs, ownOf(now)], [t.yours, this.own]].map(([title, entries]) =>
       [make("h3", title), sentences(entries, this.standing)]);
-    const chosen = await ask({ title: t.changed, task: () => this.set(now), words: [t.nobodyKnows, parts],
+    const chosen = await ask({ title: t.changed, task: () => this.set(now), words: parts,
       does: t.setAllTheSame, others: [{ words: t.takeTheirs, value: "theirs" }] });
     if (chosen === "theirs") await this.app.show(standing());
     return chosen === true;
   }
 }
 
+async function changers(app, path, kind) {
+  const users = await new Seers(app).able({ path, kind }, WRITE_LIST);
+  return `${t.onlySeen} ${users?.length ? t.canChange(named(users.map((user) => ({ user })))) : t.askAnyOwner}`;
+}
+
 export async function showAccess(app, place) {
   const its = await standingAt(app.room, place.path);
   const list = await orFault(app.room.run("GETLIST", place.path));
   if (list instanceof Refusal) return [...head(place), faultLine(list.message)];
-  const roster = await app.room.users();
-  const view = new ListView(app, place, its, list, roster);
+  const [roster, rights] = await Promise.all([app.room.users(), rightsOn(app.room, place.path)]);
+  const mayChange = (rights & WRITE_LIST) !== 0;
+  const view = new ListView(app, place, its, list, roster, mayChange);
   view.draw();
   const detail = () => {
     more.open = true;
     more.querySelector("summary").focus();
   };
   const panel = new SharePanel(its, { own: view.own, handed: view.inherited }, roster, { detail, user: app.user,
-    set: (own, news) => view.setTo(own, news),
-    makePrivate: its.owner === app.user && !isPrivate(list, app.user) && (() => view.makePrivate()) });
-  view.tellMore(panel).catch(() => {}); // (what is not known is not told)
-  const about = make("p.about", its.owner && t.owned(personText(its.owner), its.group));
-  const more = make("details.exceptions", { open: isDetailed }, make("summary", t.details), about,
-    make("p", t.aboutList), view.element);
+    set: mayChange && ((own, news) => view.setTo(own, news)),
+    changers: mayChange || await changers(app, place.path, its.kind),
+    way: !isPrivate(list, its.owner) ? its.owner === app.user && [t.makePrivate, () => view.makePrivate()] :
+      mayChange && place.path !== ROOT && !isTrash(place.path) && [t.asAbove, () => view.shareAsAbove()] });
+  view.tellMore(panel).catch(() => {});
+  const more = make("details.exceptions", { open: isDetailed }, make("summary", t.details),
+    make("p.about", ownedWords(its)), make("p", t.aboutList), view.element);
   more.ontoggle = () => { isDetailed = more.open; };
   return [...head(place), panel.element, more, knownNames(roster, list.entries)];
 }

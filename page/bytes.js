@@ -1,16 +1,10 @@
-/** Bytes of documents: base64 as the room has it, text where they are text, a file on the user's disk. */
-import { forDisk } from "./names.js";
+/** Bytes of documents: base64 as the room has it, text where they are text. */
 
 export const MOST_BYTES = 65_536;
 
-/** (Browsers of before 2025 have no form of their own.) */
-export function toBase64(bytes) {
-  if (bytes.toBase64) return bytes.toBase64();
-  let letters = "";
-  for (let at = 0; at < bytes.length; at += 8_192) letters += String.fromCharCode(...bytes.subarray(at, at + 8_192));
-  return btoa(letters);
-}
-
+// (Browsers of before 2025 lack both.)
+export const toBase64 = (bytes) =>
+  bytes.toBase64?.() ?? btoa(Array.from(bytes, (it) => String.fromCharCode(it)).join(""));
 export const fromBase64 = (text) =>
   Uint8Array.fromBase64?.(text) ?? Uint8Array.from(atob(text), (it) => it.charCodeAt(0));
 
@@ -18,7 +12,7 @@ export const hexOf = (bytes) => [...bytes].map((it) => it.toString(16).padStart(
 export const randomHex = (count) => hexOf(crypto.getRandomValues(new Uint8Array(count)));
 export const fromText = (text) => new TextEncoder().encode(text);
 
-/** Null where they are no text to be shown; with `isStart` they may end within a letter. */
+/** Null where they are no text; with `isStart` they may end within a letter. */
 export function toText(bytes, isStart = false) {
   try {
     const text = new TextDecoder("utf-8", { fatal: true, ignoreBOM: true }).decode(bytes, { stream: isStart });
@@ -26,11 +20,4 @@ export function toText(bytes, isStart = false) {
   } catch {
     return null;
   }
-}
-
-export function save(blob, name) {
-  const address = URL.createObjectURL(blob);
-  const link = Object.assign(document.createElement("a"), { href: address, download: forDisk(name) });
-  link.click();
-  setTimeout(() => URL.revokeObjectURL(address), 60_000);
 }

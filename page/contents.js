@@ -1,33 +1,22 @@
-/** The view of what is in a folder, or of a document. */
-import { asButton, makeDocument, makeFolder, offered, offersFor, rightsAt, textOffers } from "./actions.js";
-import { ACCESS, ADD_FILE, ADD_FOLDER, FILE, FOLDER, LARGE, READ, READ_LIST, ROOT, Refusal, UNFINISHED, addressOf,
-  button, byName, closedLine, faultLine, folderOf, fromBase64, inFolder, lastName, link, make, menuButton, openMenu,
-  orFault, personText, pointOf, shown, t, toText } from "./common.js";
-import { changesIn, hasDav } from "./dav.js";
+/** The views of a folder, of a document, and of what lies in several folders: what was found, and what was changed of
+ * late at the top, in favourites, and in the latest folders. */
+import { asButton, makeDocument, makeFolder, offersFor, rightsAt, textOffers } from "./actions.js";
 import { head } from "./heads.js";
-import { icon } from "./icons.js";
-import { NAME, beside, isPart } from "./manifest.js";
-import { note } from "./mine.js";
 import { emptyTrash } from "./moving.js";
-import { canShow, isPdf, isPicture, nothing, preview } from "./preview.js";
-import { NOBODY, manifestAt, readFile } from "./reading.js";
-import { Seers } from "./seers.js";
+import { ACCESS, ADD_FILE, ADD_FOLDER, FILE, FOLDER, LARGE, MANIFEST, NOBODY, PASS_THROUGH, READ, READ_LIST, ROOT,
+  UNFINISHED, Refusal, Seers, addressOf, beforeWords, beside, button, byName, canShow, changesIn, checkbox, clean,
+  closedLine, faultLine, filesButton, folderOf, fromBase64, hasDav, icon, inFolder, inOrder, isInTrash, isOwnTrash,
+  isPart, isPdf, isPicture, isTrash, kindBy, lastName, latest, link, make, manifestAt, menuButton, nameAt, note,
+  nothing, offered, once, orFault, ownTrash, ownedWords, part, pointOf, preview, readFile, shown, sizeWords, stars, t,
+  toText, upload, walk, whileSo, withoutPool } from "./shared.js";
 import { Things } from "./things.js";
-import { sizeWords } from "./transfers.js";
-import { beforeWords, isInTrash, isOwnTrash, isTrash, ownTrash, withoutPool } from "./trash.js";
-import { kindBy } from "./trees.js";
-import { filesButton, upload } from "./uploads.js";
 
 const PREVIEWED = 2 ** 22; // bytes of a large file that are read unasked
 
-/** Gives a refusal of a right on this very object: then the rest of the view is still of use. */
 const orShut = (task, path) => orFault(task, (it) => it.code === ACCESS && it.path === path);
 
-const closed = (refusal, place) => closedLine(refusal, addressOf(place), place.path);
-
 function about(place, stat, size) {
-  const whose = stat.owner ? t.owned(personText(stat.owner), stat.group) : "";
-  return make("p.about", [size, whose, beforeWords(place.path)].filter(Boolean).join(", "));
+  return make("p.about", [size, ownedWords(stat), beforeWords(place.path)].filter(Boolean).join(", "));
 }
 
 function newsFor(app, path, own) {
@@ -39,46 +28,40 @@ function newsFor(app, path, own) {
   ]);
 }
 
-/** What stopped replacements left, by the names of their documents where these are still there. */
 async function leftWords(names) {
   const left = new Set(names.map(([name]) => name).filter(isPart));
   if (left.size === 0) return null;
-  if (left.has(NAME)) return faultLine(t.isMixed);
+  if (left.has(MANIFEST)) return faultLine(t.isMixed);
   const marks = await Promise.all(names.map(async ([name]) => ({ name, ...await beside(name) })));
   const called = marks.filter(({ its, gone }) => left.has(its) || left.has(gone)).map(({ name }) => shown(name));
   return faultLine(t.leftHere(called.length ? called : t.someDocument));
 }
 
-async function trashTool(app, { path }, isEmpty) {
-  const isTheirs = !isEmpty && isOwnTrash(app, path) && (await ownTrash(app)).path === path;
-  return isTheirs && button(t.emptyTrash, () => emptyTrash(app, path));
-}
-
-/** Beside the word for it: with whom the folder is shared, where that is known. */
 async function tellWho(share, seers, path) {
   const found = await seers.of({ path, kind: FOLDER }).catch(() => null);
   if (found) share.append(make("span.about", found.words));
 }
-
-const titleOf = ({ path }) => (isTrash(path) ? t.trashOf(lastName(path)) : undefined);
 
 async function folder(app, place, stat, rights, found) {
   const { path } = place;
   const isOwn = isOwnTrash(app, path);
   const news = isOwn ? [] : newsFor(app, path, rights.own);
   const mayPut = (rights.own & ADD_FILE) !== 0 && !isOwn;
-  const top = head(place, { app, menu: () => offersFor(app, path, FOLDER, rights), title: titleOf(place) });
+  const listed = found.names ? withoutPool(path, found.names) : [];
+  const mayEmpty = isOwn && listed.length > 0 && (await ownTrash(app)).path === path;
+  const top = head(place, { app, menu: () => offersFor(app, path, FOLDER, rights),
+    ...isTrash(path) && { title: t.trashOf(lastName(path)) } });
   const share = (rights.own & READ_LIST) !== 0 && !isOwn && link(addressOf({ ...place, view: "access" }), t.share);
-  const bar = make("p.tools.makers",
-    news.length > 0 && menuButton(`+ ${t.new}`, { className: "main" }, () => news, t.new),
+  const adder = news.length > 0 && menuButton(`+ ${t.new}`, { className: "main" }, () => news, t.new);
+  const bar = make("p.tools.makers", adder,
     mayPut && filesButton(t.upload, {}, (chosen) => upload(app, path, chosen)), share,
-    await trashTool(app, place, found.names && withoutPool(path, found.names).length === 0));
-  if (found instanceof Refusal) return [...top, bar, about(place, stat, t.kinds.folder), closed(found, place)];
+    mayEmpty && button(t.emptyTrash, () => emptyTrash(app, path)));
+  if (found instanceof Refusal) return [...top, bar, about(place, stat, t.kinds.folder),
+    closedLine(found, place, rights.own & PASS_THROUGH ? t.byLink : "")];
   if (path !== ROOT && !isInTrash(path)) note(app, path, true);
-  const listed = withoutPool(path, found.names);
   const names = listed.filter(([name]) => !isPart(name)).sort(byName);
-  const changes = () => (hasDav(app) && !isInTrash(path) ? changesIn(app, [path]) : null);
-  const things = names.length ? new Things(app, place, names, rights, changes()) : null;
+  const changes = names.length > 0 && hasDav(app) && !isInTrash(path) ? changesIn(app, [path]) : null;
+  const things = names.length ? new Things(app, place, names, rights, changes) : null;
   const words = isOwn ? t.inTrash : mayPut && t.dropHere;
   await things?.inOrder;
   const more = words && make("p.about", words);
@@ -87,19 +70,19 @@ async function folder(app, place, stat, rights, found) {
       make("p", t.nothingThere), more),
     about(place, stat, t.allThings(names.length)), things && more);
   area.oncontextmenu = (event) => {
-    if (!news.length || event.target !== area) return;
+    if (!adder || ![area, things?.element].includes(event.target)) return;
     event.preventDefault();
-    openMenu(bar.querySelector("button"), news, t.new, pointOf(event));
+    adder.show(pointOf(event));
   };
   if (share) tellWho(share, things?.seers ?? new Seers(app), path);
-  app.watched = { path, listing: JSON.stringify(found.names), things, put: mayPut };
+  area.watched = { path, listing: JSON.stringify(found.names), things, put: mayPut };
   return [...top, bar, ...things ? [things.bar.element] : [], area];
 }
 
 async function object(app, place, { stat, rights, kind, size, words, first = [], bytes = null }, body) {
-  const offers = [...first, ...offersFor(app, place.path, kind, { ...rights, size }).filter((it) => !it.isView),
-    ...bytes && canShow(bytes) && !isPdf(bytes) ? [{ words: t.print, does: () => print() }] : []];
-  const bar = make("p.tools", offers.map(asButton), await neighbours(app, place));
+  const offers = [...first, ...offersFor(app, place.path, kind, { ...rights, size }).filter((it) => !it.isView)];
+  const printer = bytes && canShow(bytes) && !isPdf(bytes) && button(t.print, () => print());
+  const bar = make("p.tools", offers.map(asButton), printer, await neighbours(app, place));
   return [...head(place), bar, about(place, stat, words), body];
 }
 
@@ -111,8 +94,8 @@ async function document_(app, place, stat, rights) {
   const bytes = isShut ? null : fromBase64(found.data);
   const first = textOffers(app, path, rights.own, bytes, bytes && toText(bytes));
   const words = isShut ? t.kinds.writing : t.bytes(bytes.length);
-  return object(app, place, { stat, rights, kind: FILE, size: bytes?.length, words, first, bytes }, isShut ?
-    closed(found, place) : preview(bytes, lastName(path)));
+  return object(app, place, { stat, rights, kind: FILE, size: bytes?.length, words, first, bytes },
+    isShut ? closedLine(found, place) : preview(bytes, lastName(path)));
 }
 
 async function large(app, place, stat, rights) {
@@ -126,7 +109,7 @@ async function large(app, place, stat, rights) {
     const bytes = await readFile(app.room, path, { ...NOBODY, fail: (it) => told.push(faultLine(it)) });
     area.replaceChildren(...told, preview(bytes, lastName(path)));
   };
-  const start = await app.room.asideIfAllowed("READ", inFolder(path, its.folder, its.pieces[0]), { keep: false });
+  const start = await app.room.look("READ", inFolder(path, its.folder, its.pieces[0]), { keep: false });
   const bytes = start && fromBase64(start.data);
   const isAsked = its.size <= PREVIEWED || bytes && isPdf(bytes);
   if (bytes && !canShow(bytes)) area.append(nothing());
@@ -139,10 +122,10 @@ async function large(app, place, stat, rights) {
 async function neighbours(app, { path, room }) {
   if (!isPicture(lastName(path))) return [];
   const all = await app.room.names(folderOf(path)) ?? [];
-  const names = all.filter(([name]) => isPicture(name)).sort(byName).map(([name]) => name);
+  const names = all.map(([name]) => name).filter(isPicture).sort(inOrder);
   const at = names.indexOf(lastName(path));
-  const to = (name, words, key) => name && Object.assign(
-    link(addressOf({ room, path: inFolder(folderOf(path), name) }), words), { title: shown(name), className: key });
+  const to = (name, words, className) => name &&
+    link(addressOf({ room, path: inFolder(folderOf(path), name) }), words, { title: shown(name), className });
   return [to(names[at - 1], t.previous, "ArrowLeft"), to(names[at + 1], t.next, "ArrowRight")];
 }
 
@@ -157,4 +140,83 @@ export async function showContents(app, place) {
     return object(app, place, { stat, rights, kind, words: t.unfinished }, faultLine(words));
   }
   return kind === LARGE && await large(app, place, stat, rights) || folder(app, place, stat, rights, found);
+}
+
+const MOST = 500; // things that are shown
+const [MOST_CHANGES, MOST_FOLDERS] = [100, 20]; // that are shown, and asked about
+const kept = new Map(); // by address, until something is changed
+const small = (name) => clean(name).toLowerCase();
+export const forgetFound = () => kept.clear();
+const entryOf = (path, kind) => [lastName(path), kind, folderOf(path)];
+
+class Search {
+  constructor(app, place) {
+    Object.assign(this, { app, place, isStopped: false, looked: 0, found: 0, shut: 0, done: 0, known: 1 });
+    this.told = make("span", { role: "status" });
+    this.end = button(t.cancel, () => { this.isStopped = true; }, "small");
+    this.area = make("div");
+    const here = place.path !== ROOT &&
+      checkbox(t.onlyIn(shown(lastName(place.path))), place.isHere, (isHere) => goTo(app, { ...place, isHere }));
+    this.element = make("div", here, make("p", this.told, " ", this.end), this.area);
+    this.run();
+  }
+
+  async run() {
+    const { app, place } = this;
+    const walked = (done, known) => Object.assign(this, { done, known });
+    try {
+      await walk(app.room, place.isHere ? place.path : ROOT, (it) => this.meet(it),
+        { ...whileSo(() => !this.isStopped), walked });
+      this.tell();
+    } catch (fault) {
+      this.told.textContent = fault.message;
+    }
+    this.end.remove();
+  }
+
+  meet({ path, kind, isShut }) {
+    this.looked += 1;
+    if (isShut) this.shut += 1;
+    if (small(nameAt(path)).includes(small(this.place.word)) && (this.found += 1) <= MOST) this.show(path, kind);
+    this.tell(t.looking(this.done, this.known));
+  }
+
+  show(path, kind) {
+    const entry = entryOf(path, kind);
+    if (this.things) return this.things.add(entry);
+    this.things = new Things(this.app, this.place, [entry], null);
+    this.area.append(this.things.bar.element, this.things.element);
+  }
+
+  tell(end = "") {
+    const { looked, found, shut } = this;
+    const more = found > MOST ? ` ${t.firstShown(MOST)}` : "";
+    this.told.textContent = `${t.found(found, looked)}${shut ? t.shutIn(t.folders(shut)) : ""}${more} ${end}`.trim();
+  }
+}
+
+function goTo(app, place) {
+  const address = addressOf({ ...place, view: "find" });
+  kept.delete(address);
+  if (address === location.hash) app.show();
+  else location.hash = address;
+}
+
+export const searchFor = (app, word) => goTo(app, { ...app.place, word, isHere: false });
+
+export async function showFind(app, place) {
+  part("search").querySelector("input").value = place.word;
+  const title = place.word ? t.resultsFor(place.word) : t.search;
+  return [...head(place, { title }), once(kept, addressOf(place), () => new Search(app, place)).element];
+}
+
+export async function showRecent(app, place) {
+  const own = [...stars(app), ...latest(app)].map(([path, isFolder]) => (isFolder ? path : folderOf(path)));
+  const folders = new Set([ROOT, ...own.filter((it) => !isInTrash(it))]);
+  const found = await changesIn(app, [...folders].slice(0, MOST_FOLDERS));
+  const newest = [...found].sort(([, one], [, other]) => other.when - one.when).slice(0, MOST_CHANGES);
+  const entries = newest.map(([path, { kind }]) => entryOf(path, kind));
+  const things = entries.length > 0 && new Things(app, place, entries, null, Promise.resolve(found));
+  const its = things ? [things.bar.element, things.element] : make("p.empty", t.noChanges);
+  return [...head(place, { title: t.recentChanges }), make("p.about", t.aboutChanges), its].flat();
 }

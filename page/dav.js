@@ -1,21 +1,25 @@
-/** What the gateway of WebDAV has for the page, in the rooms that have it: who changed what, and when, of what the user
- * may read; and addresses for file managers. */
-import { ask, forEach, inFolder, namesOf, t } from "./common.js";
-import { fileOfFront } from "./wire.js";
+/** What the gateway of WebDAV has for the page: who changed what, and when; and addresses. */
+import { ask, displayName, forEach, inFolder, language, make, namesOf, t, toldAt } from "./common.js";
 
 let rooms = [];
-export const learnDav = async () => { rooms = JSON.parse(await fileOfFront("/dav.json").catch(() => null) ?? "[]"); };
+export const learnDav = async () => { rooms = await toldAt("/dav.json", []); };
 export const hasDav = (app) => rooms.includes(app.room?.name);
 const wayTo = (app, path) => ["/dav", ...[app.room.name, ...namesOf(path)].map(encodeURIComponent), ""].join("/");
 
-/** `{who, when, kind}` by path, of what is in these folders, as far as that is known. */
 export async function changesIn(app, folders) {
   const found = new Map();
   await forEach(hasDav(app) ? folders : [], async (folder) => {
-    const its = JSON.parse(await fileOfFront(`${wayTo(app, folder)}?latest`).catch(() => null) ?? "{}");
+    const its = await toldAt(`${wayTo(app, folder)}?latest`, {});
     for (const [name, [who, when, kind]] of Object.entries(its)) found.set(inFolder(folder, name), { who, when, kind });
   }, 3);
   return found;
+}
+
+export function whenWords({ who, when }) {
+  const [then, now] = [new Date(when * 1000), new Date()];
+  const how = then.toDateString() === now.toDateString() ? { timeStyle: "short" } : { dateStyle: "medium" };
+  return make("time", { dateTime: then.toISOString(), title: then.toLocaleString(language) },
+    `${then.toLocaleString(language, how)}, ${displayName(who) || who}`);
 }
 
 export function showAddresses(app, path) {

@@ -1,13 +1,13 @@
-/** Dialogs stay until what they ask for is done, and ask before something typed is lost. */
+/** Dialogs stay until what they ask for is done, and ask before what is typed is lost. Menus, on a phone from below. */
 import { standIn } from "./busy.js";
-import { button, labelled, make } from "./dom.js";
-import { clean, shown } from "./names.js";
-import { isTooLong, nameFault, shortened } from "./places.js";
-import { t } from "./words.js";
+import { button, labelled, link, make, onSubmit, pickFiles } from "./dom.js";
+import { clean, isTooLong, nameFault, shortened, shown } from "./names.js";
+import { tellIt } from "./notices.js";
+import { language, t } from "./words.js";
 
 const SLOW = 500; // milliseconds after which it is told
 const open = new Set();
-const typed = new Set(); // each tells whether something of its own is typed and not yet done
+const typed = new Set(); // each tells whether something typed is not done
 const running = new Set(); // what ends with the page
 let isEnding = false;
 
@@ -16,7 +16,6 @@ function added(set, it) {
   return () => set.delete(it);
 }
 
-/** Whoever leaves is asked where `look` says so, until what is returned is called. */
 export const watch = (look) => added(typed, look);
 export const watchEnd = (what) => added(running, what);
 export const isUnsaved = () => !isEnding && [...typed].some((it) => it());
@@ -33,8 +32,6 @@ export async function untilClosed() {
   while (open.size > 0) await Promise.race([...open].map((it) => it.closed));
 }
 
-const valueOf = (field) => (field.type === "checkbox" ? field.checked : field.value);
-
 class Dialog {
   constructor({ title, words, fields = [], does, faultOf = () => "", task = () => {}, others = [], first,
     stays = t.cancel, isFinal = false }) {
@@ -46,20 +43,16 @@ class Dialog {
     const leave = button(stays, () => this.leave());
     const texts = [words].flat(Infinity).map((it) => (typeof it === "string" ? make("p", it) : it));
     const head = make("h2", does ? {} : { tabIndex: -1, autofocus: true }, title);
-    this.form = make("form", { method: "dialog" }, head, texts,
+    this.form = make("form", { method: "dialog", onsubmit: onSubmit(() => this.submit()) }, head, texts,
       fields.map(([label, field]) => labelled(label, field)), this.fault, this.fields.length > 0 && this.leaving,
       this.atWork, make("p.actions", isFinal && leave, does && make(isFinal ? "button" : "button.main", does),
         others.map((it) => button(it.words, () => this.run(it.task ?? (() => {}), it.value))), !isFinal && leave));
-    this.element = make("dialog", { "aria-label": title, closedby: "none" }, this.form);
-    this.form.onsubmit = (event) => this.submit(event);
-    this.element.onkeydown = (event) => this.key(event);
-    this.element.oncancel = (event) => event.target === this.element && event.preventDefault();
+    this.element = make("dialog", { "aria-label": title, closedby: "none", onkeydown: (event) => this.key(event),
+      oncancel: (event) => event.target === this.element && event.preventDefault() }, this.form);
     this.start = this.now;
   }
 
-  get now() {
-    return JSON.stringify(this.fields.map(valueOf));
-  }
+  get now() { return JSON.stringify(this.fields.map((it) => it.value)); }
 
   key(event) {
     const isSave = (event.ctrlKey || event.metaKey) && ["s", "Enter"].includes(event.key);
@@ -70,8 +63,7 @@ class Dialog {
     else this.leave();
   }
 
-  submit(event) {
-    event.preventDefault();
+  submit() {
     this.fault.textContent = this.faultOf();
     if (!this.fault.textContent) this.run(this.task, true);
   }
@@ -97,7 +89,6 @@ class Dialog {
     }
   }
 
-  /** Whoever types on without looking presses what loses nothing, and is back where they typed. */
   leave() {
     if (this.form.inert) return;
     if (this.now === this.start) return this.end(null);
@@ -130,15 +121,13 @@ class Dialog {
   }
 }
 
-/** Asks for `fields`, `[LABEL, ELEMENT]`. `faultOf` tells why these will not do; `others` are further buttons,
- * `{words, value, task}`; `first` is the word of the button that has the focus, `stays` that of the one that closes.
- * Gives true, or the value of another button, once the task is done; null where it was closed. */
+/** Asks for `fields`, `[LABEL, ELEMENT]`. `faultOf` tells why these will not do; `others` are buttons, `{words, value,
+ * task}`; `first` is the word of the one that has the focus, `stays` of the one that closes. Gives true, or the value
+ * of another button, once the task is done; null where it was closed. */
 export const ask = (how) => new Dialog(how).show();
 
-export const input = (value = "", how = {}) =>
-  make("input", { value, autocomplete: "off", spellcheck: false, ...how });
+export const input = (value = "", how = {}) => make("input", { value, autocomplete: "off", spellcheck: false, ...how });
 
-/** All but a name's ending is marked at first; for one too long a shorter one is offered. */
 export function nameInput(value = "", how = {}) {
   const [field, hint] = [input(value, how), make("p.about", { role: "status" })];
   const dot = value.lastIndexOf(".");
@@ -158,3 +147,106 @@ export function nameInput(value = "", how = {}) {
 }
 
 export const area = (value = "", rows = 16) => make("textarea", { value, rows });
+
+const inline = (text) => text.split("**").map((it, at) => (at % 2 ? make("b", it) : it));
+
+/** A line begins a paragraph, `# ` a heading. */
+const drawn = (help) => help.trim().split(/\n(?! )/).map((it) =>
+  (it.startsWith("# ") ? make("h3", it.slice(2)) : make("p", inline(it))));
+
+export async function showHelp() {
+  const { help } = await import(`./help.${language}.js`);
+  await ask({ title: t.help, words: drawn(help), stays: t.close });
+}
+
+const EDGE = 8; // pixels that stay free beside it
+let shownNow = null;
+export const isMenuOpen = () => shownNow !== null;
+
+function itemElements(it, close) {
+  const how = { role: it.isNow === undefined ? "menuitem" : "menuitemradio", "aria-checked": it.isNow, tabIndex: -1,
+    className: it.isApart ? "apart" : "", lang: it.lang, title: it.about };
+  if (it.href) return [link(it.href, it.words, { onclick: close, ...how })];
+  const files = it.chosen && pickFiles(it.words, it.files, (chosen) => {
+    close();
+    it.chosen(chosen);
+  });
+  const press = () => {
+    close();
+    if (files) files.click();
+    else it.does();
+  };
+  return [make("button", { type: "button", onclick: press, ...how }, it.words), ...files ? [files] : []];
+}
+
+class Menu {
+  constructor(anchor, items, label, at) {
+    Object.assign(this, { anchor, at });
+    const elements = items.flatMap((it) => itemElements(it, () => this.close()));
+    this.items = elements.filter((it) => it.role?.startsWith("menuitem"));
+    this.element = make("div.menu", { role: "menu", popover: "auto", "aria-label": label,
+      onkeydown: (event) => this.key(event), ontoggle: (event) => event.newState === "closed" && this.closed() },
+    make("p.menu-title", { "aria-hidden": "true" }, label), elements);
+  }
+
+  show() {
+    shownNow?.close();
+    shownNow = this;
+    this.anchor.after(this.element);
+    this.anchor.ariaExpanded = "true";
+    this.element.showPopover();
+    this.place();
+    this.items[0]?.focus();
+  }
+
+  place() {
+    const [box, its] = [this.anchor.getBoundingClientRect(), this.element.getBoundingClientRect()];
+    const { x, y } = this.at ?? { x: box.left, y: box.bottom };
+    const above = this.at ? y : box.top;
+    const top = y + its.height + EDGE > innerHeight ? Math.max(above - its.height, EDGE) : y;
+    const left = Math.max(Math.min(x, document.documentElement.clientWidth - its.width - EDGE), EDGE);
+    Object.assign(this.element.style, { left: `${left}px`, top: `${top}px` });
+  }
+
+  close() {
+    const isIn = this.element.contains(document.activeElement);
+    this.element.hidePopover();
+    this.closed(isIn);
+  }
+
+  closed(isIn = document.activeElement === document.body) {
+    if (shownNow !== this) return;
+    shownNow = null;
+    this.element.remove();
+    this.anchor.ariaExpanded = "false";
+    if (isIn) this.anchor.focus({ preventScroll: true });
+  }
+
+  key(event) {
+    const at = this.items.indexOf(document.activeElement);
+    const last = this.items.length - 1;
+    const goals = { ArrowDown: at === last ? 0 : at + 1, ArrowUp: at <= 0 ? last : at - 1, Home: 0, End: last };
+    const letter = event.key.length === 1 && event.key !== " " && event.key.toLowerCase();
+    const goal = goals[event.key] ?? [...this.items.keys()].sort((a, b) => (a <= at) - (b <= at) || a - b)
+      .find((it) => letter && this.items[it].textContent.toLowerCase().startsWith(letter));
+    if (["Tab", "Escape"].includes(event.key)) this.close();
+    if (event.key === "Escape" || goal !== undefined) event.preventDefault();
+    if (goal === undefined) return;
+    event.stopPropagation();
+    this.items[goal].focus();
+  }
+}
+
+/** `items` are `{words, does}`, `{words, href}` or `{words, files, chosen}`. */
+export const openMenu = (anchor, items, label, at) => new Menu(anchor, items, label, at).show();
+export const offered = (items) => items.filter(([isOffered]) => isOffered).map(([, it]) => it);
+export const pointOf = (event) => ({ x: event.clientX, y: event.clientY });
+
+export function menuButton(words, how, itemsOf, label) {
+  const its = make("button", { type: "button", "aria-haspopup": "menu", "aria-expanded": "false", ...how }, words);
+  const open_ = async (at) => openMenu(its, await itemsOf(), label, at);
+  let opening = null;
+  its.show = (at) => { opening ??= open_(at).catch(tellIt).finally(() => { opening = null; }); };
+  its.onclick = () => its.show();
+  return its;
+}

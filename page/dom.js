@@ -1,15 +1,16 @@
 /** Elements of the page. Whatever comes from the room is put in as text, never as markup. */
+import { FOLDER } from "./lists.js";
 import { partsOf } from "./names.js";
 
 export const part = (id) => document.getElementById(id);
 
-/** An element, `tag.class`, with properties or attributes, and children: texts, elements, lists of them, or null. */
+/** An element, `tag.class`, with properties or attributes and children, also in lists; null is nothing. */
 export function make(name, ...rest) {
   const [tag, ...classes] = name.split(".");
   const how = rest[0]?.constructor === Object ? rest.shift() : {};
   const it = document.createElement(tag);
   if (classes.length) it.className = classes.join(" ");
-  for (const [key, value] of Object.entries(how)) {
+  for (const [key, value] of Object.entries(how).filter(([, its]) => its !== undefined && its !== null)) {
     if (key in it && key !== "list") it[key] = value;
     else it.setAttribute(key, value);
   }
@@ -20,22 +21,20 @@ export function make(name, ...rest) {
 export const button = (words, onclick, how = {}) =>
   make("button", { type: "button", onclick, ...typeof how === "string" ? { className: how } : how }, words);
 
-export const link = (href, ...words) => make("a", { href }, ...words);
+export const link = (href, words, how = {}) => make("a", { href, ...how }, words);
 
-/** What an address of the page leads to from elsewhere; and a letter about it, which the user's own program writes. */
 export const wholeLink = (address) => new URL(address, location.href.split("#")[0]).href;
 export const letterLink = (words, about, text, address) => link(`mailto:?subject=${encodeURIComponent(about)}&body=${
   encodeURIComponent([text, wholeLink(address)].filter(Boolean).join("\n\n"))}`, words);
 
 export const faultLine = (...words) => make("p.fault", ...words);
 export const listOf = (all) => make("ul", all.map((it) => make("li", it)));
-
 export const onSubmit = (task) => (event) => {
   event.preventDefault();
   task();
 };
 
-/** A name, apart from the direction of the text around it, with marks in the place of what could not be seen. */
+/** A name, apart from the direction of the text around it, with marks for what could not be seen. */
 export function nameText(name) {
   const it = make("bdi", partsOf(name).map(({ text, isMark }) => (isMark ? make("span.mark", text) : text)));
   it.normalize();
@@ -45,8 +44,7 @@ export function nameText(name) {
 let ids = 0;
 
 export function labelled(words, field) {
-  ids += 1;
-  field.id ||= `field-${ids}`;
+  field.id ||= `field-${ids += 1}`;
   return make("p.field", make("label", { htmlFor: field.id }, words), field);
 }
 
@@ -62,7 +60,7 @@ export function select(choices, now, changed, how = {}) {
   return it;
 }
 
-/** `click` asks for files of the user's disk, or with `isFolder` a folder; `chosen` gets them, each `{names, file}`. */
+/** A field for files of the user's disk: `chosen` gets them, each `{names, file}`. */
 export function pickFiles(words, { isFolder = false, isOne = false }, chosen) {
   const field = make("input", { type: "file", multiple: !isOne, hidden: true, "aria-label": words });
   field.webkitdirectory = isFolder;
@@ -72,5 +70,101 @@ export function pickFiles(words, { isFolder = false, isOne = false }, chosen) {
     field.value = ""; // (so that the same file can be chosen again)
     chosen(files);
   };
-  return { field, click: () => field.click() };
+  return field;
+}
+
+// What was done somewhere leaves the reader there.
+
+const seen = new Map(); // how far each place was scrolled when it was left
+const wordsOf = (it) => it.title || it.ariaLabel || it.textContent;
+const within = () => [...part("main").querySelectorAll("a, button, input, select, summary")]
+  .filter((it) => it.checkVisibility());
+
+function focused() {
+  const it = document.activeElement;
+  if (!part("main").contains(it)) return null;
+  const words = wordsOf(it);
+  const count = within().filter((other) => wordsOf(other) === words).indexOf(it);
+  return { words, count, row: it.closest("tr")?.rowIndex };
+}
+
+export const heading = () => part("main").querySelector("h1 button, h1[tabindex]");
+
+/** Gives what leads back to here, or to the row of `path`, once the page is drawn anew. */
+export function standing(path = null) {
+  const [from, top] = [focused(), scrollY];
+  return () => {
+    const rows = [...part("main").querySelector("table")?.rows ?? []];
+    const its = path && rows.find((it) => it.row?.path === path)?.row.link;
+    const same = its || from && within().filter((it) => wordsOf(it) === from.words)[from.count];
+    const row = from?.row === undefined ? null : rows[Math.min(from.row, rows.length - 1)];
+    (same ?? row?.querySelector("td button") ?? heading())?.focus({ preventScroll: true });
+    scrollTo({ top, behavior: "instant" });
+    if (its) its.scrollIntoView({ block: "nearest" });
+  };
+}
+
+export const leave = (address) => seen.set(address, scrollY);
+
+function showFocus({ currentTarget: it }) {
+  it.blur();
+  it.focus({ preventScroll: true, focusVisible: true });
+}
+
+export function arrive(address) {
+  const first = heading();
+  const isLoaded = seen.size === 0; // (then nobody has used the keys yet)
+  first?.focus({ preventScroll: true, focusVisible: isLoaded ? false : undefined });
+  if (isLoaded) first?.addEventListener("keydown", showFocus, { once: true });
+  scrollTo({ top: seen.get(address) ?? 0, behavior: "instant" });
+}
+
+// Pictures of the kinds of things, and what kind a name tells.
+
+const SHEET = "M6 3h8l4 4v14H6zM14 3v4h4";
+const SHAPES = {
+  folder: "M3 6h6l2 2h10v11H3z",
+  locked: "M6 11h12v9H6zM8 11V8a4 4 0 0 1 8 0v3",
+  text: `${SHEET}M9 12h6M9 16h6`,
+  writing: `${SHEET}M9 12h6M9 16h6`,
+  picture: "M3 5h18v14H3zM3 16l5-5 4 4 3-3 6 6M16 9h.01",
+  pdf: `${SHEET}M9 18v-6h2a1.7 1.7 0 0 1 0 3.4H9`,
+  table: "M3 5h18v14H3zM3 10h18M3 15h18M9 5v14",
+  slides: "M3 4h18v12H3zM12 16v4M8 20h8",
+  archive: "M5 3h14v18H5zM12 3v2M12 7v2M12 11v2M10 15h4v3h-4z",
+  media: "M6 4l13 8-13 8z",
+  file: SHEET,
+  room: "M4 11l8-7 8 7v9H4zM10 20v-6h4v6",
+  trash: "M4 7h16M9 7V4h6v3M6 7l1 13h10l1-13M10 11v5M14 11v5",
+  recent: "M12 21a9 9 0 1 0 0-18 9 9 0 0 0 0 18zM12 7v5l3 2",
+};
+
+const ENDINGS = {
+  text: "txt md log json xml html css js ics", picture: "png jpg jpeg gif webp svg bmp heic", pdf: "pdf",
+  table: "xls xlsx ods csv", writing: "doc docx odt rtf pages", slides: "ppt pptx odp key",
+  archive: "zip gz tar 7z rar", media: "mp3 mp4 mov wav ogg avi m4a webm mkv",
+};
+
+const KINDS = new Map(Object.entries(ENDINGS).flatMap(([kind, all]) => all.split(" ").map((it) => [it, kind])));
+
+export function kindByName(name, kind) {
+  if (kind === FOLDER) return "folder";
+  const at = name.lastIndexOf(".");
+  return at < 0 ? "text" : KINDS.get(name.slice(at + 1).toLowerCase()) ?? "file";
+}
+
+/** Whether no browser shows what has that name: a click gives it to the user's disk. */
+export const isForDisk = (name) => ["writing", "slides", "archive", "media", "table"].includes(kindByName(name)) &&
+  !/\.csv$/i.test(name);
+
+function drawn(tag, how) {
+  const it = document.createElementNS("http://www.w3.org/2000/svg", tag);
+  for (const [name, value] of Object.entries(how)) it.setAttribute(name, value);
+  return it;
+}
+
+export function icon(kind) {
+  const it = drawn("svg", { viewBox: "0 0 24 24", class: `icon ${kind}`, "aria-hidden": "true" });
+  it.append(drawn("path", { d: SHAPES[kind] }));
+  return it;
 }

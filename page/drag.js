@@ -1,7 +1,7 @@
-/** Rows are dragged onto folders and onto the way above; files of the user's disk are dropped anywhere. */
-import { ROOT, folderOf, isWithin, lastName, make, shown, t, tellIt } from "./common.js";
-import { moveInto } from "./moving.js";
-import { dropped, upload } from "./uploads.js";
+/** Rows are dragged, or cut or copied and pasted; so are pictures. Files are dropped. */
+import { copyInto, moveInto, named } from "./moving.js";
+import { dropped, folderOf, freePath, inFolder, isInTrash, isWithin, lastName, make, nameIn, say, shown, t, tellIt,
+  upload } from "./shared.js";
 
 const FORM = "application/x-fileroom";
 let dragged = []; // paths
@@ -20,24 +20,22 @@ export function dragRow(row) {
 const mayGo = (folder) => dragged.length > 0 && dragged.every((it) => folderOf(it) !== folder && !isWithin(folder, it));
 
 function take(element, fits, does) {
-  const over = (event, isOver) => {
-    if (isOver && !fits(event.dataTransfer)) return;
-    element.classList.toggle("dropping", isOver);
-    if (!isOver) return;
+  const mark = (isOver) => element.classList.toggle("dropping", isOver);
+  const over = (event) => {
+    if (!fits(event.dataTransfer)) return false;
     event.preventDefault();
-    event.stopPropagation();
+    event.stopPropagation(); // (nor shall whoever is above take it)
+    return true;
   };
-  element.addEventListener("dragover", (event) => over(event, true));
-  element.addEventListener("dragleave", (event) => element.contains(event.relatedTarget) || over(event, false));
+  element.addEventListener("dragover", (event) => over(event) && mark(true));
+  element.addEventListener("dragleave", (event) => element.contains(event.relatedTarget) || mark(false));
   element.addEventListener("drop", (event) => {
-    if (!fits(event.dataTransfer)) return;
-    over(event, true); // (whoever is above shall not take it too)
-    element.classList.remove("dropping");
+    if (!over(event)) return;
+    mark(false);
     does(event.dataTransfer);
   });
 }
 
-/** What is dropped on the element, rows or files, goes into the folder, while that is one. */
 export const takeRows = (element, app, folder, isFolder = () => true) => take(element, (data) =>
   data.types.includes(FORM) && isFolder() && mayGo(folder), () => moveInto(app, dragged, folder));
 
@@ -51,7 +49,6 @@ async function put(app, folder, data) {
 export const takeFiles = (element, app, folder, isFolder) => take(element, (data) => hasFiles(data) && isFolder(),
   (data) => put(app, folder, data));
 
-/** Files that are dropped anywhere go into the folder that is shown: a browser would leave the page for them. */
 export function takeDrops(app) {
   const over = make("p.over", { hidden: true });
   document.body.append(over);
@@ -63,7 +60,7 @@ export function takeDrops(app) {
     const path = goal();
     event.preventDefault();
     event.dataTransfer.dropEffect = path ? "copy" : "none";
-    if (path) over.textContent = t.dropTo(shown(path === ROOT ? app.room.name : lastName(path)));
+    if (path) over.textContent = t.dropTo(shown(nameIn(app.room.name, path)));
     over.hidden = !path;
   });
   addEventListener("dragleave", (event) => event.relatedTarget || hide());
@@ -73,4 +70,55 @@ export function takeDrops(app) {
     event.preventDefault();
     if (goal()) put(app, goal(), event.dataTransfer);
   });
+}
+
+const PICTURE = /^image\/(png|jpeg|gif|webp)$/;
+const heldKey = (app) => `fileroom/held/${app.user}/${app.room.name}`;
+const isTyping = (event) => event.target.closest?.("input:not([type=checkbox]), textarea, dialog");
+
+function hold(app, event) {
+  const chosen = app.watched?.things?.chosen ?? [];
+  const row = document.activeElement.closest(".things tr")?.row;
+  const rows = chosen.length || !row ? chosen : [row];
+  if (!rows.length || isTyping(event) || !getSelection().isCollapsed) return;
+  event.preventDefault();
+  const [paths, isCut] = [rows.map((it) => it.path), event.type === "cut"];
+  const text = rows.map((it) => it.link.href).join("\n");
+  event.clipboardData.setData("text/plain", text);
+  localStorage.setItem(heldKey(app), JSON.stringify({ paths, isCut, text }));
+  say(t.isHeld(named(paths), paths.length, isCut));
+}
+
+/** (The clipboard has links alone: who else fills it moves nothing.) */
+function heldIn(app, data) {
+  const held = JSON.parse(localStorage.getItem(heldKey(app)));
+  return held?.text === data.getData("text/plain").replaceAll("\r", "") ? held : null;
+}
+
+async function putRows(app, { paths, isCut }, folder) {
+  if (!isCut) return copyInto(app, paths, folder);
+  const others = paths.filter((it) => folderOf(it) !== folder);
+  if (!others.length) return;
+  localStorage.removeItem(heldKey(app));
+  await moveInto(app, others, folder);
+}
+
+async function putPicture(app, file, folder) {
+  const path = await freePath(app.room, inFolder(folder, file.type.replace(PICTURE, "screenshot.$1")));
+  await upload(app, folder, [{ names: [lastName(path)], file }]);
+}
+
+function paste(app, event) {
+  const [its, data] = [app.watched, event.clipboardData];
+  if (!its || isTyping(event)) return;
+  const held = isInTrash(its.path) ? null : heldIn(app, data);
+  const picture = its.put && [...data.files].find((it) => PICTURE.test(it.type));
+  if (!held && !picture) return;
+  event.preventDefault();
+  (held ? putRows(app, held, its.path) : putPicture(app, picture, its.path)).catch(tellIt);
+}
+
+export function useClipboard(app) {
+  for (const it of ["cut", "copy"]) addEventListener(it, (event) => hold(app, event));
+  addEventListener("paste", (event) => paste(app, event));
 }

@@ -1,8 +1,68 @@
-/** Entries of a list in words, and back (docs/LISTS.md); and what people mostly give. */
+/** The sixteen rights, and ways to sum them up; entries of a list in words, and back (docs/LISTS.md); and what people
+ * mostly give. */
 import { personText } from "./names.js";
-import { ALL, CHANGE, DELETE, EDIT, FILE, FOLDER, LARGE, OF_OWNERS, PASS_THROUGH, READ, RIGHTS, VIEW, bothWords,
-  rightsIn, setOf } from "./rights.js";
 import { joined, t } from "./words.js";
+
+export const FILE = "file";
+export const FOLDER = "folder";
+export const LARGE = "large"; // a document in pieces, whose list is that of the folder that holds them
+export const UNFINISHED = "unfinished"; // one whose first version was never whole
+export const [READ, WRITE, APPEND, ADD_FILE, ADD_FOLDER] = [0x1, 0x2, 0x4, 0x2, 0x4];
+export const [PASS_THROUGH, DELETE_CHILD, DELETE] = [0x20, 0x40, 0x10000];
+export const [READ_LIST, WRITE_LIST] = [0x20000, 0x40000];
+const OF_OWNERS = READ_LIST | WRITE_LIST; // which an owner always may
+
+/** With the words of the command `room`, of a document and of a folder. Commands ask for those that are `isAsked`. */
+export const RIGHTS = [
+  [0x1, "read", "list"], [0x4, "append", "add-folder"], [0x2, "write", "add-file"], [0x20, "execute", "traverse"],
+  [0x10000, "delete"], [0x40, "delete-child"], [0x80, "read-attributes"], [0x20000, "read-acl"],
+  [0x40000, "write-acl"], [0x80000, "write-owner"], [0x8, "read-named-attrs"], [0x10, "write-named-attrs"],
+  [0x100, "write-attributes"], [0x200, "write-retention"], [0x400, "write-retention-hold"], [0x100000, "synchronize"],
+].map(([bit, ...words]) => {
+  const [onFile, onFolder = onFile, onLarge = onFile] = t.rights[bit] ?? [words[0].replaceAll("-", " ")];
+  return { bit, words, [FILE]: onFile, [FOLDER]: onFolder, [LARGE]: onLarge, isAsked: bit in t.rights,
+    isOfFolders: [PASS_THROUGH, DELETE_CHILD].includes(bit) };
+});
+
+export const ALL = RIGHTS.reduce((mask, it) => mask | it.bit, 0);
+export const [VIEW, EDIT, CHANGE] = [0x1200a9, 0x1200af, 0x1301ef];
+
+export const SETS = [["view", VIEW], ["edit", EDIT], ["change", CHANGE], ["all", ALL]]
+  .map(([name, mask]) => ({ name, mask, does: t.sets[name] }));
+
+/** The set that a mask is. (The right to remove its old pieces makes no other one of a large file's.) */
+export const setOf = (mask, kind) => SETS.find((it) => ((it.mask ^ mask) & ~(kind === LARGE ? DELETE_CHILD : 0)) === 0);
+
+const level = (name) => ({ name, word: t.levels[name][0], tells: t.levels[name][1] });
+const [SOME, NONE, MORE] = ["some", "none", "more"].map(level);
+export const [SHUT_OUT, NOT_KNOWN, SEVERAL] = ["shut", "unknown", "several"].map(level);
+const LEVELS = SETS.map(({ name }) => level(name));
+export const LEGEND = [...LEVELS.toReversed(), MORE, SOME, NONE, SHUT_OUT, NOT_KNOWN, SEVERAL];
+
+/** The rights of a mask that commands ask for. (To a large file nothing is appended.) */
+export function askedOf(mask, kind) {
+  const isOf = (it) => kind === FOLDER || !it.isOfFolders && !(kind === LARGE && it.bit === APPEND);
+  return RIGHTS.filter((it) => it.isAsked && isOf(it)).reduce((found, { bit }) => found | (mask & bit), 0);
+}
+
+export function ofLarge(own, inside) {
+  const needs = [[READ, READ | PASS_THROUGH], [WRITE, ADD_FILE | ADD_FOLDER | PASS_THROUGH]];
+  const lacks = needs.filter(([bit, all]) => (own & all) !== all || !(inside & bit));
+  return lacks.reduce((mask, [bit]) => mask & ~bit, own);
+}
+
+export function levelOf(allowed, kind) {
+  const has = askedOf(allowed, kind);
+  const kept = kind === FOLDER && DELETE;
+  const at = SETS.findLastIndex(({ mask }) => askedOf(mask & ~(mask === CHANGE ? has | kept : has), kind) === 0);
+  if (at < 0) return has ? SOME : NONE;
+  const isMore = (has & ~SETS[at].mask) !== 0;
+  return isMore ? { ...LEVELS[at], word: `${LEVELS[at].word}+` } : LEVELS[at];
+}
+
+export const rightsIn = (mask, kind) => RIGHTS.filter((it) => mask & it.bit).map((it) => it[kind]);
+export const bothWords = (right) =>
+  right[FILE] === right[FOLDER] || right.isOfFolders ? right[FOLDER] : `${right[FOLDER]} / ${right[FILE]}`;
 
 export const MOST_ENTRIES = 32; // of an object's own
 const DENY = 1;
@@ -12,23 +72,21 @@ const GROUP_FLAG = 0x40;
 const MARK = 0x80; // of what is handed down
 const [AUTO_INHERIT, PROTECTED] = [1, 2];
 
-export const WHOM = ["", "EVERYONE@", "OWNER@", "GROUP@", "user", "group"];
 export const isNamed = (id) => ["user", "group"].includes(id);
 
-/** Where an entry of a folder counts. A flag that `isTurned` stands for no. */
+/** A flag that `isTurned` stands for no. */
 export const REACH = [NOT_HERE, TO_FILES, TO_FOLDERS, CHILDREN_ALONE].map((flag, at) =>
   ({ flag, word: t.reach[at], isTurned: [NOT_HERE, CHILDREN_ALONE].includes(flag) }));
 
-export const isForNobody = (entry) => entry.who === "";
-export const isInherited = (entry) => (entry.flag & MARK) !== 0;
+export const isAlike = (one, other) => JSON.stringify(one) === JSON.stringify(other);
+export const isForNobody = ({ who }) => who === "";
+export const isInherited = ({ flag }) => (flag & MARK) !== 0;
 export const asOwn = (entry) => ({ ...entry, flag: entry.flag & ~MARK });
-export const isDeny = (entry) => entry.type === DENY;
+export const isDeny = ({ type }) => type === DENY;
 export const newEntry = (kind) => ({ type: 0, flag: kind === FILE ? 0 : BOTH, mask: VIEW, who: "" });
 
-export function whomOf(entry) {
-  if (isForNobody(entry) || entry.who.endsWith("@")) return { id: entry.who, name: "" };
-  return { id: entry.flag & GROUP_FLAG ? "group" : "user", name: entry.who };
-}
+export const whomOf = ({ who, flag }) => (who === "" || who.endsWith("@") ? { id: who, name: "" } :
+  { id: flag & GROUP_FLAG ? "group" : "user", name: who });
 
 export const withWhom = (entry, { id, name }) => ({ ...entry, who: isNamed(id) ? name : id,
   flag: (entry.flag & ~GROUP_FLAG) | (id === "group" ? GROUP_FLAG : 0) });
@@ -36,37 +94,33 @@ export const withWhom = (entry, { id, name }) => ({ ...entry, who: isNamed(id) ?
 export const byWhom = (entries) =>
   [...Map.groupBy(entries, (it) => JSON.stringify(whomOf(it))).values()].map((its) => [whomOf(its[0]), its]);
 
-/** Why an entry would count for nobody by the roster, `{"ann":["eng"]}`. */
 export function whomFault(entry, roster) {
   if (isForNobody(entry)) return t.noWhom;
   const { id, name } = whomOf(entry);
   if (!roster || !isNamed(id)) return "";
-  const known = id === "user" ? Object.keys(roster) : Object.values(roster).flat();
-  return known.includes(name) ? "" : t.notInRoster(name, id === "user");
+  const isUser = id === "user";
+  const known = isUser ? Object.keys(roster) : Object.values(roster).flat();
+  return known.includes(name) ? "" : t.notInRoster(name, isUser);
 }
 
 export const forDocument = (entry) => ({ ...entry, flag: entry.flag & GROUP_FLAG });
 
 // What a folder has to allow, or to deny, beside a document's right.
 const BESIDE = [{ 0x1: 0x20, 0x2: 0x66 }, { 0x1: 0x20, 0x2: 0x46, 0x4: 0x46 }];
-const [WRITE, APPEND] = [0x2, 0x4];
 
-/** An entry of a document, as the folder that is a large file needs it. Nothing is added at a large file's end: who may
- * append alone may do nothing to it. */
+/** A document's entry as a large file needs it. (Nothing is appended to one: that right alone lets do nothing.) */
 export function carried(entry) {
-  const more = Object.entries(BESIDE[entry.type]).filter(([bit]) => entry.mask & bit);
-  const own = isDeny(entry) || entry.mask & WRITE ? entry.mask : entry.mask & ~APPEND;
-  return { ...asOwn(entry), flag: asOwn(entry).flag | BOTH, mask: more.reduce((mask, [, it]) => mask | it, own) };
+  const { type, flag, mask } = entry;
+  const more = Object.entries(BESIDE[type]).filter(([bit]) => mask & bit);
+  const own = type === DENY || mask & WRITE ? mask : mask & ~APPEND;
+  return { ...entry, flag: flag & ~MARK | BOTH, mask: more.reduce((sum, [, it]) => sum | it, own) };
 }
 
-/** Whether a list names its owner and this user alone, also later. */
 export const isPrivate = ({ aclflag, entries }, user) => !follows(aclflag) &&
   entries.every(({ who, flag }) => who === "OWNER@" || (who === user && !(flag & GROUP_FLAG)));
-
 export const ownOf = ({ entries }) => entries.filter((it) => !isInherited(it));
 
-/** Whether all whom a folder's list lets pass may read a new document in it: entry by entry, and no where that takes
- * more thought. */
+/** Whether all whom a folder's list lets pass may read a new document in it; no where entry by entry does not tell. */
 export const passersRead = ({ entries }) => entries.every((it) => {
   const mayPass = !(it.flag & NOT_HERE) && (it.mask & PASS_THROUGH);
   const isOnFiles = it.flag & TO_FILES && it.mask & READ;
@@ -80,17 +134,13 @@ export function ownList({ aclflag, entries }) {
 }
 
 export const follows = (aclflag) => (aclflag & (AUTO_INHERIT | PROTECTED)) === AUTO_INHERIT;
-
 export const withFollows = (aclflag, isWanted) => (follows(aclflag) === isWanted ? aclflag :
   aclflag & ~(AUTO_INHERIT | PROTECTED) | (isWanted ? AUTO_INHERIT : PROTECTED));
 
 export const whomText = ({ id, name }, whose) =>
   [t.whom[id], id === "user" ? personText(name) : name, whose && `(${whose})`].filter((it) => it).join(" ");
 
-function whomWords(entry, { owner, group }) {
-  const its = whomOf(entry);
-  return whomText(its, { "OWNER@": owner, "GROUP@": group }[its.id]);
-}
+export const whomWords = (whom, { owner, group }) => whomText(whom, { "OWNER@": owner, "GROUP@": group }[whom.id]);
 
 function rightsWords({ mask, flag }, kind) {
   const set = setOf(mask, kind);
@@ -112,7 +162,7 @@ function reachWords(flag) {
 const isOfAll = ({ flag }) => (flag & (BOTH | CHILDREN_ALONE | NOT_HERE)) === BOTH;
 
 export const ruling = (entry, kind, standing) =>
-  t.ruling(isDeny(entry), whomWords(entry, standing), rightsWords(entry, kind));
+  t.ruling(isDeny(entry), whomWords(whomOf(entry), standing), rightsWords(entry, kind));
 
 export const sentence = (entry, kind, standing) => ruling(entry, kind, standing) +
   (kind === FOLDER || kind === LARGE && !isOfAll(entry) ? ` ${reachWords(entry.flag)}` : "");
@@ -124,8 +174,8 @@ function isFor(entry, { owner, group }, user, groups) {
   return id === "EVERYONE@" || (id === "user" ? name === user : groups.includes(name));
 }
 
-/** The places of the entries that decide on these rights for a user: each is the first to name one of them. Null
- * where that would not come to what the room `allowed`. */
+/** The places of the entries that are the first to name one of these rights for a user. Null where they would not come
+ * to what the room `allowed`. */
 export function deciding(object, user, groups, { rights, allowed }) {
   let [left, found] = [rights, user === object.owner ? OF_OWNERS : 0];
   const places = [];
@@ -138,7 +188,7 @@ export function deciding(object, user, groups, { rights, allowed }) {
   return ((found ^ allowed) & rights) === 0 ? places : null;
 }
 
-/** What people mostly give, as masks and flags. Who works in a folder may remove what is in it, and not itself. */
+/** What people mostly give. Who works in a folder may remove what is in it, and not itself. */
 const OF_FOLDERS = { view: [[VIEW, BOTH]], edit: [[EDIT, BOTH]],
   work: [[CHANGE & ~DELETE, 0], [CHANGE, BOTH | NOT_HERE]], all: [[ALL, BOTH]] };
 const OF_FILES = { view: [[VIEW, 0]], edit: [[EDIT, 0]], change: [[CHANGE, 0]], all: [[ALL, 0]] };
@@ -149,12 +199,12 @@ export const entriesOf = (name, whom, kind) => presetsOf(kind)[name].map(([mask,
   return kind === LARGE ? carried(it) : it;
 });
 
-const asText = (entries) => JSON.stringify(entries.map(({ type, flag, mask, who }) => [type, flag, mask, who]));
+const plain = (entries) => entries.map(({ type, flag, mask, who }) => [type, flag, mask, who]);
 
-/** Who has own entries that are a preset, `{whom, name, entries}`; `others` are those that are none. */
+/** Who has own entries that are a preset, by its `name`; `others` have others. */
 export function sharesOf(own, kind) {
   const shares = byWhom(own).map(([whom, entries]) => ({ whom, entries,
-    name: Object.keys(presetsOf(kind)).find((it) => asText(entriesOf(it, whom, kind)) === asText(entries)) }));
+    name: Object.keys(presetsOf(kind)).find((it) => isAlike(plain(entriesOf(it, whom, kind)), plain(entries))) }));
   return { shares: shares.filter((it) => it.name), others: shares.filter((it) => !it.name) };
 }
 

@@ -1,29 +1,19 @@
-/** The page: shows the place that the address names, and does what the user asks for. */
+/** Shows the place that the address names, looks again at a shown folder, and has keys for all of it. */
 import { showAccess } from "./access.js";
-import { lookAgain, looksAgain, turnLooking } from "./beside.js";
 import * as busy from "./busy.js";
-import { useClipboard } from "./clipboard.js";
-import { LANGUAGES, NOENT, ROOT, Refusal, Room, addressOf, ask, button, choose, closeAll, closedLine, end, faultLine,
-  isMenuOpen, isRefused, isUnsaved, isWithin, language, lastName, learnNames, make, namesOf, onSubmit, openMenu, part,
-  pass, pathOf, placeOf, say, settle, shown, t, tellFault, untilClosed, watch } from "./common.js";
-import { showContents } from "./contents.js";
-import { learnDav } from "./dav.js";
-import { takeDrops } from "./drag.js";
-import { forgetFound, searchFor, showFind } from "./find.js";
+import { forgetFound, searchFor, showContents, showFind, showRecent } from "./contents.js";
+import { takeDrops, useClipboard } from "./drag.js";
 import { head } from "./heads.js";
-import { showHelp } from "./help.js";
-import { isPart } from "./manifest.js";
+import { logOut } from "./login.js";
 import { showMatrix } from "./matrix.js";
-import { forget, forgetOthers } from "./mine.js";
-import { drawRail } from "./rail.js";
-import { showRecent } from "./recent.js";
-import { logOut, sessionOfTab, userNow } from "./session.js";
-import { arrive, leave, standing } from "./stand.js";
-import { warn } from "./warned.js";
-import { fileOfFront } from "./wire.js";
+import { sessionOfTab, stayAs, userNow } from "./session.js";
+import { LANGUAGES, NOENT, ROOT, Refusal, Room, addressOf, arrive, ask, button, calledIn, choose, closeAll, closedLine,
+  drawRail, end, faultLine, fileOfFront, forget, forgetOthers, heading, isMenuOpen, isPart, isRefused, isUnsaved,
+  isWithin, language, learnDav, learnNames, leave, make, namesOf, onSubmit, once, openMenu, part, pass, pathOf, placeOf,
+  say, settle, showHelp, shown, standing, t, tellFault, untilClosed, warn, watch } from "./shared.js";
 
-const VIEWS = new Map([["open", showContents], ["access", showAccess], ["who", showMatrix], ["find", showFind],
-  ["recent", showRecent]]);
+const VIEWS = new Map(Object.entries(
+  { open: showContents, access: showAccess, who: showMatrix, find: showFind, recent: showRecent }));
 
 class App {
   constructor(user, rooms) {
@@ -31,31 +21,15 @@ class App {
   }
 
   openRoom(name) {
-    if (this.opened.has(name)) return this.opened.get(name);
     const base = `/rooms/${name}`;
-    const opening = sessionOfTab(base, name, busy, this.user, (...told) => this.tellLeft(...told))
-      .then((it) => new Room(name, base, it, busy, this.user));
-    opening.catch(() => this.opened.delete(name));
-    this.opened.set(name, opening);
-    return opening;
+    return once(this.opened, name, () => sessionOfTab(base, name, busy, this.user, tellLeft)
+      .then((it) => new Room(name, base, it, busy, this.user)));
   }
 
-  tellLeft(command, reply, fault) {
-    const { cmd, path } = command;
-    if (!reply && !fault) return tellFault(leftAt(path));
-    if (["STAT", "LIST", "READ", "GETLIST", "ACCESS"].includes(cmd)) return;
-    const isDone = reply?.code === 0;
-    const how = isDone ? t.doneOnce : (fault ?? new Refusal(reply, command)).message;
-    (isDone ? say : tellFault)(t.sentBefore(cmd, shown(path), how));
-  }
-
-  /** Gives what the task gives, true for nothing, or null where its fault was told. Nothing can be pressed until the
-   * last has ended. */
+  /** Gives what the task gives, true for nothing, or null where its fault was told. Nothing can be pressed then. */
   async attempt(what, task) {
-    const about = `${this.room?.name} ${what}`;
-    const turn = this.tries += 1;
-    const main = part("main");
-    if (!main.inert) this.from = document.activeElement; // (which it loses)
+    const [about, main, turn] = [`${this.room?.name} ${what}`, part("main"), this.tries += 1];
+    if (!main.inert) this.from = document.activeElement;
     main.inert = true;
     main.ariaBusy = "true";
     try {
@@ -78,18 +52,20 @@ class App {
   async done(words, moved = null, undo = null) {
     const here = placeOf(location.hash);
     forgetFound();
-    const undoIt = undo && (() => this.attempt(t.undo, undo));
-    if (here && moved && isWithin(here.path, moved.from)) {
-      this.saying = [words, undoIt]; // (the next place tells it)
-      location.replace(addressOf({ room: here.room, path: moved.to }));
-    } else {
-      const back = standing(moved?.to);
-      say(words, undoIt);
-      await this.show(back);
+    this.saying = [words, undo && (() => this.attempt(t.undo, undo))];
+    if (here && moved && isWithin(here.path, moved.from)) { // (the next place tells it)
+      return location.replace(addressOf({ room: here.room, path: moved.to }));
     }
+    const back = standing(moved?.to);
+    this.sayIt();
+    return this.show(back);
   }
 
-  /** What went on beside the page has ended: a folder is shown anew. */
+  sayIt() {
+    if (this.saying) say(...this.saying);
+    this.saying = null;
+  }
+
   async ended() {
     await untilClosed();
     while (isMenuOpen()) await new Promise((goOn) => setTimeout(goOn, 100));
@@ -97,17 +73,16 @@ class App {
     if (this.place.view === "open") await this.show(standing());
   }
 
-  /** The address has changed: words of before are of another place, but for those that led here. */
   async come() {
-    if (!part("main")) return; // (logged out: nothing is shown any more)
+    if (!part("main")) return; // (logged out)
     if (isUnsaved() && location.hash !== this.here && !this.isLosing) return this.askToLeave();
     this.isLosing = false;
     closeAll();
     part("rail").hidePopover(); // (also by Back)
     pass();
-    if (this.saying) say(...this.saying);
-    this.saying = null;
+    this.sayIt();
     leave(this.here);
+    if (this.place.view !== "find") part("search").reset();
     await this.show(() => arrive(location.hash));
   }
 
@@ -125,13 +100,12 @@ class App {
       return await (VIEWS.get(place.view) ?? showContents)(this, place);
     } catch (fault) {
       if (isRefused(fault, NOENT)) forget(this, place.path);
-      return [...head(place, { hasViews: false }), closedLine(fault, addressOf(place), place.path)];
+      return [...head(place, { hasViews: false }), closedLine(fault, place)];
     }
   }
 
-  get place() {
-    return placeOf(location.hash) ?? { view: "open", room: this.rooms[0], path: ROOT };
-  }
+  get watched() { return document.querySelector(".drops")?.watched; }
+  get place() { return placeOf(location.hash) ?? { view: "open", room: this.rooms[0], path: ROOT }; }
 
   show(then = () => arrive(location.hash)) {
     this.shown = this.#show(then);
@@ -139,16 +113,14 @@ class App {
   }
 
   async #show(then) {
-    const place = this.place;
-    const turn = this.turn += 1;
+    const [place, main, turn] = [this.place, part("main"), this.turn += 1];
     this.here = location.hash;
-    this.watched = null;
-    await this.attempt(shown(place.path), async () => {
+    await this.attempt(shown(calledIn(place.room, place.path)), async () => {
       const nodes = await this.nodesOf(place);
       if (turn !== this.turn) return;
-      part("main").replaceChildren(...nodes);
-      part("main").dataset.place = addressOf(place); // (for tests: what is shown, once it is)
-      document.title = place.path === ROOT ? place.room : `${shown(lastName(place.path))} – ${place.room}`;
+      main.replaceChildren(...nodes);
+      main.dataset.place = addressOf(place); // (for tests: what is shown, once it is)
+      document.title = [...new Set([main.querySelector("h1").textContent, place.room])].join(" – ");
       warn(this.user, place.room);
       drawRail(this, place);
     });
@@ -162,6 +134,15 @@ function leftAt(path) {
   return t.leftAt(shown(pathOf(part < 0 ? names : names.slice(0, part))));
 }
 
+function tellLeft(command, reply, fault) {
+  const { cmd, path } = command;
+  if (!reply && !fault) return tellFault(leftAt(path));
+  if (["STAT", "LIST", "READ", "GETLIST", "ACCESS"].includes(cmd)) return;
+  const isDone = reply?.code === 0;
+  const how = isDone ? t.doneOnce : (fault ?? new Refusal(reply, command)).message;
+  (isDone ? say : tellFault)(t.sentBefore(cmd, shown(path), how));
+}
+
 const mayLose = () => ask({ title: t.leave, words: t.unsaved, does: t.discard, stays: t.typeOn, first: t.typeOn });
 
 const fail = (words) => part("main").replaceChildren(faultLine(words));
@@ -170,28 +151,62 @@ async function leaveAll() {
   if (isUnsaved() && !await mayLose()) return;
   end();
   const isOut = await logOut();
-  document.body.replaceChildren(make("main", make("h1", isOut ? t.loggedOut : t.notLoggedOut),
-    make("p", isOut ? t.forgotten : t.notForgotten),
-    make("p", button(t.logIn, () => location.reload()))));
+  document.title = "fileroom"; // (the next one may be somebody else)
+  history.replaceState(null, "", "/");
+  const words = isOut ? [make("h1", t.loggedOut), make("p", t.forgotten)] :
+    [make("h1", t.notLoggedOut), make("p", t.notForgotten)];
+  document.body.replaceChildren(make("main", words, make("p", button(t.logIn, () => location.assign("/sign-in")))));
 }
 
 function userMenu(user) {
-  part("user").textContent = user;
-  part("user").setAttribute("aria-label", t.you(user));
+  const [its, label] = [part("user"), t.you(user)];
   const speak = (it) => {
     choose(it);
     location.reload();
   };
   const others = Object.entries(LANGUAGES).filter(([it]) => it !== language)
     .map(([lang, words]) => ({ words, lang, does: () => speak(lang) }));
-  part("user").onclick = () => openMenu(part("user"), [{ words: t.help, does: showHelp }, ...others,
-    { words: t.refreshing(looksAgain()), does: turnLooking }, { words: t.logOut, does: leaveAll, isApart: true }],
-  t.you(user));
+  const onclick = () => openMenu(its, [{ words: t.help, does: showHelp }, ...others,
+    { words: t.refreshing(looksAgain()), does: turnLooking },
+    { words: t.logOut, does: leaveAll, isApart: true }], label);
+  Object.assign(its, { textContent: user, ariaLabel: label, onclick });
+}
+
+const MINUTE = 60_000; // milliseconds
+const FIELDS = "input, textarea, select, table, dialog, [popover], [role=tree]";
+const STILL = "fileroom/still";
+const looksAgain = () => !localStorage.getItem(STILL);
+const turnLooking = () => localStorage.setItem(STILL, looksAgain() ? "still" : "");
+
+const isAtWork = () => document.hidden || isMenuOpen() || isUnsaved() ||
+  document.querySelector("dialog[open], main[aria-busy], .chosen:not([hidden])") !== null;
+
+async function look(app) {
+  const its = app.watched;
+  if (!its || !looksAgain() || isAtWork()) return;
+  const found = await app.room.look("LIST", its.path, { keep: false }).catch(() => its);
+  const isOther = found !== its && JSON.stringify(found?.names) !== its.listing;
+  if (isOther && app.watched === its && !isAtWork()) await app.show(standing());
+}
+
+function go(event) {
+  const isMany = event.ctrlKey || event.metaKey;
+  const ofPicture = !event.altKey && !event.ctrlKey && !event.target.closest(FIELDS) && `.tools a.${event.key}`;
+  const keys = { ArrowLeft: ofPicture, ArrowRight: ofPicture,
+    "/": (isMany || event.target.closest(".things")) && "#search input",
+    ArrowUp: event.altKey && ".way li:last-child a",
+    z: isMany && "#notices .undo", a: isMany && ".things thead input:not(:checked)",
+    Escape: ".chosen:not([hidden]) > button:last-child" };
+  if (event.defaultPrevented || event.target.closest("input, textarea, select, dialog")) return;
+  const its = keys[event.key] && document.querySelector(keys[event.key]);
+  if (!its) return;
+  event.preventDefault();
+  if (event.key === "/") its.focus();
+  else its.click();
 }
 
 async function start() {
-  part("skip").onclick = () => (part("main").querySelector(".things [tabindex='0'], .things a") ??
-    part("main").querySelector("h1 button, h1"))?.focus();
+  part("skip").onclick = () => (part("main").querySelector(".things [tabindex='0'], .things a") ?? heading())?.focus();
   if (!navigator.locks) return fail(t.insecure);
   const user = await userNow();
   const rooms = JSON.parse(await fileOfFront("/rooms.json") ?? "[]");
@@ -206,7 +221,10 @@ async function start() {
   });
   watch(() => part("main").querySelector(".typed")?.isUnsaved());
   addEventListener("hashchange", () => app.come());
-  lookAgain(app);
+  addEventListener("pageshow", ({ persisted }) => persisted && stayAs(user)); // (by Back)
+  addEventListener("focus", () => look(app));
+  setInterval(() => look(app), MINUTE);
+  addEventListener("keydown", go);
   useClipboard(app);
   takeDrops(app);
   return app.show();

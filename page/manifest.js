@@ -1,7 +1,7 @@
 /** The form of large files: the manifest, and the names in their folder (docs/FILES.md). */
 import { fromText, hexOf, randomHex, t, toText } from "./common.js";
 
-export const NAME = ".room-file";
+export const MANIFEST = ".room-file"; // the name of one
 export const [WRITING, PIECES, GONE] = [".room-writing-", ".room-pieces-", ".room-gone-"];
 const NEW = ".room-new-";
 export const PIECE = 65_536; // bytes of each piece but the last
@@ -15,7 +15,6 @@ export const sizeFault = (bytes) =>
 export const sumOf = async (bytes) => hexOf(new Uint8Array(await crypto.subtle.digest("SHA-256", bytes)));
 export const otherName = (kind) => kind + randomHex(8);
 
-/** Of an upload that was stopped, or is under way. */
 export const isLeft = (name) => name.startsWith(WRITING);
 
 export const FIRST = "000"; // of a version's pieces
@@ -45,7 +44,6 @@ const MEMBERS = {
   size: (it, { length }) => Number.isInteger(it) && it >= PIECE * (length - 1) && it <= PIECE * length,
 };
 
-/** Null where the bytes are of another form: whoever may write a document may write any. */
 export function readManifest(bytes) {
   if (bytes.length > MOST_TEXT) return null;
   try {
@@ -63,14 +61,12 @@ export function readManifest(bytes) {
 const PART_NAME = /^\.room-(writing|pieces|gone)-[0-9a-f]{16}$/;
 const areParts = (names) => names.every(([name, kind]) => kind === "folder" && PART_NAME.test(name));
 
-/** Whether a folder with these names is a file whose first version was never whole. */
 export const isUnfinished = (names) => names.length > 0 && areParts(names);
 
-/** (Anyone who may add to a folder may put a manifest into it: that hides nothing else, nor takes it along.) */
-export const isLarge = (names) => names.some(([name, kind]) => name === NAME && kind !== "folder") &&
-  areParts(names.filter(([name]) => name !== NAME));
+/** (A manifest that somebody puts into another folder hides nothing there.) */
+export const isLarge = (names) => names.some(([name, kind]) => name === MANIFEST && kind !== "folder") &&
+  areParts(names.filter(([name]) => name !== MANIFEST));
 
-/** Where a replaced document lies, and what takes its place, till that has its name. */
 export async function beside(name) {
   const mark = (await sumOf(fromText(name))).slice(0, 16);
   return { gone: GONE + mark, its: NEW + mark };

@@ -1,21 +1,18 @@
 /** The view of who may do what: users and objects, and what the room says of each pair. */
-import { ALL, FOLDER, LEGEND, NOT_KNOWN, ROOT, SEVERAL, SHUT_OUT, askedOf, button, byName, deciding, displayName,
-  faultLine, forEach, inFolder, inOrder, labelled, lastName, levelOf, make, nameText, personText, rightsIn, ruling,
-  shown, t, whomOf } from "./common.js";
 import { head } from "./heads.js";
-import { Questions } from "./questions.js";
-import { standing } from "./stand.js";
-import { kindBy } from "./trees.js";
+import { ALL, FOLDER, LEGEND, NOT_KNOWN, ROOT, SEVERAL, SHUT_OUT, Questions, askedOf, button, byName, calledIn,
+  deciding, displayName, faultLine, forEach, inFolder, inOrder, kindBy, labelled, levelOf, make, nameIn, nameText,
+  personText, rightsIn, ruling, shown, standing, t, whomOf } from "./shared.js";
 
 const MOST_USERS = 20; // columns of users, or of one group's members
 const MOST_GROUPS = 60; // columns of groups
-const MOST_TOLD = 10; // names of a group's members in a sentence
-const MOST_OBJECTS = 40; // rows shown at first, and added each time
+const MOST_TOLD = 10; // members of a group
+const MOST_OBJECTS = 40; // rows, and more each time
 
-/** The cells of the table. Pressed, each tells more in `detail`. */
 class Cells {
   constructor(questions) {
-    Object.assign(this, { questions, detail: make("p.detail", { role: "status" }, t.chooseCell) });
+    Object.assign(this, { questions, room: questions.app.room.name });
+    this.detail = make("p.detail", { role: "status" }, t.chooseCell);
   }
 
   async levelAt({ path, kind }, user, groups) {
@@ -25,7 +22,6 @@ class Cells {
     return { allowed, barrier, isPassKnown: isKnown || Boolean(barrier), level };
   }
 
-  /** Which entries decide, in words, where they may be seen and come to what the room says. */
   async why({ path, kind }, user, groups) {
     const object = await this.questions.object(path);
     const how = { rights: askedOf(ALL, kind), allowed: await this.questions.allowed(path, user, groups) };
@@ -36,12 +32,12 @@ class Cells {
   }
 
   async told(object, user, groups, { allowed, barrier, isPassKnown }) {
-    const name = shown(object.path);
+    const [name, above] = [object.path, barrier ?? ""].map((it) => shown(calledIn(this.room, it)));
     if (allowed === null && !barrier) return t.mayUnknown(user, name, NOT_KNOWN.tells);
     const rights = rightsIn(askedOf(allowed, object.kind), object.kind);
     const may = allowed === null ? "" :
       t.mayDo(name, user, rights.length ? rights : t.doNothing, await this.why(object, user, groups));
-    if (barrier) return t.barred(user, shown(barrier), name, may);
+    if (barrier) return t.barred(user, above, name, may);
     return isPassKnown ? may : t.barUnknown(may, user);
   }
 
@@ -51,34 +47,35 @@ class Cells {
 
   async ofUser(object, [user, groups]) {
     const its = await this.levelAt(object, user, groups);
-    const isSure = its.isPassKnown || its.level === NOT_KNOWN;
-    return this.cell(its.level, its.level.word + (isSure ? "" : "?"), await this.told(object, user, groups, its));
+    const mark = its.isPassKnown || its.level === NOT_KNOWN ? "" : "?";
+    return this.cell(its.level, its.level.word + mark, await this.told(object, user, groups, its));
   }
 
-  /** What the members of a group may do: the level that all have, or the most frequent two. */
   async ofGroup(object, users) {
     const all = await Promise.all(users.map(async ([user, groups]) =>
       ({ user, level: (await this.levelAt(object, user, groups)).level })));
     const found = [...Map.groupBy(all, ({ level }) => level.word).values()].sort((a, b) => b.length - a.length);
     const both = found.slice(0, 2).map(([it]) => it.level.word).join(" / ") + (found.length > 2 ? " …" : "");
-    const words = found.map((its) => t.haveLevel(its[0].level.word, its.length,
-      its.slice(0, MOST_TOLD).map(({ user }) => user).join(", ") + (its.length > MOST_TOLD ? ", …" : ""))).join(" ");
+    const some = (its) => [...its.slice(0, MOST_TOLD).map(({ user }) => user), ...its.length > MOST_TOLD ? ["…"] : []];
+    const words = found.map((its) => t.about(its[0].level.word, `${its.length} (${some(its).join(", ")}).`)).join(" ");
     const level = found.length === 1 ? found[0][0].level : SEVERAL;
     return this.cell(level, both, words, t.about(shown(object.path), words));
   }
 
-  async row(object, columns) {
-    const its = { path: object.path, kind: await this.questions.kindOf(object) };
+  async row({ path, kind }, columns) {
+    const object = { path, kind: await this.questions.kindOf({ path, kind }) };
     const cells = await Promise.all(columns.map(({ isGroup, users }) =>
-      (isGroup ? this.ofGroup(its, users) : this.ofUser(its, users[0]))));
-    const end = its.kind === FOLDER && its.path !== ROOT && "/";
-    return make("tr", make("th", { scope: "row" }, nameText(lastName(its.path)), end), cells);
+      (isGroup ? this.ofGroup(object, users) : this.ofUser(object, users[0]))));
+    const end = object.kind === FOLDER && path !== ROOT && "/";
+    return make("tr", make("th", { scope: "row" }, nameText(nameIn(this.room, path)), end), cells);
   }
 
   async table(objects, columns, open) {
-    const titles = columns.map((it) => make("th", { scope: "col", title: it.isGroup ? "" : displayName(it.title) },
+    const named = Map.groupBy(columns, (it) => it.isGroup || displayName(it.title)); // (several may have one name)
+    const called = (user) => (named.get(displayName(user)).length > 1 ? personText(user) : displayName(user) || user);
+    const titles = columns.map((it) => make("th", { scope: "col", title: it.isGroup ? "" : personText(it.title) },
       it.isGroup ? button([nameText(it.title), ` (${it.users.length})`], () => open(it),
-        { "aria-expanded": String(it.isOpen) }) : nameText(it.title)));
+        { "aria-expanded": String(it.isOpen) }) : nameText(called(it.title))));
     const rows = [];
     await forEach([...objects.entries()], async ([at, it]) => { rows[at] = await this.row(it, columns); });
     return make("div.wide", { tabIndex: 0, role: "region", "aria-label": t.whoMay }, make("table.matrix",
@@ -86,38 +83,32 @@ class Cells {
   }
 }
 
-const legend = () => make("dl.legend", LEGEND.map((it) =>
-  make("div", make(`dt.${it.name}`, it.word), make("dd", it.tells))));
-
-/** The roster's users with their groups; without it those that are seen. */
 async function usersOf(app, questions, objects) {
   const roster = await app.room.users();
-  if (roster) return { users: Object.entries(roster), isWhole: true };
+  if (roster) return Object.entries(roster);
   const seen = new Set([app.user]);
   for (const { path } of objects) {
-    const it = await questions.object(path);
-    for (const entry of it?.entries ?? []) if (whomOf(entry).id === "user") seen.add(entry.who);
-    if (it) seen.add(it.owner);
+    const { entries, owner } = await questions.object(path) ?? { entries: [], owner: app.user };
+    for (const it of entries) if (whomOf(it).id === "user") seen.add(it.who);
+    seen.add(owner);
   }
-  return { users: [...seen].map((user) => [user, null]), isWhole: false };
+  return [...seen].map((user) => [user, null]);
 }
 
-async function objectsOf(app, path) {
-  const { kind } = await app.room.standing(path);
-  const inside = kind === FOLDER ? await app.room.names(path) : null;
-  const names = inside && kindBy(inside) === FOLDER ? inside : []; // (a large file has one row)
-  const children = [...names].sort(byName).map(([name, its]) => ({ path: inFolder(path, name), kind: its }));
-  return [{ path, kind }, ...children];
+async function objectsOf({ room }, path) {
+  const { kind } = await room.standing(path);
+  const inside = kind === FOLDER && await room.names(path) || [];
+  const names = kindBy(inside) === FOLDER ? inside : []; // (a large file has one row)
+  return [{ path, kind }, ...names.toSorted(byName).map(([name, its]) => ({ path: inFolder(path, name), kind: its }))];
 }
 
 function groupsOf(users) {
   const all = users.flatMap((it) => (it[1]?.length ? it[1] : [""]).map((group) => ({ group, it })));
-  const columns = [...Map.groupBy(all, ({ group }) => group)].map(([group, its]) =>
-    ({ title: group || t.noGroup, isGroup: true, isLast: group === "", users: its.map(({ it }) => it) }));
-  return columns.sort((a, b) => a.isLast - b.isLast || inOrder(a.title, b.title));
+  return [...Map.groupBy(all, ({ group }) => group)].map(([group, its]) =>
+    ({ title: group || t.noGroup, isGroup: true, isLast: group === "", users: its.map(({ it }) => it) }))
+    .sort((a, b) => a.isLast - b.isLast || inOrder(a.title, b.title));
 }
 
-/** A column for each user, or where they are many, for each group, which opens to its members. */
 class MatrixView {
   constructor(app, questions, objects, users) {
     Object.assign(this, { app, objects, users, count: MOST_OBJECTS, word: "", opened: new Set() });
@@ -143,7 +134,12 @@ class MatrixView {
   async draw() {
     const open = ({ title }) => this.change(() => this.opened.delete(title) || this.opened.add(title));
     const its = await this.cells.table(this.objects.slice(0, this.count), this.columns(), open);
-    this.element.replaceChildren(...this.narrow(), its, ...this.more());
+    const field = make("input", { type: "search", value: this.word });
+    field.onchange = () => this.change(() => { this.word = field.value.trim(); });
+    const left = this.objects.length - this.count;
+    const more = button(t.showMore(left), () => this.change(() => { this.count += MOST_OBJECTS; }));
+    const top = this.groups.length > 0 && labelled(this.told, field);
+    this.element.replaceChildren(make("div", top, its, left > 0 && more));
   }
 
   change(task) {
@@ -153,27 +149,15 @@ class MatrixView {
       await this.draw();
     }).then(back);
   }
-
-  more() {
-    const left = this.objects.length - this.count;
-    const show = () => this.change(() => { this.count += MOST_OBJECTS; });
-    return left > 0 ? [button(t.showMore(left), show)] : [];
-  }
-
-  narrow() {
-    if (!this.groups.length) return [];
-    const field = make("input", { type: "search", value: this.word });
-    field.onchange = () => this.change(() => { this.word = field.value.trim(); });
-    return [labelled(this.told, field)];
-  }
 }
 
 export async function showMatrix(app, place) {
   const questions = new Questions(app);
   const objects = await objectsOf(app, place.path);
-  const { users, isWhole } = await usersOf(app, questions, objects.slice(0, MOST_OBJECTS));
+  const users = await usersOf(app, questions, objects.slice(0, MOST_OBJECTS));
   const view = new MatrixView(app, questions, objects, users);
   await view.draw();
-  const note = isWhole ? [] : [faultLine(t.withoutRoster)];
-  return [...head(place), ...note, view.element, view.cells.detail, legend()];
+  const note = users.every(([, groups]) => groups) ? "" : faultLine(t.withoutRoster);
+  const legend = LEGEND.map(({ name, word, tells }) => make("div", make(`dt.${name}`, word), make("dd", tells)));
+  return [...head(place), note, view.element, view.cells.detail, make("dl.legend", legend)];
 }

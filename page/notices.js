@@ -1,6 +1,8 @@
 /** What is told over the page, below: a fault until it is closed, or what it is about goes well; a word for some
  * seconds, and one that can be undone until the next. */
-import { button, listOf, make, part } from "./dom.js";
+import { button, make, part } from "./dom.js";
+import { once } from "./room.js";
+import { toldAt } from "./wire.js";
 import { t } from "./words.js";
 
 const MOST_SHOWN = 5; // faults of one thing that are shown unasked
@@ -13,7 +15,7 @@ new ResizeObserver(() => { document.documentElement.style.scrollPaddingBottom = 
 function put(name, how, ...children) {
   const it = make(name, how, ...children);
   (it.querySelector("p") ?? it).append(" ", button(t.close, () => it.remove(), "small"));
-  section.prepend(it); // (the newest is seen first, where there are more than have room)
+  section.prepend(it); // (the newest is seen first)
   return it;
 }
 
@@ -30,7 +32,7 @@ export function say(words, undo = null) {
   if (!undo) goLater(it);
 }
 
-/** What this is about went well: its faults go, and a list of faults with the last that is in it. */
+/** What this is about went well: its faults go, also out of a list. */
 export function settle(about) {
   for (const it of section.querySelectorAll("[data-about]")) {
     if (it.dataset.about !== about) continue;
@@ -40,7 +42,6 @@ export function settle(about) {
   }
 }
 
-/** Faults of one thing that was done, `{about, words}`, below words that they have in common. */
 export function tellFaults(words, faults) {
   for (const it of faults) settle(it.about);
   if (faults.length === 1) {
@@ -58,3 +59,31 @@ export function tellFault(words, about = words) {
 }
 
 export const tellIt = (fault) => tellFault(fault.message);
+
+// What the owner of a room alone is warned of; and who tries a build that is not proved.
+
+const KEPT = "fileroom/warned"; // the day on which each warning was closed
+const closed = () => JSON.parse(localStorage.getItem(KEPT) ?? "{}");
+const today = () => new Date().toDateString();
+const asked = new Map(); // by the day on which it was asked
+
+const inDays = (words) => (days) => Number.isInteger(days) && words(days < 1 ? t.lessThanADay : t.someDays(days));
+const WORDS = { numbers_days: inDays(t.numbersEnd), memory_days: inDays(t.memoryEnds), disk_days: inDays(t.diskEnds),
+  unproved: (is) => is === true && t.isUnproved,
+  held: (users) => Array.isArray(users) && users.length > 0 && t.areHeld(users.map(String), users.length) };
+
+function line(words, key) {
+  const it = make("p.fault", words, " ", button(t.untilTomorrow, () => {
+    localStorage.setItem(KEPT, JSON.stringify({ ...closed(), [key]: today() }));
+    it.remove();
+  }, "small"));
+  return it;
+}
+
+export async function warn(user, room) {
+  const day = today();
+  const its = (await once(asked, day, () => toldAt("/warnings.json", {})))[room] ?? {};
+  const lines = Object.entries(WORDS).map(([kind, wordsOf]) => [wordsOf(its[kind]), `${user} ${room} ${kind}`])
+    .filter(([words, key]) => words && closed()[key] !== day);
+  part("warned").replaceChildren(...lines.map((it) => line(...it)));
+}

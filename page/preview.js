@@ -1,6 +1,6 @@
 /** What is shown of a document; and small pictures in rows. */
 import { button, link, make, shown, t, toBase64, toText } from "./common.js";
-import { NOBODY, readFile } from "./reading.js";
+import { readFile, whileSo } from "./reading.js";
 
 const MOST_TEXT = 2 ** 20; // letters
 const MOST_PIXELS = 100e6; // of a picture
@@ -19,8 +19,8 @@ export const isPdf = (bytes) => typeOf(bytes).endsWith("/pdf");
 export const canShow = (start) => typeOf(start) !== "" || toText(start, true) !== null;
 const pixelsOf = (it) => it.naturalWidth * it.naturalHeight;
 
-/** Null where it is none, or too large. (Until it is put somewhere a browser reads no more than its size. Its address
- * is its bytes: the policy of the page allows nothing else.) */
+/** Null where it is none, or too large. (A browser reads no more than its size till it is put somewhere. The policy of
+ * the page allows no other address.) */
 async function picture(bytes, alt, most) {
   const type = typeOf(bytes);
   if (!type.startsWith("image/")) return null;
@@ -32,18 +32,15 @@ async function picture(bytes, alt, most) {
   return isThere && pixelsOf(it) <= most ? it : null;
 }
 
-/** Of what moves by itself: several frames with a delay, or a sign of it. */
 const MOVES = /^GIF[^]*(NETSCAPE|!\xf9\x04[^]{4}\0[^]*!\xf9\x04[^]{4}\0)|^.PNG[^]*acTL|^RIFF[^]*ANIM/;
 const isMoving = (bytes) => MOVES.test(new TextDecoder("latin1").decode(bytes));
 
-/** Its first picture alone, no larger than it needs to be to cover a square of that side. */
 function still(it, side = Infinity) {
   const { naturalWidth, naturalHeight, alt } = it;
   const part = Math.min(1, side / Math.min(naturalWidth, naturalHeight));
   const [width, height] = [naturalWidth, naturalHeight].map((its) => Math.ceil(its * part));
   const first = make("canvas", { width, height, role: alt && "img", ariaLabel: alt });
-  const pen = Object.assign(first.getContext("2d"), { imageSmoothingQuality: "high" });
-  pen.drawImage(it, 0, 0, width, height);
+  Object.assign(first.getContext("2d"), { imageSmoothingQuality: "high" }).drawImage(it, 0, 0, width, height);
   return first;
 }
 
@@ -60,12 +57,11 @@ function played(it) {
 let pdfNow = ""; // the address of the one that is shown
 
 /** By the browser's viewer; its type keeps it from being read as a page. */
-function pdf(bytes, name) {
+function pdf(bytes, title) {
   URL.revokeObjectURL(pdfNow);
   pdfNow = URL.createObjectURL(new Blob([bytes], { type: "application/pdf" }));
-  const it = Object.assign(link(pdfNow, t.openPdf), { target: "_blank", rel: "noopener" });
-  return make("div", make("p", it),
-    navigator.pdfViewerEnabled && make("iframe.viewer", { src: pdfNow, title: shown(name) }));
+  return make("div", make("p", link(pdfNow, t.openPdf, { target: "_blank", rel: "noopener" })),
+    navigator.pdfViewerEnabled && make("iframe.viewer", { src: pdfNow, title }));
 }
 
 export const nothing = () => make("p", t.noText);
@@ -77,7 +73,7 @@ export function preview(bytes, name) {
       place.append(...it && isMoving(bytes) ? played(it) : [it ?? nothing()]));
     return place;
   }
-  if (isPdf(bytes)) return pdf(bytes, name);
+  if (isPdf(bytes)) return pdf(bytes, shown(name));
   const text = toText(bytes);
   if (text === null) return nothing();
   if (text === "") return make("p", t.isEmpty);
@@ -92,9 +88,7 @@ export class SmallPictures {
     Object.assign(this, { room: room.behind(), left: SMALL.bytes, pixels: SMALL.pixels, turn: Promise.resolve() });
   }
 
-  placeOf(name) {
-    return make(isPicture(name) ? "span.small-picture" : "span");
-  }
+  placeOf = (name) => make(isPicture(name) ? "span.small-picture" : "span");
 
   show(element, path, size) {
     if (!element.className) return;
@@ -105,11 +99,9 @@ export class SmallPictures {
   }
 
   async #draw(element, path, fail) {
-    const check = () => {
-      if (!element.isConnected) throw new Error(t.stopped); // (another view is shown by now)
-    };
-    check();
-    const bytes = await readFile(this.room, path, { ...NOBODY, check });
+    const transfer = whileSo(() => element.isConnected); // (else another view is shown by now)
+    transfer.check();
+    const bytes = await readFile(this.room, path, transfer);
     const it = await picture(bytes, "", Math.min(MOST_PIXELS, this.pixels));
     if (!it) return fail();
     this.pixels -= pixelsOf(it);

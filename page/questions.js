@@ -1,31 +1,25 @@
-/** What users may do with objects, as the room says; and a way for those who cannot get there. */
-import { FOLDER, LARGE, PASS_THROUGH, ROOT, addressOf, ask, askedOf, byWhom, foldersAbove, forEach, givenHere, inFolder,
-  isDeny, lastName, letterLink, listOf, make, ofLarge, once, ownOf, personText, rightsIn, shown, t, whomOf, whomText,
-  withWhom } from "./common.js";
-import { NAME } from "./manifest.js";
-import { lookInto } from "./trees.js";
+/** What users may do with objects, as the room says; who can see them; a way for others. */
+import { FOLDER, LARGE, PASS_THROUGH, READ, addressOf, ask, askedOf, byWhom, calledIn, displayName, foldersAbove,
+  forEach, givenHere, inFolder, inOrder, isDeny, joined, letterLink, listOf, make, nameIn, ofLarge, once, ownOf,
+  personText, rightsIn, shown, t, whomOf, whomText, withWhom } from "./common.js";
+import { MANIFEST } from "./manifest.js";
+import { lookInto } from "./reading.js";
 
 const MOST_NAMED = 5;
+const MOST_SEEN = 3; // names of who can see a thing
 const MOST = 40; // users of one group that are asked about
 
 export class Questions {
-  constructor(app) {
-    Object.assign(this, { app, asked: new Map() });
-  }
+  constructor(app) { Object.assign(this, { app, asked: new Map() }); }
 
-  once(key, task) {
-    return once(this.asked, key, task);
-  }
-
-  stat(path) {
-    return this.once(`stat ${path}`, () => this.app.room.asideIfAllowed("STAT", path));
-  }
+  once = (key, task) => once(this.asked, key, task);
+  stat = (path) => this.once(`stat ${path}`, () => this.app.room.look("STAT", path));
 
   /** Kind, owner, group and list, or null where the caller may not see them. */
   object(path) {
     return this.once(path, async () => {
       const stat = await this.stat(path);
-      const list = stat && await this.app.room.asideIfAllowed("GETLIST", path);
+      const list = stat && await this.app.room.look("GETLIST", path);
       if (!list) return null;
       const { owner, group } = stat;
       const names = new Set([owner, group, ...list.entries.map((it) => it.who)]);
@@ -40,25 +34,21 @@ export class Questions {
     return its.kind === LARGE ? LARGE : FOLDER;
   }
 
-  /** What the user may do, or null. Of a large file its list counts, and what it hands down. */
   async mayDo({ path, kind }, user, groups) {
     const own = await this.allowed(path, user, groups);
     if (kind !== LARGE || own === null) return own;
-    const inside = await this.allowed(inFolder(path, NAME), user, groups);
+    const inside = await this.allowed(inFolder(path, MANIFEST), user, groups);
     return inside === null ? null : ofLarge(own, inside);
   }
 
   async allowed(path, user, groups) {
     const it = await this.object(path);
-    if (user === this.app.user && !(it && groups)) return this.once(`own ${path}`, () => this.own(path));
+    const own = async () => await this.app.room.rights(path) ?? null;
+    if (user === this.app.user && !(it && groups)) return this.once(`own ${path}`, own);
     if (!it) return null;
     // (those whom a list tells apart by nothing are asked about once)
     const key = [it.names.has(user) ? user : "", ...(groups ?? []).filter((one) => it.names.has(one))].join("\n");
     return once(it.answers, key, () => this.app.room.allowed(it, user, groups ?? []));
-  }
-
-  async own(path) {
-    return await this.app.room.rights(path) ?? null;
   }
 
   /** The folders above that do not let the user pass; `isKnown` where each of them told. */
@@ -70,13 +60,54 @@ export class Questions {
   }
 }
 
-function usersOf({ id, name }, roster) {
-  const all = Object.entries(roster ?? {});
-  if (id === "EVERYONE@") return all;
-  return all.filter(([user, groups]) => (id === "user" ? user === name : id === "group" && groups.includes(name)));
+export class Seers {
+  constructor(app) { Object.assign(this, { app, questions: new Questions(app), known: new Map() }); }
+
+  /** `{words, told}`, in which they are named, or null where it is not known. */
+  async of(object) {
+    const { path, kind } = object;
+    const [its, roster] = [await this.questions.object(path), await this.app.room.users()];
+    if (!its || !roster) return null;
+    const { owner, group, entries } = its;
+    const key = kind === LARGE ? path : JSON.stringify([foldersAbove(path), owner, group, entries]);
+    return once(this.known, key, async () => {
+      const users = await this.able(object, READ);
+      const told = users && joined(named(users.map((user) => ({ user }))));
+      return users && { told, words: this.#words(users, its, roster) };
+    });
+  }
+
+  async able({ path, kind }, right) {
+    const all = Object.entries(await this.app.room.users() ?? {});
+    const allowed = await Promise.all(all.map(([user, groups]) => this.questions.mayDo({ path, kind }, user, groups)));
+    if (allowed.includes(null)) return null;
+    const having = all.filter((_, at) => allowed[at] & right);
+    const barriers = await Promise.all(having.map(([user, groups]) => this.questions.barriers(path, user, groups)));
+    const left = having.filter((_, at) => !barriers[at].folders.length);
+    const isKnown = having.every(([user], at) =>
+      user === this.app.user || barriers[at].folders.length || barriers[at].isKnown);
+    return isKnown ? left.map(([user]) => user) : null;
+  }
+
+  #words(users, { group, entries }, roster) {
+    const { user: me } = this.app;
+    if (users.length === 1 && users[0] === me) return t.onlyYou;
+    if (users.length === Object.keys(roster).length) return t.everyoneHere;
+    const listed = new Set(entries.map(whomOf).map(({ id, name }) => ({ group: name, "GROUP@": group }[id])));
+    const members = (one) => Object.keys(roster).filter((user) => roster[user].includes(one));
+    const isIn = (one) => members(one).length > 0 && members(one).every((it) => users.includes(it));
+    const groups = [...listed].filter((one) => one && isIn(one)).sort(inOrder);
+    const others = users.filter((user) => !roster[user].some((it) => groups.includes(it)));
+    const names = [...others.includes(me) ? [t.yourself] : [], ...groups,
+      ...others.filter((it) => it !== me).map((it) => displayName(it) || it).sort(inOrder)];
+    return !names.length ? t.nobody : names.length > MOST_SEEN ? t.people(users.length) : names.join(", ");
+  }
 }
 
-/** Who of those whom the entries name is shut out where: `{whom, user, folders, lacks}`. */
+const usersOf = ({ id, name }, roster) => Object.entries(roster ?? {}).filter(([user, groups]) =>
+  ({ "EVERYONE@": true, user: user === name, group: groups.includes(name) }[id]));
+
+/** Who of those whom the entries name is shut out, `{whom, user, folders, lacks}`. */
 export async function shutOut(app, { path, kind }, entries) {
   const [questions, roster, found] = [new Questions(app), await app.room.users(), []];
   for (const [whom, its] of byWhom(entries)) {
@@ -97,28 +128,26 @@ export function named(all) {
   return more > 1 ? [...users.slice(0, MOST_NAMED), t.others(more)] : users;
 }
 
-/** Sets a list, and gives what sets it back. */
 export async function setList(room, path, before, { aclflag, entries }) {
   await room.run("SETLIST", path, { aclflag, entries });
-  const after = await room.asideIfAllowed("GETLIST", path);
+  const after = await room.look("GETLIST", path);
   return { path, before, after: JSON.stringify(after) };
 }
 
-/** Sets lists back, the last first, where nobody else has set them since. */
 export async function setBack(room, changes) {
   for (const { path, before, after } of changes.toReversed()) {
     const now = await room.run("GETLIST", path);
-    if (JSON.stringify(now) !== after) throw new Error(t.about(shown(path), t.changed));
+    if (JSON.stringify(now) !== after) throw new Error(t.about(shown(calledIn(room.name, path)), t.changed));
     await room.run("SETLIST", path, { aclflag: before.aclflag, entries: ownOf(before) });
   }
 }
 
-/** Lets them pass through a folder, and no more: behind what is denied there, which still counts. */
+/** Lets them pass through a folder, and no more: behind what is denied there. */
 async function letPass(room, folder, all) {
   const list = await room.run("GETLIST", folder);
   const own = ownOf(list);
-  const whoms = new Map(all.map(({ whom }) => [JSON.stringify(whom), whom]));
-  const news = [...whoms.values()].map((whom) => withWhom({ type: 0, flag: 0, mask: PASS_THROUGH, who: "" }, whom));
+  const entries = all.map(({ whom }) => withWhom({ type: 0, flag: 0, mask: PASS_THROUGH, who: "" }, whom));
+  const news = byWhom(entries).map(([, [it]]) => it);
   const at = own.findIndex((it) => !isDeny(it));
   own.splice(at < 0 ? own.length : at, 0, ...news);
   return setList(room, folder, list, { aclflag: list.aclflag, entries: own });
@@ -127,19 +156,18 @@ async function letPass(room, folder, all) {
 const byFolder = (found) => Map.groupBy(found.flatMap((it) => it.folders.map((folder) => ({ ...it, folder }))),
   (it) => it.folder);
 
-/** Lets those who were found to be shut out pass, which is added to `changes`. */
 export async function letAll(app, object, entries, found, changes) {
   for (const [folder, those] of byFolder(found)) changes.push(await letPass(app.room, folder, those));
   const left = await shutOut(app, object, entries);
   if (left.length) throw new Error(t.stillShut(named(left)));
 }
 
-/** From which folder each entry that is handed down comes, as far as the lists above may be seen. */
+/** From which folder each entry that is handed down comes, as far as the user may see. */
 export async function origins(room, path, handed) {
   const [found, left] = [[], new Set(handed)];
   const textOf = (it) => JSON.stringify([it.type, it.mask, whomOf(it)]);
   for (const folder of foldersAbove(path).toReversed()) {
-    const list = left.size ? await room.asideIfAllowed("GETLIST", folder) : null;
+    const list = left.size ? await room.look("GETLIST", folder) : null;
     if (!list) break;
     const its = new Set(ownOf(list).map(textOf));
     for (const it of [...left].filter((one) => its.has(textOf(one)))) {
@@ -150,14 +178,12 @@ export async function origins(room, path, handed) {
   return found;
 }
 
-/** Tells who cannot get there and why, and lets them pass if wanted, which is added to `changes`. Gives the end in
- * words. */
 export async function helpThem(app, object, entries, found, changes) {
   const allCan = t.allCan(byWhom(entries).map(([whom]) => whomText(whom)));
   if (!found.length) return entries.length ? allCan : "";
   const folders = byFolder(found);
   const lacking = found.filter((it) => it.lacks);
-  const told = [...[...folders].map(([folder, those]) => t.shutOutAt(named(those), shown(folder))),
+  const told = [...[...folders].map(([it, those]) => t.shutOutAt(named(those), shown(calledIn(app.room.name, it)))),
     ...lacking.map((it) => t.lacksStill(it.user, rightsIn(it.lacks, object.kind)))];
   const pass = () => letAll(app, object, entries, found, changes);
   const isDone = await ask({ title: t.notAll, does: folders.size > 0 && t.letPass, task: pass, stays: t.close,
@@ -165,8 +191,7 @@ export async function helpThem(app, object, entries, found, changes) {
   return folders.size && isDone ? allCan : t.cannot(named(found));
 }
 
-/** By which the user tells others what they have access to now. */
 export function letterOf(place) {
-  const name = shown(place.path === ROOT ? place.room : lastName(place.path));
+  const name = shown(nameIn(place.room, place.path));
   return letterLink(t.tellThem, t.isShared(name), "", addressOf({ ...place, view: "open" }));
 }

@@ -1,55 +1,75 @@
-/** The rail: the ways to places, beside what is shown; on a phone behind one button. */
-import { FILE, FOLDER, ROOT, addressOf, lastName, link, make, nameText, part, shown, t } from "./common.js";
+/** The ways to places; favourites and latest places, which the browser keeps until another logs in. */
+import { FILE, FOLDER, ROOT, addressOf, icon, isWithin, kindByName, lastName, link, make, nameText, part, shown,
+  t } from "./common.js";
 import { hasDav } from "./dav.js";
-import { icon, kindBy } from "./icons.js";
-import { latest, stars } from "./mine.js";
 import { isInTrash, isOwnTrash, ownTrash } from "./trash.js";
 
-const MOST_LATEST = 5;
+const MOST_LATEST = 5; // that are shown
+const KEPT = "fileroom/mine/";
+const MOST = { latest: 20, stars: 20 };
+const keyOf = ({ user, room }) => `${KEPT}${user}/${room.name}`;
+const mineOf = (app) => ({ latest: [], stars: [], ...JSON.parse(localStorage.getItem(keyOf(app)) ?? "{}") });
+const without = (all, path) => all.filter(([it]) => it !== path);
 
-function roomsIn({ rooms }, place) {
-  const isNow = (room) => room === place.room && !isInTrash(place.path) && place.view !== "recent";
-  return { title: t.rooms, links: rooms.map((room) =>
-    ({ words: nameText(room), kind: "room", href: addressOf({ room, path: ROOT }), isNow: isNow(room) })) };
+function keep(app, kind, all) {
+  try {
+    localStorage.setItem(keyOf(app), JSON.stringify({ ...mineOf(app), [kind]: all.slice(0, MOST[kind]) }));
+  } catch {
+    // (the store is full of requests, which count more)
+  }
 }
 
-function changesIn(app, { room, view }) {
-  const href = addressOf({ view: "recent", room, path: ROOT });
-  return { links: hasDav(app) ? [{ words: t.recentChanges, kind: "recent", href, isNow: view === "recent" }] : [] };
+export function forgetOthers(user) {
+  const theirs = (it) => /^fileroom\/(mine|recent)\//.test(it) && !it.startsWith(`${KEPT}${user}/`);
+  for (const it of Object.keys(localStorage).filter(theirs)) localStorage.removeItem(it);
 }
 
-async function trashIn(app, place) {
-  const { path } = app.room && await ownTrash(app).catch(() => ({})) || {};
-  const href = path && addressOf({ room: app.room.name, path });
-  return { links: path ? [{ words: t.trash, kind: "trash", href, isNow: isOwnTrash(app, place.path) }] : [] };
+export const latest = (app) => mineOf(app).latest;
+export const stars = (app) => mineOf(app).stars;
+export const isStarred = (app, path) => stars(app).some(([it]) => it === path);
+export const note = (app, path, isFolder) => keep(app, "latest", [[path, isFolder], ...without(latest(app), path)]);
+
+export function turnStar(app, path, isFolder) {
+  const others = without(stars(app), path);
+  keep(app, "stars", isStarred(app, path) ? others : [[path, isFolder], ...others]);
 }
 
-/** Places of the user's own in the room, as the browser keeps them. */
-const own = (title, { room }, place, all) => ({ title, links: all.filter(([path]) => !isInTrash(path)).map(
-  ([path, isFolder]) => ({ words: nameText(lastName(path)), kind: kindBy(lastName(path), isFolder ? FOLDER : FILE),
-    href: addressOf({ room: room.name, path }), told: shown(path), isNow: path === place.path })) });
-
-const starsIn = (app, place) => own(t.favourites, app, place, app.room ? stars(app) : []);
-const latestIn = (app, place) => own(t.latest, app, place,
-  app.room ? latest(app).filter(([path]) => path !== place.path).slice(0, MOST_LATEST) : []);
-
-/** From above to below, by the app and the place that is shown. Each gives its links, `{words, kind, href, isNow}` with
- * the kind of an icon, `told` to who points at it, and a `title` if it has one; without links nothing is shown. */
-const SECTIONS = [roomsIn, changesIn, starsIn, latestIn, trashIn];
-
-function linkOf({ words, kind, href, isNow, told = "" }) {
-  const its = Object.assign(link(href, icon(kind), make("span", words)), { title: told });
-  if (isNow) its.setAttribute("aria-current", "page");
-  return make("li", its);
+export function forget(app, path) {
+  for (const kind of Object.keys(MOST)) keep(app, kind, without(mineOf(app)[kind], path));
 }
 
-const drawn = ({ title, links }) => links.length > 0 &&
-  [title && make("p.about", title), make("ul", { ...title && { ariaLabel: title } }, links.map(linkOf))];
+export function follow(app, places) {
+  const moved = (path) => [...places].find(([from]) => isWithin(path, from)) ?? [path, path];
+  const now = (path) => moved(path)[1] + path.slice(moved(path)[0].length);
+  for (const kind of Object.keys(MOST)) keep(app, kind, mineOf(app)[kind].map(([it, ...more]) => [now(it), ...more]));
+}
 
-/** (It is drawn anew where something is other: who stands in it by the keyboard stays.) */
+/** Each a title, or none, and links, with the `kind` of an icon and what is `told` to who points at it. */
+async function sectionsOf(app, { room, path, view }) {
+  const [isRecent, its] = [view === "recent", app.room?.name];
+  const { latest: last, stars: own } = app.room ? mineOf(app) : { latest: [], stars: [] };
+  const trash = app.room && (await ownTrash(app).catch(() => ({}))).path;
+  const rooms = app.rooms.map((it) => ({ words: it, kind: "room", place: { room: it, path: ROOT },
+    isNow: it === room && !isInTrash(path) && !isRecent }));
+  const linksTo = (all) => all.filter(([it]) => !isInTrash(it)).map(([it, isFolder]) => ({ words: lastName(it),
+    kind: kindByName(lastName(it), isFolder ? FOLDER : FILE), place: { room: its, path: it }, told: shown(it),
+    isNow: it === path }));
+  const recent = { words: t.recentChanges, kind: "recent", place: { view: "recent", room: its, path: ROOT },
+    isNow: isRecent };
+  const thrown = { words: t.trash, kind: "trash", place: { room: its, path: trash }, isNow: isOwnTrash(app, path) };
+  return [[t.rooms, rooms], ["", hasDav(app) ? [recent] : []], [t.favourites, linksTo(own)],
+    [t.latest, linksTo(last.filter(([it]) => it !== path).slice(0, MOST_LATEST))], ["", trash ? [thrown] : []]];
+}
+
+const linkOf = ({ words, kind, place, told, isNow }) => make("li", link(addressOf(place),
+  [icon(kind), make("span", nameText(words))], { title: told, "aria-current": isNow ? "page" : null }));
+
+const drawn = ([title, links]) => links.length > 0 &&
+  [title && make("p.about", title), make("ul", { ariaLabel: title || null }, links.map(linkOf))];
+
+/** (Anew only where something is other: who stands in it stays.) */
 export async function drawRail(app, place) {
-  const sections = await Promise.all(SECTIONS.map((it) => it(app, place)));
-  const [rail, its] = [part("rail"), make("div", sections.map(drawn))];
+  const [rail, its] = [part("rail"), make("div", (await sectionsOf(app, place)).map(drawn))];
   if (its.innerHTML !== rail.firstChild?.innerHTML) rail.replaceChildren(its);
   rail.onclick = (event) => event.target.closest("a") && rail.hidePopover();
 }

@@ -1,8 +1,57 @@
-/** A room: its commands, each a request of this tab's session, and its questions. */
-import { ACCESS, ALL, FILE, FOLDER, NOTDIR, ROOT, Refusal, folderOf } from "./common.js";
-import { fileOfFront, untilAnswered } from "./wire.js";
+/** A room: its commands, each a request of this tab's session, its questions, and what it refuses: its codes, each in
+ * words with the remedy (docs/CODES.md). */
+import { faultLine, letterLink } from "./dom.js";
+import { ALL, FILE, FOLDER, PASS_THROUGH, READ, rightsIn } from "./lists.js";
+import { ROOT, addressOf, calledIn, displayName, folderOf, personText, shown } from "./names.js";
+import { toldAt, untilAnswered } from "./wire.js";
+import { t } from "./words.js";
 
-const [WIDTH, WIDTH_BEHIND] = [6, 2]; // requests beside each other
+export const [NOENT, NOTDIR, ISDIR, EXIST, ACCESS, NOTEMPTY, TOO_DEEP, FOLDER_FULL] = [1, 2, 3, 4, 5, 6, 10, 11];
+
+const whomToAsk = ({ user, owner, above }) => [owner || above].find((it) => it && it !== user) ?? null;
+
+function askWords(whose) {
+  const whom = whomToAsk(whose);
+  if (!whom) return whose.owner ? t.isYours : t.askAnyOwner;
+  return (whose.owner ? t.askOwner : t.askAbove)(personText(whom));
+}
+
+function lackedRight({ bit, path }, command, whose) {
+  const kind = ["READ", "WRITE", "APPEND"].includes(command.cmd) ? FILE : FOLDER; // (above, only passing can lack)
+  const called = (it) => shown(calledIn(whose.room, it));
+  const words = [READ, PASS_THROUGH].includes(bit) ? t.noAccess(called(command.path ?? path)) :
+    t.lacksRight(called(path), rightsIn(bit, kind));
+  return `${words} ${askWords(whose)}`;
+}
+
+export class Refusal extends Error {
+  constructor(reply, command = {}, whose = {}) {
+    const { code, path, error } = reply;
+    super(code === ACCESS ? lackedRight(reply, command, whose) : t.refusals[code] ?? t.refused(code, error));
+    Object.assign(this, { code, path, whom: code === ACCESS ? whomToAsk(whose) : null });
+  }
+}
+
+export function closedLine({ message, whom }, place, more = "") {
+  const about = t.accessTo(shown(calledIn(place.room, place.path)));
+  return faultLine(message, whom ?
+    [" ", letterLink(t.askFor(displayName(whom) || whom), about, t.pleaseLet, addressOf(place))] : null, " ", more);
+}
+
+export const isRefused = (fault, ...codes) => fault instanceof Refusal && codes.includes(fault.code);
+
+export const orFault = (task, fits = () => true) => task.catch((fault) => {
+  if (fault instanceof Refusal && fits(fault)) return fault;
+  throw fault;
+});
+
+/** Gives `instead` where it is refused with one of these codes. */
+export async function orElse(task, instead, ...codes) {
+  const found = await orFault(task, (it) => codes.includes(it.code));
+  return found instanceof Refusal ? instead : found;
+}
+
+const [WIDTH, WIDTH_BEHIND] = [4, 1]; // requests beside each other
 export const BEHIND = "behind"; // of a step that goes on behind an answer
 
 /** What the map has there, which the task makes first. */
@@ -33,25 +82,22 @@ export class Room {
     Object.assign(this, { name, base, session, patience, user, stepKind: true, width: WIDTH });
   }
 
-  /** The same room, for what goes on behind an answer: beside what the user does then, and told to nobody. */
-  behind() {
-    const { name, base, session, patience, user } = this;
-    return Object.assign(new Room(name, base, session, patience, user), { stepKind: BEHIND, width: WIDTH_BEHIND });
-  }
+  /** The same room, for what goes on behind an answer. */
+  behind = () => Object.assign(new Room(this.name, this.base, this.session, this.patience, this.user),
+    { stepKind: BEHIND, width: WIDTH_BEHIND });
 
   async #need(reply, command) {
     if (reply.code !== 0) throw await this.refusal(reply, command);
     return reply;
   }
 
+  /** Tells whom to ask for a right, as far as the user may see. */
   async refusal(reply, command) {
-    return new Refusal(reply, command, reply.code === ACCESS ? await this.#whose(reply.path) : {});
-  }
-
-  async #whose(path) {
-    const ask = async (it) => (await this.asideIfAllowed("STAT", it).catch(() => null))?.owner;
-    const owner = await ask(path);
-    return { user: this.user, owner, above: owner || path === ROOT ? null : await ask(folderOf(path)) };
+    if (reply.code !== ACCESS) return new Refusal(reply, command);
+    const ask = async (it) => (await this.look("STAT", it).catch(() => null))?.owner;
+    const [{ path }, owner] = [reply, await ask(reply.path)];
+    const above = owner || path === ROOT ? null : await ask(folderOf(path));
+    return new Refusal(reply, command, { room: this.name, user: this.user, owner, above });
   }
 
   async run(cmd, path, more) {
@@ -65,32 +111,23 @@ export class Room {
     return this.#need(await this.session.askAside(command, isStep), command);
   }
 
-  step(cmd, path, more) {
-    return this.aside(cmd, path, more, this.stepKind);
-  }
+  step = (cmd, path, more) => this.aside(cmd, path, more, this.stepKind);
+  rename = (path, to) => this.step("RENAME", path, { to });
 
-  async asideIfAllowed(cmd, path, more) {
+  async look(cmd, path, more) {
     const reply = await this.session.askAside({ cmd, path, ...more });
     return reply.code === 0 ? reply : null;
   }
 
-  /** What the caller may do there, where the room tells. */
-  async rights(path) {
-    return (await this.asideIfAllowed("ACCESS", path, { mask: ALL }))?.allowed;
-  }
+  rights = async (path) => (await this.look("ACCESS", path, { mask: ALL }))?.allowed;
 
-  /** What is in a folder, each `[NAME, KIND]`, or null where that may not be seen. */
-  async names(path) {
-    return (await this.asideIfAllowed("LIST", path))?.names ?? null;
-  }
-
-  async list(path) {
-    return (await this.aside("LIST", path)).names;
-  }
+  /** `[NAME, KIND]` each, or null where that may not be seen. */
+  names = async (path) => (await this.look("LIST", path))?.names ?? null;
+  list = async (path) => (await this.aside("LIST", path)).names;
 
   /** What STAT tells, with the kind alone where the caller may not ask. */
   async standing(path) {
-    const stat = await this.asideIfAllowed("STAT", path);
+    const stat = await this.look("STAT", path);
     return stat ?? { kind: (await this.session.ask({ cmd: "LIST", path })).code === NOTDIR ? FILE : FOLDER };
   }
 
@@ -100,9 +137,9 @@ export class Room {
     return (await this.#need(reply)).allowed;
   }
 
-  /** The users of the roster with their groups, or null where the front does not tell them. */
+  /** The roster, `{"ann":["eng"]}`, or null where the front does not tell it. */
   async users() {
-    this.roster ??= await fileOfFront(`${this.base}.users.json`).catch(() => null);
-    return this.roster && JSON.parse(this.roster);
+    this.roster ??= await toldAt(`${this.base}.users.json`, null);
+    return this.roster;
   }
 }

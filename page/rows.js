@@ -1,19 +1,17 @@
-/** A row. Its size is asked for once it is seen, its rights where its menu is opened. Until then a folder of the room
- * stands among folders or documents by what it was before, or by its name: a row moves only where the user sorts, or
- * the view is drawn anew. Else a click would meet another. */
+/** A row. Its size is asked for once it is seen, its rights as its menu opens. Until then a folder of the room stands
+ * among folders or documents by what it was before, or by its name: no row moves below a click. */
 import { offersFor, rightsOn } from "./actions.js";
-import { FILE, FOLDER, LARGE, UNFINISHED, addressOf, button, displayName, inFolder, language, link, make, nameText,
-  openMenu, shown, t, tellFault, tellIt } from "./common.js";
 import { download } from "./downloads.js";
 import { dragRow, takeFiles, takeRows } from "./drag.js";
-import { icon, isForDisk, kindBy } from "./icons.js";
 import { putBack } from "./moving.js";
-import { sizeWords } from "./transfers.js";
-import { beforeWords, isOwnTrash, nameAt, toldBy } from "./trash.js";
-import { lookInto } from "./trees.js";
+import { FILE, FOLDER, LARGE, UNFINISHED, addressOf, beforeWords, button, calledIn, canShow, icon, inFolder, isForDisk,
+  isOwnTrash, isPdf, isPicture, kindByName, link, lookInto, make, menuButton, nameAt, nameText, ownedWords, preview,
+  readFile, shown, sizeWords, t, tellFault, tellIt, toldBy, whenWords, whileSo } from "./shared.js";
 
+const PAUSE_ON = 200; // milliseconds on a row before its details are shown
+const MOST_BYTES_OF = 2 ** 22; // of a picture among them
 const LIKE_FILE = /\.(?=\d*[a-z])\w{1,5}$/i; // (no date)
-const seenAs = new Map(); // what the room's folders are to people, by room and path, as far as it was looked at
+const seenAs = new Map(); // kinds of the room's folders to people, by room and path
 
 /** `{kind, words, size}`; a folder's size is the count of what is in it. */
 async function lookAt({ app: { room }, seers }, path, kind) {
@@ -26,63 +24,47 @@ async function lookAt({ app: { room }, seers }, path, kind) {
     { kind: FOLDER, words: t.allThings(names.length), size: names.length };
 }
 
-/** The time of what was changed today, else the day; and by whom. */
-function whenWords({ who, when }) {
-  const [then, now] = [new Date(when * 1000), new Date()];
-  const how = then.toDateString() === now.toDateString() ? { timeStyle: "short" } : { dateStyle: "medium" };
-  return make("time", { dateTime: then.toISOString(), title: then.toLocaleString(language) },
-    t.changedBy(then.toLocaleString(language, how), displayName(who) || who));
-}
-
 export class Row {
   constructor(things, [name, kind, folder = things.place.path]) {
     const { app, place, pictures } = things;
     const path = inFolder(folder, name);
     const [called, key] = [nameAt(path), `${place.room}${path}`];
+    const [words, above, tabIndex] = [shown(called), calledIn(place.room, folder), -1];
     Object.assign(this, { things, app, name, kind, folder, pictures, path, called, key });
     this.isFolder = kind === FOLDER && (seenAs.get(key) ?? (LIKE_FILE.test(called) ? LARGE : FOLDER)) === FOLDER;
-    this.picture = pictures.placeOf(this.called);
-    this.tick = make("input", { type: "checkbox", tabIndex: -1, "aria-label": t.choose(shown(this.called)) });
-    this.link = link(addressOf({ room: place.room, path }), nameText(this.called));
-    Object.assign(this.link, { tabIndex: -1, draggable: false, className: "name" });
+    this.picture = pictures.placeOf(called);
+    this.tick = make("input", { type: "checkbox", tabIndex, "aria-label": t.choose(words) });
+    this.link = link(addressOf({ room: place.room, path }), nameText(called),
+      { tabIndex, draggable: false, className: "name" });
     this.back = toldBy(path) && isOwnTrash(app, place.path) && button(t.putBack, () => putBack(app, path),
-      { tabIndex: -1, "aria-label": `${t.putBack} ${shown(this.called)}` });
-    this.more = button("⋯", () => this.open(), { tabIndex: -1, "aria-label": t.moreFor(shown(this.called)),
-      "aria-haspopup": "menu", "aria-expanded": "false", className: "small" });
-    this.whoCell = make("td.who");
-    this.whenCell = make("td.when");
-    this.kindCell = make("td.kind");
-    this.sizeCell = make("td.size");
-    const before = beforeWords(path);
-    const way = () => link(addressOf({ room: place.room, path: folder }), nameText(folder));
-    this.where = things.isFound ? Object.assign(way(), { tabIndex: -1 }) : null;
-    const cells = { where: make("td.where", this.where), who: this.whoCell, when: this.whenCell, kind: this.kindCell,
-      size: this.sizeCell };
-    const below = [before, things.isFound && make("span.place", nameText(folder))].filter(Boolean);
+      { tabIndex, "aria-label": `${t.putBack} ${words}` });
+    this.more = menuButton("⋯", { tabIndex, "aria-label": t.moreFor(words), className: "small" },
+      () => this.menu(), words);
+    this.where = things.isFound && link(addressOf({ room: place.room, path: folder }), nameText(above), { tabIndex });
+    this.cells = { where: make("td.where", this.where),
+      ...Object.fromEntries(["who", "when", "kind", "size"].map((it) => [it, make(`td.${it}`)])) };
+    const below = [beforeWords(path), things.isFound && make("span.place", nameText(above))].filter(Boolean);
     this.element = make("tr", { "aria-selected": "false" }, make("td.tick", this.tick),
       make("th", { scope: "row" }, make("div", this.picture,
         below.length ? make("div", this.link, make("div.about", below)) : this.link)),
-      things.columns.slice(1).map((it) => cells[it]), make("td.own", this.back, this.more));
+      things.columns.slice(1).map((it) => this.cells[it]), make("td.own", this.back, this.more));
     this.element.row = this;
     this.showKind();
     dragRow(this);
-    const isFolder = () => this.its?.kind === FOLDER; // (once it is known to be no large file)
-    takeRows(this.element, app, path, isFolder);
-    takeFiles(this.element, app, path, isFolder);
+    for (const take of [takeRows, takeFiles]) take(this.element, app, path, () => this.its?.kind === FOLDER);
   }
 
   get stops() {
-    return [this.tick, this.link, this.where, this.whoCell.firstChild, this.back, this.more].filter(Boolean);
+    return [this.tick, this.link, this.where, this.cells.who.firstChild, this.back, this.more].filter(Boolean);
   }
 
   showKind() {
-    this.kindName = kindBy(this.called, this.isFolder ? FOLDER : FILE);
-    const isShut = Boolean(this.its?.isShut); // (whether it is a folder or a large file is not told then)
-    this.kindCell.textContent = isShut ? t.levels.none[0] : this.its?.kind === UNFINISHED ? t.unfinished :
+    const { kind, isShut } = this.its ?? this; // (of what is shut it is not told whether it is a folder)
+    this.kindName = kindByName(this.called, this.isFolder ? FOLDER : FILE);
+    this.cells.kind.textContent = isShut ? t.levels.none[0] : kind === UNFINISHED ? t.unfinished :
       t.kinds[this.kindName];
-    const picture = icon(isShut ? "locked" : this.kindName);
-    if (!this.picture.querySelector("img, canvas")) this.picture.replaceChildren(picture);
-    const isDocument = (this.its ?? this).kind !== FOLDER;
+    if (!this.picture.querySelector("canvas")) this.picture.replaceChildren(icon(isShut ? "locked" : this.kindName));
+    const isDocument = kind !== FOLDER;
     this.link.onclick = isDocument && isForDisk(this.called) ? (event) => this.give(event) : null;
   }
 
@@ -102,7 +84,7 @@ export class Row {
 
   async #look() {
     this.its = await lookAt(this.things, this.path, this.kind);
-    this.sizeCell.textContent = this.its.words;
+    this.cells.size.textContent = this.its.words;
     this.isFolder = this.its.kind === FOLDER;
     if (this.kind === FOLDER) seenAs.set(this.key, this.its.kind);
     this.showKind();
@@ -110,50 +92,75 @@ export class Row {
     return this.its;
   }
 
-  /** Who can see it; the way from there leads to Share. */
   async tellWho() {
     const { kind, isShut } = await this.look();
     const found = isShut ? null : await this.things.seers.of({ path: this.path, kind });
     if (!found) return;
     const href = addressOf({ view: "access", room: this.things.place.room, path: this.path });
-    this.whoCell.replaceChildren(Object.assign(link(href, found.words), { tabIndex: -1, title: found.told }));
+    this.cells.who.replaceChildren(link(href, found.words, { tabIndex: -1, title: found.told }));
   }
 
   tellWhen(change) {
     this.change = change;
-    if (change) this.whenCell.replaceChildren(whenWords(change));
+    if (change) this.cells.when.replaceChildren(whenWords(change));
   }
 
   choose(isChosen) {
     this.tick.checked = isChosen;
-    this.element.setAttribute("aria-selected", String(isChosen));
-  }
-
-  rights() {
-    return rightsOn(this.app.room, this.path);
+    this.element.ariaSelected = isChosen;
   }
 
   async offers() {
-    const [its, own] = await Promise.all([this.look(), this.rights()]);
+    const [its, own] = await Promise.all([this.look(), rightsOn(this.app.room, this.path)]);
     const above = this.things.rights?.own ?? await rightsOn(this.app.room, this.folder);
     return offersFor(this.app, this.path, its.kind, { own, above, size: its.size });
   }
 
-  async open(at) {
-    if (this.isOpening) return;
-    this.isOpening = true;
-    try {
-      const offers = await this.offers();
-      openMenu(this.more, offers.length ? offers : [{ words: t.onlyLook, does() {} }], shown(this.called), at);
-    } catch (fault) {
-      tellIt(fault);
-    }
-    this.isOpening = false;
+  async menu() {
+    const offers = await this.offers();
+    return offers.length ? offers : [{ words: t.onlyLook, does() {} }];
   }
 
   async press(key) {
     const offer = (await this.offers()).find((it) => it.key === key);
-    if (offer) offer.does();
-    else tellFault(t.notOffered(shown(this.called)));
+    return offer ? offer.does() : tellFault(t.notOffered(shown(this.called)));
+  }
+}
+
+/** Beside the list, in a wide window: what the row is on which somebody stands. */
+export class Details {
+  constructor({ app, place, seers }) {
+    Object.assign(this, { place, seers, room: app.room.behind(), row: null });
+    this.element = make("section.details", { "aria-label": t.inShort }, make("p.about", t.noRow));
+  }
+
+  /** (A narrow window asks for nothing.) */
+  show(row) {
+    clearTimeout(this.timer);
+    this.timer = setTimeout(() => {
+      if (row !== this.row && this.element.checkVisibility()) this.#draw(this.row = row).catch(() => {});
+    }, PAUSE_ON);
+  }
+
+  async #draw(row) {
+    const { path, called, cells } = row;
+    const its = await row.look();
+    const [stat, seen] = await Promise.all([this.seers.questions.stat(path),
+      its.isShut ? null : this.seers.of({ path, kind: its.kind })]);
+    if (row !== this.row) return;
+    const access = addressOf({ view: "access", room: this.place.room, path });
+    this.element.replaceChildren(make("h2", icon(its.isShut ? "locked" : row.kindName), nameText(called)),
+      make("p.about", [cells.kind.textContent, its.words].filter(Boolean).join(", ")),
+      make("p.about", ownedWords(stat)),
+      ...seen ? [make("p", `${t.heads.who}: `, link(access, seen.words)), make("p.about", seen.told)] : []);
+    this.element.append(await this.#preview(row, its) ?? "");
+  }
+
+  async #preview(row, { kind, size }) {
+    if (kind !== FILE && !(kind === LARGE && isPicture(row.called) && size <= MOST_BYTES_OF)) return null;
+    const transfer = whileSo(() => row === this.row && this.element.isConnected);
+    const bytes = await readFile(this.room, row.path, transfer);
+    transfer.check();
+    return bytes.length && canShow(bytes) && !isPdf(bytes) ? preview(bytes, row.called) : null;
   }
 }

@@ -1,9 +1,8 @@
 /** A session of sixteen slots (docs/SLOTS.md). Each request is kept in localStorage before it is sent, and acts once.
  *
- * Each tab has one of its own in each room, under 'fileroom/USER/ROOM/COUNT', and holds a lock of that name. A new tab
- * takes the first one that nobody holds, so the session of a closed tab is used again. */
-import { BEHIND, end, randomHex, t } from "./common.js";
-import { fileOfFront, untilAnswered } from "./wire.js";
+ * Each tab has one in each room, under 'fileroom/USER/ROOM/COUNT', and holds a lock of that name. A new tab takes the
+ * first one that nobody holds, so that of a closed tab is used again. */
+import { BEHIND, end, fileOfFront, randomHex, t, untilAnswered } from "./common.js";
 
 const NUMBERS = 2 ** 32;
 const SLOTS = 16;
@@ -19,14 +18,12 @@ const write = (key, it) => localStorage.setItem(key, JSON.stringify(it));
 const bodyOf = (command) =>
   JSON.stringify(Object.fromEntries(Object.entries(command).sort(([a], [b]) => (a < b ? -1 : 1))));
 
-/** Gives up a command, whose number it takes. It is the same each time: so a false retry tells that the command ran. */
+/** Gives up a command, whose number it takes. (The same each time: a false retry tells that the command ran.) */
 const GIVES_UP = { cmd: "STAT", path: "/" };
 
-/** A command that changes nothing, and hardly ever is the same again. */
-const harmless = () =>
-  ({ cmd: "ACCESS", mask: crypto.getRandomValues(new Uint32Array(1))[0] & 0x1f07ff, path: "/" });
+/** It changes nothing, and hardly ever is the same again. */
+const harmless = () => ({ cmd: "ACCESS", mask: crypto.getRandomValues(new Uint32Array(1))[0] & 0x1f07ff, path: "/" });
 
-/** One slot: its requests run one after another. */
 class Lane {
   constructor(session, slot) {
     Object.assign(this, { session, slot, key: `${session.key}/slot/${slot}`, isNewest: false });
@@ -47,7 +44,7 @@ class Lane {
     for (let times = 0; ; times += 1) {
       try {
         localStorage.setItem(this.bodyKey, body);
-        this.kept = { ...this.kept, pending }; // (it is kept as it is sent)
+        this.kept = { ...this.kept, pending }; // (kept as it is sent)
         return;
       } catch (fault) {
         localStorage.removeItem(this.bodyKey);
@@ -57,21 +54,18 @@ class Lane {
     }
   }
 
-  get pending() {
-    return this.kept.pending && read(this.bodyKey);
-  }
+  get pending() { return this.kept.pending && read(this.bodyKey); }
 
-  /** A step of something longer is not sent again once the page has ended. */
   ask(command, isStep = false) {
     return this.#inTurn(async () => {
-      // (a browser that crashed may have lost what was newest: a number that was used for another command is refused)
+      // (a browser that crashed may have lost what was newest: a number that was used is refused)
       if (!this.isNewest) await this.#new(bodyOf(harmless()), false);
       this.isNewest = true;
       return this.#new(bodyOf(command), isStep);
     });
   }
 
-  /** The reply to the request that was under way when the page ended, or null where it was a step. */
+  /** The reply to the request that was under way as the page ended, or null where it was a step. */
   finish() {
     const body = localStorage.getItem(this.bodyKey);
     return this.#inTurn(() => (this.kept.pending.isStep ? this.#drop() : this.#settle(body)));
@@ -129,7 +123,6 @@ class Lane {
     }
   }
 
-  /** In a new session, where it was sent only now and cannot have acted. */
   #anew(body) {
     const { sent, isStep } = this.kept.pending;
     this.session.renew(this.kept.name);
@@ -140,7 +133,7 @@ class Lane {
 }
 
 class Session {
-  /** `key` is where it is kept, `patience` waits (busy.js), `stillUser` ends a page that is another user's by now. */
+  /** `patience` waits (busy.js), `stillUser` ends a page that is another user's by now. */
   constructor(base, key, patience, stillUser) {
     Object.assign(this, { base, key, patience, stillUser });
     Session.#renewOldForm(key);
@@ -155,8 +148,7 @@ class Session {
     const { name, number, pending } = read(key) ?? {};
     if (number === undefined) return;
     if (pending) localStorage.setItem(`${key}/slot/0/body`, pending.body);
-    const itsPending = pending && { number: pending.number, sent: pending.sent };
-    write(`${key}/slot/0`, { name, number, pending: itsPending });
+    write(`${key}/slot/0`, { name, number, pending: pending && { number: pending.number, sent: pending.sent } });
     localStorage.removeItem(key);
   }
 
@@ -165,13 +157,9 @@ class Session {
     write(this.key, this.kept);
   }
 
-  get pending() {
-    return this.lanes.filter((it) => it.pending);
-  }
+  get pending() { return this.lanes.filter((it) => it.pending); }
 
-  ask(command) {
-    return this.lanes[0].ask(command);
-  }
+  ask = (command) => this.lanes[0].ask(command);
 
   async askAside(command, isStep = false) {
     const lane = this.free.pop() ?? await new Promise((goOn) => this.queue.push(goOn));
@@ -209,38 +197,21 @@ class Session {
 
 export const userNow = async () => JSON.parse(await fileOfFront("/whoami") ?? "null");
 
-/** Where the browser is logged in as another user by now the page begins anew: the requests would be theirs. */
-async function stayAs(user) {
+/** The page begins anew where somebody else is logged in by now: the requests would be theirs. */
+export async function stayAs(user) {
   if (await userNow() === user) return;
   end();
   location.reload();
   await new Promise(() => {});
 }
 
-/** The browser forgets the login once a request with another one is refused. Whether it was. */
-export function logOut() {
-  return new Promise((tell) => {
-    const request = new XMLHttpRequest();
-    request.open("GET", new URL("/whoami", location.origin), true, "logged-out", `${Math.random()}`);
-    request.onloadend = () => tell(request.status === 401);
-    request.send();
-  });
-}
-
 /** Holds the lock until this tab ends. False where another tab has it. */
-function hold(key) {
-  return new Promise((tell, fail) => {
-    const held = navigator.locks.request(key, { ifAvailable: true }, (lock) => {
-      tell(lock !== null);
-      return lock && new Promise(() => {});
-    });
-    held.catch(fail);
-  });
-}
-
-async function firstFree(prefix) {
-  for (let count = 0; ; count += 1) if (await hold(`${prefix}${count}`)) return `${prefix}${count}`;
-}
+const hold = (key) => new Promise((tell, fail) => {
+  navigator.locks.request(key, { ifAvailable: true }, (lock) => {
+    tell(lock !== null);
+    return lock && new Promise(() => {});
+  }).catch(fail);
+});
 
 const finish = (session, tell) => Promise.all(session.pending.map((lane) => {
   const command = lane.pending;
@@ -248,11 +219,12 @@ const finish = (session, tell) => Promise.all(session.pending.map((lane) => {
   return lane.finish().then((reply) => tells(command, reply), (fault) => tells(command, null, fault));
 }));
 
-/** What was under way when a tab ended is sent again first, and its end told. */
 export async function sessionOfTab(base, room, patience, user, tell) {
   const prefix = `fileroom/${user}/${room}/`;
   const sessionAt = (key) => new Session(base, key, patience, () => stayAs(user));
-  const mine = await firstFree(prefix);
+  let count = 0;
+  while (!await hold(`${prefix}${count}`)) count += 1;
+  const mine = `${prefix}${count}`;
   const others = new Set(Object.keys(localStorage).filter((it) => it.startsWith(prefix))
     .map((it) => prefix + it.slice(prefix.length).split("/")[0]));
   others.delete(mine);

@@ -1,9 +1,55 @@
 /** The panel by which an object is shared: who has access, by what, and whether they get there. */
-import { FOLDER, MOST_ENTRIES, byWhom, button, checkbox, entriesOf, givenHere, inOrder, isDeny, levelOf, make,
-  menuButton, onSubmit, personText, presetsOf, select, sharesOf, t, usersBy, whomOf, whomText } from "./common.js";
-import { whomField } from "./people.js";
+import { FOLDER, MOST_ENTRIES, PASS_THROUGH, button, byWhom, checkbox, entriesOf, givenHere, inOrder, input, isAlike,
+  isDeny, levelOf, make, menuButton, onSubmit, personText, presetsOf, select, sharesOf, t, usersBy, whomOf,
+  whomWords } from "./common.js";
 
-/** Whom a text names, a group where it begins so or no user has that name: `{whom}`, or a `fault`. */
+const MOST_FITS = 8; // names that are shown at once
+
+function whomField(names) {
+  let [at, options] = [-1, []];
+  const list = make("ul.fits", { id: "fits", role: "listbox", "aria-label": t.who, hidden: true });
+  const field = input("", { role: "combobox", placeholder: t.who, "aria-label": t.who, "aria-autocomplete": "list",
+    "aria-controls": "fits", "aria-expanded": "false" });
+  const stand = (now) => {
+    at = now;
+    for (const [its, it] of options.entries()) it.ariaSelected = its === at;
+    if (at < 0) field.removeAttribute("aria-activedescendant");
+    else field.setAttribute("aria-activedescendant", `fits-${at}`);
+    options[at]?.scrollIntoView({ block: "nearest" });
+  };
+  const open = (isOpen) => {
+    stand(-1);
+    list.hidden = !isOpen;
+    field.ariaExpanded = isOpen;
+  };
+  const take = (words, event) => {
+    event.preventDefault();
+    field.value = words;
+    open(false);
+  };
+  const show = () => {
+    const wanted = field.value.trim().toLowerCase();
+    const fits = names.filter((it) => it.toLowerCase().includes(wanted)).slice(0, MOST_FITS);
+    options = fits.map((it, its) => make("li", { id: `fits-${its}`, role: "option", "aria-selected": "false",
+      onmousedown: (event) => take(it, event) }, it));
+    list.replaceChildren(...options);
+    open(fits.length > 0);
+  };
+  const key = (event) => {
+    const step = { ArrowDown: 1, ArrowUp: -1 }[event.key];
+    if (step) event.preventDefault();
+    if (step && list.hidden) show();
+    else if (step) stand((Math.max(at + step, -1) + options.length) % options.length);
+    else if (event.key === "Enter" && at >= 0) take(options[at].textContent, event);
+    else if (event.key === "Escape" && !list.hidden) {
+      event.stopPropagation();
+      open(false);
+    }
+  };
+  Object.assign(field, { oninput: show, onclick: show, onblur: () => open(false), onkeydown: key });
+  return { element: make("span.whom", field, list), field };
+}
+
 function whomBy(text, roster) {
   const groups = new Set(Object.values(roster ?? {}).flat());
   const isGroup = text.startsWith(t.groupMark);
@@ -17,126 +63,100 @@ function whomBy(text, roster) {
   return groups.has(name) ? { whom: { id: "group", name } } : { fault: t.noSuch(text) };
 }
 
-const isSame = (one, other) => one.id === other.id && one.name === other.name;
 const keyOf = (whom) => JSON.stringify(whom);
 const levelOfPreset = (name) => t.levels[name] ?? t.levels.change;
 
 export class SharePanel {
-  /** Of an object with its `own` entries and those that are `handed` down to it. `set` sets the own entries, and gets
-   * those that are new; `detail` shows the exact entries; with `makePrivate` that is offered. */
+  /** `set` gets the own entries and those that are new: who may not has none, and is told of the `changers`. `detail`
+   * shows the exact entries; `way` is a button. */
   constructor({ kind, owner, group }, { own, handed }, roster, does) {
     const { shares, others } = sharesOf(own, kind);
     Object.assign(this, { kind, owner, group, own, roster: roster ?? {}, isWhole: roster !== null, shares, ...does });
     this.presets = Object.keys(presetsOf(kind)).map((it) => [it, levelOfPreset(it)[0]]);
-    this.told = new Map(); // by whom, where it is told that they do not get there
-    this.from = new Map(); // by whom, where it is told from where they have it
+    [this.told, this.from] = [new Map(), new Map()]; // elements by whom, which tell who is shut out, and what is above
     const above = byWhom(handed.filter((it) => !isDeny(it))).filter(([{ id }]) => !(owner && id === "OWNER@"));
     const denied = byWhom([...own, ...handed].filter(isDeny));
-    const isAll = shares.some((it) => this.isOwners(it));
-    const isAlone = shares.length === Number(isAll) && !others.length && !above.length;
+    const ofOthers = shares.filter((it) => !this.isOwners(it));
+    const isAlone = !ofOthers.length && !others.length && !above.length;
+    this.isAll = ofOthers.length < shares.length;
     this.element = make("section.share", make("h2", t.sharedWith),
-      make("ul.given", owner && make("li", make("span", personText(owner)), isAll ? t.isOwnerOfAll : t.isOwner)),
-      shares.length > Number(isAll) &&
-        make("ul.shares", shares.filter((it) => !this.isOwners(it)).map((it) => this.row(it))),
+      make("ul.given", owner && make("li", make("span", personText(owner)), this.isAll ? t.isOwnerOfAll : t.isOwner)),
+      ofOthers.length > 0 && make("ul.shares", ofOthers.map((it) => this.row(it))),
       make("ul.given", others.filter(({ entries }) => !entries.every(isDeny)).map((it) => this.custom(it)),
-        above.map(([whom, its]) => this.above(whom, its)), denied.map(([whom]) => this.denied(whom))),
-      isAlone && make("p", owner ? t.ownerAlone : t.whom[""]), this.form(),
-      this.makePrivate && make("p.tools", button(t.makePrivate, this.makePrivate)), this.ofOwner());
+        above.map(([whom, its]) => this.above(whom, its)), denied.map(([whom]) =>
+          make("li.denied", make("span", this.wordsOf(whom)), button(t.denied, this.detail)))),
+      isAlone && make("p", owner ? t.ownerAlone : t.whom[""]), this.set ? this.form() : make("p", this.changers),
+      this.way && make("p.tools", button(...this.way)), this.set && this.ofOwner());
   }
 
-  isOwners({ whom, name }) {
-    return whom.id === "user" && whom.name === this.owner && name === "all";
-  }
+  isOwners = ({ whom, name }) => whom.id === "user" && whom.name === this.owner && name === "all";
 
-  wordsOf(whom) {
-    const whose = { "OWNER@": this.owner, "GROUP@": this.group }[whom.id];
-    return whom.id === "user" ? personText(whom.name) : whomText(whom, whose);
-  }
+  wordsOf = (whom) => (whom.id === "user" ? personText(whom.name) : whomWords(whom, this));
 
-  /** A line with room for what is told of these later. */
   line(whom, ...parts) {
     this.told.set(keyOf(whom), make("div.about"));
-    return make("li", parts, this.told.get(keyOf(whom)));
+    return make("li", make("span", this.wordsOf(whom)), parts, this.told.get(keyOf(whom)));
   }
 
-  takeButton(whom, words) {
-    return button("×", () => this.give(whom, null), { className: "small", "aria-label": t.takeFrom(words) });
-  }
+  takeButton = (whom) => this.set && button("×", () => this.give(whom, null),
+    { className: "small", "aria-label": t.takeFrom(this.wordsOf(whom)) });
 
   row({ whom, name }) {
-    const words = this.wordsOf(whom);
-    const items = this.presets.map(([it, its]) => ({ words: its, isNow: it === name,
-      about: levelOfPreset(it)[1], does: () => this.give(whom, it) }));
-    return this.line(whom, make("span", words),
-      menuButton(levelOfPreset(name)[0], { title: t.mayWhat(words) }, () => items, t.mayWhat(words)),
-      this.takeButton(whom, words));
+    const items = this.presets.map(([it, words]) => ({ words, isNow: it === name, about: levelOfPreset(it)[1],
+      does: () => this.give(whom, it) }));
+    const [level, title] = [levelOfPreset(name)[0], t.mayWhat(this.wordsOf(whom))];
+    return this.line(whom, this.set ? menuButton(level, { title }, () => items, title) : make("span.about", level),
+      this.takeButton(whom));
   }
 
-  custom({ whom }) {
-    const words = this.wordsOf(whom);
-    return this.line(whom, make("span", words), button(t.custom, this.detail, { title: t.mayWhat(words) }),
-      this.takeButton(whom, words));
-  }
+  custom = ({ whom, entries }) => this.line(whom,
+    button(entries.every((it) => it.mask === PASS_THROUGH && !isDeny(it)) ? t.passes : t.custom, this.detail,
+      { title: t.mayWhat(this.wordsOf(whom)) }), this.takeButton(whom));
 
   above(whom, entries) {
     this.from.set(keyOf(whom), make("span.from"));
-    return this.line(whom, make("span", this.wordsOf(whom)),
+    return this.line(whom,
       make("span.about", levelOf(givenHere(entries), this.kind).word, " ", this.from.get(keyOf(whom))));
   }
 
-  denied(whom) {
-    return make("li.denied", make("span", this.wordsOf(whom)), button(t.denied, this.detail));
+  tellFrom(whom, folder) {
+    const its = this.from.get(keyOf(whom));
+    if (!its || [...its.children].some((it) => it.href === folder.href)) return;
+    its.append(its.firstChild ? ", " : t.fromAbove, folder);
   }
 
-  /** Tells from where somebody has it. */
-  tellFrom(whom, ...words) {
-    this.from.get(keyOf(whom))?.replaceChildren(...words);
-  }
-
-  /** Tells that they do not get there, and lets them where that can be. */
   tellShut(whom, words, allow) {
-    this.told.get(keyOf(whom))?.replaceChildren(words, ...allow ? [" ", button(t.allowIn, allow, "small")] : []);
+    this.told.get(keyOf(whom))?.replaceChildren(words, ...allow ? [" ", button(t.letPass, allow, "small")] : []);
   }
 
   form() {
-    const groups = new Set(Object.values(this.roster).flat());
+    const groups = [...new Set(Object.values(this.roster).flat())].sort(inOrder).map((it) => t.groupMark + it);
     const people = Object.keys(this.roster).map(personText).sort(inOrder);
-    const { element, field: whom } = whomField([...people, ...[...groups].sort(inOrder).map((it) => t.groupMark + it),
-      t.whom["EVERYONE@"]]);
+    const { element, field: whom } = whomField([...people, ...groups, t.whom["EVERYONE@"]]);
     const what = select(this.presets, "view", () => {}, { "aria-label": t.may });
     this.fault = make("p.fault", { role: "alert" });
-    const keeps = this.mayKeep() && checkbox(this.owner === this.user ? t.keepMine : t.keepFull(personText(this.owner)),
-      true, () => {});
-    const form = make("form.row", element, what, make("button.main", t.share));
-    form.onsubmit = onSubmit(() => {
+    const keeps = this.kind === FOLDER && this.owner && !this.shares.length &&
+      checkbox(this.owner === this.user ? t.keepMine : t.keepFull(personText(this.owner)), true, () => {});
+    const onsubmit = onSubmit(() => {
       const found = whomBy(whom.value.trim(), this.isWhole ? this.roster : null);
       this.fault.textContent = found.fault ?? "";
       const isKept = keeps && keeps.firstChild.checked && what.value !== "view";
-      if (found.whom) this.give(found.whom, what.value, isKept ? this.allOfOwner() : []);
+      const all = isKept ? entriesOf("all", { id: "user", name: this.owner }, this.kind) : [];
+      if (found.whom) this.give(found.whom, what.value, all);
       else whom.focus();
     });
-    return make("div", form, keeps, this.fault);
-  }
-
-  allOfOwner() {
-    return entriesOf("all", { id: "user", name: this.owner }, this.kind);
-  }
-
-  /** Whether the owner of a folder that is shared for the first time may have no rights on what others add to it. */
-  mayKeep() {
-    return this.kind === FOLDER && this.owner && !this.shares.length;
+    return make("div", make("form.row", { onsubmit }, element, what, make("button.main", t.share)), keeps, this.fault);
   }
 
   give(whom, name, more = []) {
-    const had = this.own.filter((it) => !isDeny(it) && isSame(whomOf(it), whom));
+    const had = this.own.filter((it) => !isDeny(it) && isAlike(whomOf(it), whom));
     const news = name ? entriesOf(name, whom, this.kind) : [];
     const own = [...had.length ? this.own.flatMap((it) => (it === had[0] ? news : had.includes(it) ? [] : [it])) :
-      [...this.own, ...news], ...isSame(whom, whomOf(more[0] ?? { who: "" })) ? [] : more];
+      [...this.own, ...news], ...isAlike(whom, whomOf(more[0] ?? { who: "" })) ? [] : more];
     if (own.length > MOST_ENTRIES) this.tellFull(whom, name, own.length);
     else this.set(own, news);
   }
 
-  /** A group is offered in the place of those in it who have the same. */
   tellFull(whom, name, count) {
     const same = sharesOf(this.own, this.kind).shares.filter((it) => it.whom.id === "user" && it.name === name);
     const users = new Set([...same.map((it) => it.whom.name), whom.name]);
@@ -158,11 +178,8 @@ export class SharePanel {
   }
 
   ofOwner() {
-    if (this.kind !== FOLDER || !this.owner) return null;
-    const whom = { id: "user", name: this.owner };
-    const isGiven = this.shares.some((it) => this.isOwners(it));
-    const its = personText(this.owner);
-    return !isGiven && make("p.about", t.othersMake(its), " ",
-      button(t.giveOwner(its), () => this.give(whom, "all"), "small"));
+    if (this.kind !== FOLDER || !this.owner || this.isAll) return null;
+    const [whom, its] = [{ id: "user", name: this.owner }, personText(this.owner)];
+    return make("p.about", t.othersMake(its), " ", button(t.giveOwner(its), () => this.give(whom, "all"), "small"));
   }
 }

@@ -1,11 +1,10 @@
 /** The table of what is in a folder, or was found: heads sort, keys walk, several rows are chosen. */
-import { DELETE, DELETE_CHILD, button, forEach, inOrder, make, pointOf, t, tellIt } from "./common.js";
+import { rightsOn } from "./actions.js";
 import { downloadAll } from "./downloads.js";
 import { copyTo, move, putAllBack, remove } from "./moving.js";
-import { SmallPictures } from "./preview.js";
-import { Row } from "./rows.js";
-import { Seers } from "./seers.js";
-import { isOwnTrash } from "./trash.js";
+import { Details, Row } from "./rows.js";
+import { DELETE, DELETE_CHILD, Seers, SmallPictures, button, forEach, inOrder, isOwnTrash, make, offered, pointOf, t,
+  tellIt } from "./shared.js";
 
 const SORT = "fileroom/sort";
 const WIDTH_WHO = 2; // rows of which it is asked at once who can see them
@@ -19,26 +18,24 @@ const BY = {
   when: (one, other) => (one.change?.when ?? 0) - (other.change?.when ?? 0),
 };
 const HEADS = ["name", "where", "who", "when", "kind", "size"];
+const rowOf = (event) => (event.target.closest("[popover]") ? null : event.target.closest("tr")?.row);
 
 class ChosenBar {
   constructor(things) {
     const { app, place } = things;
     Object.assign(this, { things, turn: 0 });
     this.words = make("span", { role: "status" });
-    this.buttons = Object.entries({
-      ...isOwnTrash(app, place.path) && { back: [t.putBack, putAllBack] },
-      move: [t.move, move],
-      copy: [t.copy, copyTo],
-      download: [t.download, (_, paths) => downloadAll(app, place.path, paths)],
-      remove: [t.remove, remove],
-    }).map(([key, [words, does]]) =>
-      ({ key, its: button(words, () => does(app, things.chosen.map((it) => it.path))) }));
+    this.buttons = offered([[isOwnTrash(app, place.path), [t.putBack, putAllBack]], [true, [t.move, move]],
+      [true, [t.copy, copyTo]], [true, [t.download, (_, paths) => downloadAll(app, place.path, paths)]],
+      [true, [t.remove, remove]]]).map(([words, does]) =>
+      button(words, () => does(app, things.chosen.map((it) => it.path))));
+    const remover = this.buttons.at(-1);
+    this.remove = () => remover.hidden || remover.click();
     this.element = make("div.tools.chosen", { role: "group", "aria-label": t.chosenLabel, hidden: true },
-      this.words, this.buttons.map(({ its }) => its), button(t.chooseNone, () => things.choose([])));
-  }
-
-  press(key) {
-    this.buttons.find((it) => it.key === key && !it.its.hidden)?.its.click();
+      this.words, this.buttons, button(t.chooseNone, () => {
+        things.choose([]);
+        things.keys.at.focus({ preventScroll: true });
+      }));
   }
 
   async show(rows) {
@@ -47,18 +44,19 @@ class ChosenBar {
     this.element.hidden = !rows.length;
     document.querySelector("#main .tools.makers")?.toggleAttribute("hidden", rows.length > 0);
     const mayRemove = this.things.rights?.own & DELETE_CHILD ||
-      (await Promise.all(rows.map((it) => it.rights()))).every((it) => it & DELETE);
+      (await Promise.all(rows.map((it) => rightsOn(it.app.room, it.path)))).every((it) => it & DELETE);
     if (turn !== this.turn) return;
-    for (const { key, its } of this.buttons) its.hidden = !mayRemove && key !== "copy" && key !== "download";
+    for (const it of this.buttons) it.hidden = !mayRemove && ![t.copy, t.download].includes(it.textContent);
   }
 }
 
-/** The table is one stop of the Tab key. */
+const nearest = (all, at) => all[Math.max(Math.min(at, all.length - 1), 0)];
+
 class GridKeys {
   constructor(things) {
     Object.assign(this, { things, letters: "", typedAt: 0, at: null });
-    things.element.onkeydown = (event) => !event.target.closest("[popover]") && this.key(event);
-    things.element.onfocusin = (event) => this.stand(event.target);
+    things.table.onkeydown = (event) => !event.target.closest("[popover]") && this.key(event);
+    things.table.onfocusin = (event) => this.stand(event.target);
     this.stand(things.shown[0].link);
   }
 
@@ -69,17 +67,8 @@ class GridKeys {
     element.tabIndex = 0;
   }
 
-  get lines() {
-    return [this.things, ...this.things.shown].map((it) => it.stops.filter((one) => one.checkVisibility()));
-  }
-
-  go(line, column) {
-    const nearest = (all, at) => all[Math.max(Math.min(at, all.length - 1), 0)];
-    nearest(nearest(this.lines, line), column)?.focus();
-  }
-
   key(event) {
-    const { lines } = this;
+    const lines = [this.things, ...this.things.shown].map((it) => it.stops.filter((one) => one.checkVisibility()));
     const line = lines.findIndex((it) => it.includes(event.target));
     if (line < 0) return;
     const column = lines[line].indexOf(event.target);
@@ -89,7 +78,7 @@ class GridKeys {
     const goal = !event.altKey && goals[event.key];
     if (goal) {
       if (event.shiftKey && row) this.things.last ??= row;
-      this.go(...goal);
+      nearest(nearest(lines, goal[0]), goal[1])?.focus();
       const now = this.things.shown[goal[0] - 1];
       if (event.shiftKey && now) this.things.chooseTo(now);
     } else if (!this.does(event, row, isMany) && !this.search(event, line - 1, isMany)) return;
@@ -97,18 +86,18 @@ class GridKeys {
   }
 
   does(event, row, isMany) {
-    const { things } = this;
-    if (isMany && event.key === "a") things.choose(things.rows);
-    else if (event.key === "Escape" && things.chosen.length) things.choose([]);
-    else if (event.key === " " && event.target === row?.link) things.toggle(row);
-    else if (event.key === "Delete" && things.chosen.length) things.bar.press("remove");
-    else if (["F2", "Delete"].includes(event.key) && row) row.press(event.key === "F2" ? "rename" : "remove");
+    const [{ things }, { key }] = [this, event];
+    if (isMany && key === "a") things.choose(things.rows);
+    else if (key === "Escape" && things.chosen.length) things.choose([]);
+    else if (key === " " && event.target === row?.link) things.toggle(row);
+    else if (key === "Delete" && things.chosen.length) things.bar.remove();
+    else if (["F2", "Delete"].includes(key) && row) row.press(key === "F2" ? "rename" : "remove");
     else return false;
     return true;
   }
 
   search(event, line, isMany) {
-    if (event.key.length !== 1 || event.key === " " || event.key === "/" || isMany || event.altKey) return false;
+    if (event.key.length !== 1 || " /".includes(event.key) || isMany || event.altKey) return false;
     const isNew = event.timeStamp - this.typedAt > PAUSE;
     this.letters = (isNew ? "" : this.letters) + event.key.toLowerCase();
     this.typedAt = event.timeStamp;
@@ -120,14 +109,13 @@ class GridKeys {
   }
 }
 
-/** `names` are `[NAME, KIND]`, or what was found `[NAME, KIND, FOLDER]`; `rights` are those on the folder, or null.
- * `changes` will tell by paths who changed what and when, where that can be known; what was found comes by them. */
+/** `names` are `[NAME, KIND]`, or with `rights` null what was found, `[NAME, KIND, FOLDER]`. */
 export class Things {
   constructor(app, place, names, rights, changes = null) {
-    const isFound = rights === null;
+    const [isFound, isThrown] = [rights === null, isOwnTrash(app, place.path)];
     Object.assign(this, { app, place, rights, last: null, isFound, inSight: new Set() });
     const without = [...isFound ? [] : ["where"], ...changes ? isFound ? ["who", "kind"] : [] : ["when"],
-      ...isOwnTrash(app, place.path) ? ["who"] : []];
+      ...isThrown ? ["who"] : []];
     this.columns = HEADS.filter((it) => !without.includes(it));
     const [by, isDown] = isFound && changes ? ["when", "down"] : (localStorage.getItem(SORT) ?? "name").split(" ");
     this.sort = { by: this.columns.includes(by) ? by : "name", isDown: Boolean(isDown) };
@@ -135,22 +123,22 @@ export class Things {
     this.rows = names.map((it) => new Row(this, it));
     this.bodies = [make("tbody"), make("tbody")]; // folders, and documents behind them
     this.bar = new ChosenBar(this);
-    const tag = isOwnTrash(app, place.path) ? "table.things.thrown" : "table.things";
-    this.element = make(tag, { role: "grid", "aria-label": t.contents, "aria-multiselectable": "true" },
-      this.head(), this.bodies);
-    this.element.onclick = (event) => this.click(event);
-    this.element.ondblclick = (event) => this.open(event);
-    this.element.oncontextmenu = (event) => this.menu(event);
+    this.table = make(isThrown ? "table.things.thrown" : "table.things", { role: "grid", "aria-label": t.contents,
+      "aria-multiselectable": "true", onclick: (event) => this.click(event), ondblclick: (event) => this.open(event),
+      oncontextmenu: (event) => this.menu(event) }, this.head(), this.bodies);
+    this.details = new Details(this);
+    this.table.addEventListener("focusin", (event) => rowOf(event) && this.details.show(rowOf(event)));
+    this.element = make("div.listed", this.table, this.details.element);
     this.draw();
     this.keys = new GridKeys(this);
     this.watch();
-    const dated = changes?.then((found) => this.tellWhen(found)).catch(() => {}); // (what is not known is left out)
+    const dated = changes?.then((found) => this.tellWhen(found)).catch(() => {});
     this.inOrder = { size: () => this.lookAtAll(), when: () => dated }[this.sort.by]?.() ?? null;
   }
 
   head() {
-    this.all = make("input", { type: "checkbox", tabIndex: -1, "aria-label": t.chooseAll });
-    this.all.onchange = () => this.choose(this.all.checked ? this.rows : []);
+    const onchange = () => this.choose(this.all.checked ? this.rows : []);
+    this.all = make("input", { type: "checkbox", tabIndex: -1, "aria-label": t.chooseAll, onchange });
     this.heads = this.columns.map((by) => {
       const its = by in BY && button(t.heads[by], () => this.sortBy(by), { tabIndex: -1 });
       return { by, button: its, cell: make(`th.${by}`, { scope: "col" }, its || t.heads[by]) };
@@ -158,32 +146,19 @@ export class Things {
     return make("thead", make("tr", make("td.tick", this.all), this.heads.map((it) => it.cell), make("td.own")));
   }
 
-  get stops() {
-    return [this.all, ...this.heads.map((it) => it.button).filter(Boolean)];
-  }
-
-  get shown() {
-    return this.bodies.flatMap((it) => [...it.rows].map(({ row }) => row));
-  }
-
-  get chosen() {
-    return this.shown.filter((it) => it.tick.checked);
-  }
-
-  sorted(rows) {
-    const { by, isDown } = this.sort;
-    const turn = isDown ? -1 : 1;
-    return rows.sort((one, other) => BY[by](one, other) * turn || inOrder(one.name, other.name) *
-      (by === "name" ? turn : 1));
-  }
+  get stops() { return [this.all, ...this.heads.map((it) => it.button).filter(Boolean)]; }
+  get shown() { return this.bodies.flatMap((it) => [...it.rows].map(({ row }) => row)); }
+  get chosen() { return this.shown.filter((it) => it.tick.checked); }
 
   draw() {
-    for (const { by, cell } of this.heads.filter((it) => it.button)) {
-      const isBy = by === this.sort.by;
-      cell.setAttribute("aria-sort", isBy ? this.sort.isDown ? "descending" : "ascending" : "none");
-    }
-    this.bodies.forEach((it, at) => it.replaceChildren(...this.sorted(this.rows.filter((row) => row.isFolder === !at))
-      .map(({ element }) => element)));
+    const { by, isDown } = this.sort;
+    const [sorted, turn] = isDown ? ["descending", -1] : ["ascending", 1];
+    for (const it of this.heads.filter((one) => one.button)) it.cell.ariaSort = it.by === by ? sorted : "none";
+    const rows = [...this.rows].sort((one, other) => BY[by](one, other) * turn ||
+      inOrder(one.name, other.name) * (by === "name" ? turn : 1));
+    const isMixed = this.isFound && by === "when";
+    this.bodies.forEach((it, at) => it.replaceChildren(
+      ...rows.filter((row) => (isMixed || row.isFolder) === !at).map(({ element }) => element)));
   }
 
   async sortBy(by) {
@@ -193,10 +168,7 @@ export class Things {
     if (by === "size") await this.lookAtAll();
   }
 
-  async lookAtAll() {
-    await forEach(this.rows, (it) => it.look()).catch(tellIt);
-    this.draw();
-  }
+  lookAtAll = () => forEach(this.rows, (it) => it.look()).catch(tellIt).then(() => this.draw());
 
   tellWhen(found) {
     for (const it of this.rows) it.tellWhen(found.get(it.path));
@@ -214,7 +186,6 @@ export class Things {
     for (const it of this.rows) this.seen.observe(it.element);
   }
 
-  /** Of rows that are in sight, a few at once. (What a room does not tell is left out.) */
   async tellWho() {
     if (this.isTelling || !this.columns.includes("who")) return;
     this.isTelling = true;
@@ -228,26 +199,25 @@ export class Things {
     this.isTelling = false;
   }
 
-  /** One more, behind all others: they stay where they are. */
   add(entry) {
     const row = new Row(this, entry);
     this.rows.push(row);
-    this.bodies[1].append(row.element);
+    this.bodies[1].append(row.element); // (all others stay where they are)
     this.seen.observe(row.element);
   }
 
   choose(rows) {
     const chosen = new Set(rows);
     for (const it of this.rows) it.choose(chosen.has(it));
-    this.all.checked = chosen.size > 0 && chosen.size === this.rows.length;
+    this.all.checked = chosen.size === this.rows.length;
     this.all.indeterminate = chosen.size > 0 && !this.all.checked;
     this.bar.show(this.chosen);
   }
 
   toggle(row) {
-    const isChosen = row.element.getAttribute("aria-selected") === "true";
+    const others = this.chosen.filter((it) => it !== row);
     this.last = row;
-    this.choose(isChosen ? this.chosen.filter((it) => it !== row) : [...this.chosen, row]);
+    this.choose(row.element.ariaSelected === "true" ? others : [...others, row]);
   }
 
   chooseTo(row) {
@@ -258,31 +228,26 @@ export class Things {
   }
 
   click(event) {
-    const row = event.target.closest("tr")?.row;
+    const [row, isMany, { target, shiftKey }] = [rowOf(event), event.ctrlKey || event.metaKey, event];
     if (row && event.detail > 1) return event.preventDefault(); // (one click opens)
-    const isMany = event.ctrlKey || event.metaKey;
-    if (!row || event.target.closest("button, [popover]")) return;
-    if (event.target === row.tick && !event.shiftKey) return this.toggle(row);
-    if (event.target.closest("a") && !isMany && !event.shiftKey) return;
-    if (event.target !== row.tick) event.preventDefault();
-    if (event.shiftKey) this.chooseTo(row);
+    if (!row || target.closest("button")) return;
+    if (target === row.tick && !shiftKey) return this.toggle(row);
+    if (target.closest("a") && !isMany && !shiftKey) return;
+    if (target !== row.tick) event.preventDefault();
+    if (shiftKey) this.chooseTo(row);
     else if (isMany) this.toggle(row);
-    else {
-      this.choose([row]);
-      this.last = row;
-    }
+    else this.choose([this.last = row]);
     row.link.focus({ preventScroll: true });
   }
 
   open(event) {
-    const row = event.target.closest("tr")?.row;
-    if (row && !event.target.closest("a, button, input, [popover]")) row.link.click();
+    if (!event.target.closest("a, button, input")) rowOf(event)?.link.click();
   }
 
   menu(event) {
-    const row = event.target.closest("tr")?.row;
-    if (!row || event.target.closest("[popover]")) return;
+    const row = rowOf(event);
+    if (!row) return;
     event.preventDefault();
-    row.open(event.button === 2 ? pointOf(event) : null); // (by key below its button)
+    row.more.show(event.button === 2 ? pointOf(event) : null); // (by key below its button)
   }
 }

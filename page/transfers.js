@@ -4,7 +4,6 @@ import { ask, besideIt, button, language, lastName, make, part, say, settle, sho
 import { NOBODY } from "./reading.js";
 
 class Cancelled extends Error {}
-
 const { format: inTenths } = new Intl.NumberFormat(language, { minimumFractionDigits: 1, maximumFractionDigits: 1 });
 
 export function sizeWords(bytes) {
@@ -14,7 +13,6 @@ export function sizeWords(bytes) {
 }
 
 class Transfer {
-  /** `unit` tells a count in words; `about` is what it is among all others. */
   constructor(app, title, { total, unit = sizeWords, about }) {
     Object.assign(this, { app, title, total, unit, about, notes: [], faults: [], done: 0, isCancelled: false });
     this.start = performance.now();
@@ -25,15 +23,11 @@ class Transfer {
     this.add(0);
   }
 
-  get seconds() {
-    return inTenths((performance.now() - this.start) / 1_000);
-  }
+  get seconds() { return inTenths((performance.now() - this.start) / 1_000); }
 
-  quiet() {
-    return { ...NOBODY, check: () => this.check(), fail: (words) => this.fail(words) };
-  }
+  quiet = () => ({ ...NOBODY, check: () => this.check(), fail: (words) => this.fail(words) });
 
-  /** Of what goes on behind the answer faults alone are told, once it has ended. */
+  /** Behind the answer faults alone are told, once it has ended. */
   behind() {
     const [title, faults] = [this.title, []];
     return { ...NOBODY, fail: (words) => faults.push({ words, about: this.about }),
@@ -55,15 +49,10 @@ class Transfer {
     if (!this.isCancelled) this.words.textContent = t.ofAll(this.unit(this.done), this.unit(this.total));
   }
 
-  note(words) {
-    this.notes.push(words);
-  }
+  note = (words) => this.notes.push(words);
+  fail = (words, about = this.about) => this.faults.push({ words, about });
 
-  fail(words, about = this.about) {
-    this.faults.push({ words, about });
-  }
-
-  /** Somebody else wrote a version meanwhile: true to put this one in its place, the path of a copy, or null. */
+  /** Somebody else wrote a version meanwhile: true to replace it, the path of a copy, or null. */
   async overtaken(path, owner) {
     const chosen = await ask({ title: t.overtaken(shown(lastName(path))), does: t.replace,
       words: owner ? t.newerOf(owner) : [], others: [{ words: t.keepCopy, value: "copy" }] });
@@ -71,7 +60,6 @@ class Transfer {
   }
 }
 
-/** Runs the task beside the page, and tells what it gives, in words, and its faults. */
 export async function transferring(app, title, how, task) {
   const it = new Transfer(app, title, how);
   const unwatch = watchEnd(it);
@@ -83,10 +71,9 @@ export async function transferring(app, title, how, task) {
   } catch (fault) {
     if (fault instanceof Cancelled) words = t.cancelled(title);
     else it.fail(fault.message);
-  } finally {
-    unwatch();
-    it.element.remove();
   }
+  unwatch();
+  it.element.remove();
   const plain = [words, ...it.notes].filter(Boolean);
   if (plain.length) say(plain.join(" "));
   tellFaults(it.title, it.faults);

@@ -1,11 +1,7 @@
 /** A field that holds a folder: a tree that opens as it is walked, and folders that were chosen before. */
-import { GaveUp } from "./busy.js";
-import { FOLDER, LARGE, NOTDIR, ROOT, ask, button, byName, clean, foldersAbove, inFolder, isWithin, lastName, make,
-  nameFault, nameInput, nameText, shown, t, tellIt } from "./common.js";
-import { icon } from "./icons.js";
-import { isPart } from "./manifest.js";
-import { latest } from "./mine.js";
-import { kindBy, lookInto } from "./trees.js";
+import { FOLDER, LARGE, NOTDIR, ROOT, GaveUp, ask, button, byName, calledIn, clean, foldersAbove, icon, inFolder,
+  isPart, isWithin, kindBy, latest, lookInto, make, nameFault, nameIn, nameInput, nameText, shown, t,
+  tellIt } from "./shared.js";
 
 const MOST_RECENT = 4;
 const LIKE_FILE = /\.[^.]{1,5}$/; // of such folders it is asked whether they are large files
@@ -20,14 +16,13 @@ async function foldersIn(room, path) {
 }
 
 export class FolderTree {
-  /** `barred` are paths of what is to go there, and not into itself. */
+  /** `barred` are paths of what is to go there. */
   constructor(app, barred, value) {
     Object.assign(this, { app, barred, value, items: new Map() });
     this.told = make("p", { role: "status" });
     this.legend = make("legend");
-    this.list = make("ul.tree", { role: "tree", "aria-label": t.toFolder });
-    this.list.onkeydown = (event) => this.key(event);
-    this.list.onclick = (event) => this.click(event);
+    this.list = make("ul.tree", { role: "tree", "aria-label": t.toFolder, onkeydown: (event) => this.key(event),
+      onclick: (event) => this.click(event) });
     const folders = latest(app).filter(([it, isFolder]) => isFolder && it !== value && !this.isBarred(it));
     const recent = folders.slice(0, MOST_RECENT).map(([it]) =>
       button(nameText(this.nameOf(it)), () => this.goTo(it), { className: "small", title: shown(it) }));
@@ -38,17 +33,11 @@ export class FolderTree {
     this.goTo(value);
   }
 
-  nameOf(path) {
-    return path === ROOT ? this.app.room.name : lastName(path);
-  }
-
-  isBarred(path) {
-    return this.barred.some((it) => isWithin(path, it));
-  }
+  nameOf = (path) => nameIn(this.app.room.name, path);
+  isBarred = (path) => this.barred.some((it) => isWithin(path, it));
 
   tell() {
-    const path = this.value === ROOT ? this.app.room.name : this.value;
-    this.legend.replaceChildren(t.toFolder, make("b", nameText(path)));
+    this.legend.replaceChildren(t.toFolder, make("b", nameText(calledIn(this.app.room.name, this.value))));
   }
 
   item(path) {
@@ -62,7 +51,7 @@ export class FolderTree {
   choose(it) {
     this.value = it.path;
     for (const other of this.items.values()) {
-      other.setAttribute("aria-selected", String(other === it));
+      other.ariaSelected = other === it;
       other.tabIndex = other === it ? 0 : -1;
     }
     this.tell();
@@ -78,33 +67,30 @@ export class FolderTree {
     it.scrollIntoView({ block: "nearest" });
   }
 
-  /** Once it is open: who asks for one that opens already waits for that. */
   open(it) {
-    if (it?.getAttribute("aria-expanded") === "false") it.opening = this.#open(it);
+    if (it?.ariaExpanded === "false") it.opening = this.#open(it);
     return it?.opening;
   }
 
   async #open(it) {
-    it.setAttribute("aria-expanded", "true");
-    it.setAttribute("aria-busy", "true");
+    Object.assign(it, { ariaExpanded: "true", ariaBusy: "true" });
     this.told.textContent = "";
     try {
-      const found = await foldersIn(this.app.room, it.path);
-      const folders = found.filter((path) => !this.isBarred(path));
-      if (!folders.length) it.removeAttribute("aria-expanded");
+      const folders = (await foldersIn(this.app.room, it.path)).filter((path) => !this.isBarred(path));
+      if (!folders.length) it.ariaExpanded = null;
       else it.append(make("ul", { role: "group" }, folders.map((path) => this.item(path))));
     } catch (fault) {
-      it.setAttribute("aria-expanded", "false");
+      it.ariaExpanded = "false";
       this.told.textContent = fault.message;
       if (fault instanceof GaveUp) tellIt(fault); // (its button is out of reach till then)
     }
-    it.removeAttribute("aria-busy");
+    it.ariaBusy = null;
   }
 
   close(it) {
     it.querySelector("ul")?.remove();
     for (const path of this.items.keys()) if (path !== it.path && path.startsWith(it.path)) this.items.delete(path);
-    it.setAttribute("aria-expanded", "false");
+    it.ariaExpanded = "false";
   }
 
   click(event) {
@@ -116,13 +102,10 @@ export class FolderTree {
   }
 
   async key(event) {
-    const it = event.target.closest("li");
-    const all = [...this.list.querySelectorAll("li")];
-    const at = all.indexOf(it);
-    const isOpen = it.getAttribute("aria-expanded");
+    const [it, all] = [event.target.closest("li"), [...this.list.querySelectorAll("li")]];
+    const [at, isOpen] = [all.indexOf(it), it.ariaExpanded === "true"];
     const goals = { ArrowDown: all[at + 1], ArrowUp: all[at - 1], Home: all[0], End: all.at(-1),
-      ArrowLeft: isOpen === "true" ? null : it.parentNode.closest("li"),
-      ArrowRight: isOpen === "true" ? it.querySelector("li") : null };
+      ArrowLeft: isOpen ? null : it.parentNode.closest("li"), ArrowRight: isOpen ? it.querySelector("li") : null };
     if (!(event.key in goals)) return;
     event.preventDefault();
     const goal = goals[event.key];
@@ -130,7 +113,7 @@ export class FolderTree {
       this.choose(goal);
       goal.focus();
     } else if (event.key === "ArrowRight") await this.open(it);
-    else if (event.key === "ArrowLeft" && isOpen === "true") this.close(it);
+    else if (event.key === "ArrowLeft" && isOpen) this.close(it);
   }
 
   async makeHere() {

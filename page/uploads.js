@@ -1,10 +1,9 @@
-/** Files and folders of the user's disk go into the room. */
-import { EXIST, MAX_NAMES, MOST_BYTES, MOST_THINGS, ask, besideIt, button, clean, folderOf, forEach, inFolder,
-  isTooLong, lastName, listOf, make, nameFault, namesOf, numbered, once, orElse, pathOf, pickFiles, settle, shortened,
-  shown, t, tellFault } from "./common.js";
+/** Files and folders of the user's disk go into the room; what a folder has no room for, into another beside it. */
+import { EXIST, FOLDER, MAX_NAMES, MOST_BYTES, MOST_THINGS, ROOT, TOO_DEEP, ask, besideIt, button, calledIn, clean,
+  folderOf, foldersAbove, forEach, inFolder, isTooLong, isWithin, lastName, listOf, make, nameFault, namesOf, numbered,
+  offered, once, orElse, ownList, pathOf, pickFiles, settle, shortened, shown, t, tellFault } from "./common.js";
 import { writeCopy, writeFile } from "./files.js";
 import { DEEPEST, sizeFault } from "./manifest.js";
-import { makeLike, mayOverflow } from "./overflow.js";
 import { readFile } from "./reading.js";
 import { sizeWords, transferring } from "./transfers.js";
 import { placedInTrash, trashOf } from "./trash.js";
@@ -13,8 +12,8 @@ const MOST_TOLD = 10; // of many names or faults
 const AT_ONCE = 3; // files; the pieces of each go beside each other too
 
 export function filesButton(words, how, chosen) {
-  const { field, click } = pickFiles(words, how, chosen);
-  return make("span", button(words, click), field);
+  const field = pickFiles(words, how, chosen);
+  return make("span", button(words, () => field.click()), field);
 }
 
 async function within(entry, above = []) {
@@ -36,17 +35,16 @@ export async function dropped(data) {
 }
 
 function faultOf({ names, file }, folder) {
-  const [depth, name] = [namesOf(folder).length + names.length, shown(names.join("/"))];
-  const fault = names.map(clean).map(nameFault).find((it) => it !== "") || (depth > MAX_NAMES ? t.pathLong(MAX_NAMES) :
+  const [depth, name] = [namesOf(folder).length + names.length, calledBy({ names })];
+  const fault = names.map(clean).map(nameFault).find(Boolean) || (depth > MAX_NAMES ? t.pathLong(MAX_NAMES) :
     file?.size > MOST_BYTES && depth > DEEPEST ? t.tooDeep : "");
   if (fault) return t.about(name, fault);
   const its = sizeFault(file?.size ?? 0);
   return its ? `${name} ${its}.` : "";
 }
 
-/** With names that the room takes: two that are alike then are told apart by a number. */
 function withShorter(chosen) {
-  const taken = new Map(); // from the path that something had to the one that it gets
+  const taken = new Map(); // by the path that something had
   const isFree = (path) => ![...taken.values()].includes(path);
   const shorter = (above, name) => {
     if (!isTooLong(clean(name))) return name;
@@ -58,7 +56,6 @@ function withShorter(chosen) {
 
 const aboutOf = (room, ...paths) => `upload ${room.name} ${paths.join(" ")}`;
 const goalOf = (folder, names) => inFolder(folder, ...names.map(clean));
-
 const calledBy = ({ names }) => shown(names.join("/"));
 
 async function fitting(app, folder, chosen) {
@@ -73,8 +70,8 @@ async function fitting(app, folder, chosen) {
     tellFault(t.nothingSent(told[0]), aboutOf(app.room, goalOf(folder, chosen[0].names)));
     return [];
   }
-  const [first, ...others] = [...count ? [{ words: t.uploadShorter(count), value: "shorter" }] : [],
-    ...fit.length ? [{ words: t.uploadOthers(fit.length), value: "fit" }] : []];
+  const [first, ...others] = offered([[count, { words: t.uploadShorter(count), value: "shorter" }],
+    [fit.length, { words: t.uploadOthers(fit.length), value: "fit" }]]);
   const answer = await ask({ title: t.cannotUpload(told.length, chosen.length), words: listed(told), others,
     does: first?.words, stays: first ? t.cancel : t.close });
   if (!answer || !first) return [];
@@ -84,49 +81,97 @@ async function fitting(app, folder, chosen) {
 const listed = (words) => [listOf(words.slice(0, MOST_TOLD)),
   words.length > MOST_TOLD && t.andMore(words.length - MOST_TOLD)];
 
-class Folders {
-  constructor(room) {
-    Object.assign(this, { room, asked: new Map() });
-  }
+function lister(room) {
+  const asked = new Map();
+  return (folder) => once(asked, folder, async () => new Set((await room.names(folder))?.map(([name]) => name)));
+}
 
-  names(folder) {
-    return once(this.asked, folder, async () => new Set((await this.room.names(folder))?.map(([name]) => name)));
-  }
+async function freeOf(path, namesIn, taken) {
+  const names = await namesIn(folderOf(path));
+  const isFree = (it) => !names.has(lastName(it)) && !taken.has(it);
+  const its = isFree(path) ? path : numbered(path, isFree);
+  taken.add(its);
+  return its;
+}
 
-  async free(path, taken) {
-    const names = await this.names(folderOf(path));
-    const isFree = (it) => !names.has(lastName(it)) && !taken.has(it);
-    const its = isFree(path) ? path : numbered(path, isFree);
-    taken.add(its);
-    return its;
+export async function makeLike(room, path, like) {
+  await orElse(room.step("MKDIR", path), null, EXIST);
+  const list = await room.look("GETLIST", like);
+  const own = list && ownList(list);
+  if (own) await room.step("SETLIST", path, own);
+}
+
+export async function placeIn(room, path) {
+  if (namesOf(path).length === MAX_NAMES) throw new Error(t.refusals[TOO_DEEP]);
+  const namesIn = async (it) => await room.names(it) ?? [];
+  if ((await namesIn(path)).length < MOST_THINGS) return path;
+  if (path === ROOT) throw new Error(t.topFull);
+  const there = new Map(await namesIn(folderOf(path)));
+  for (let count = 2; ; count += 1) {
+    const goal = besideIt(path, count);
+    const kind = there.get(lastName(goal));
+    if (!kind || kind === FOLDER && (await namesIn(goal)).length < MOST_THINGS) return goal;
   }
 }
 
+/** What of too full folders goes elsewhere, `{like, goal, rest}`; `rest` are names. */
+async function restsOf(over, namesIn) {
+  const found = [];
+  for (const [path, names] of over) {
+    if (path === ROOT) return [];
+    const there = await namesIn(path);
+    const rest = [...names].filter((it) => !there.has(it)).slice(MOST_THINGS - names.size);
+    const beside = await namesIn(folderOf(path));
+    for (let at = 0; at < rest.length; at += MOST_THINGS) {
+      const goal = numbered(path, (it) => !beside.has(lastName(it)));
+      beside.add(lastName(goal));
+      found.push({ like: path, goal, rest: new Set(rest.slice(at, at + MOST_THINGS)) });
+    }
+  }
+  return found;
+}
+
+function spread(wanted, { like, goal, rest }) {
+  const depth = namesOf(like).length;
+  for (const it of wanted) {
+    const names = namesOf(it.path);
+    if (isWithin(it.path, like) && rest.has(names[depth])) it.path = inFolder(goal, ...names.slice(depth));
+  }
+}
+
+async function mayOverflow(over, wanted, namesIn) {
+  const rests = await restsOf(over, namesIn);
+  const words = listOf(over.map(([path, names]) => t.wouldHave(shown(path), names.size, MOST_THINGS)));
+  const task = () => {
+    for (const it of rests.toReversed()) spread(wanted, it); // (a folder below another one first)
+    wanted.beside = rests;
+  };
+  const goals = rests.map(({ goal }) => shown(lastName(goal))).join(", ");
+  const how = rests.length ? { does: t.restInto(goals), task, others: [{ words: t.uploadFits, value: "fit" }] } :
+    { does: t.uploadFits };
+  return await ask({ title: t.tooMany, words, ...how }) !== null;
+}
+
 export async function freePaths(room, paths) {
-  const [folders, taken, found] = [new Folders(room), new Set(), []];
-  for (const it of paths) found.push(await folders.free(it, taken));
+  const [namesIn, taken, found] = [lister(room), new Set(), []];
+  for (const it of paths) found.push(await freeOf(it, namesIn, taken));
   return found;
 }
 
 export const freePath = async (room, path) => (await freePaths(room, [path]))[0];
 
+/** Those below the folder, each behind the one above it. */
 function foldersOf(wanted, folder) {
-  const found = new Set();
-  for (const { path, file } of wanted) {
-    const names = namesOf(path).slice(0, file ? -1 : undefined);
-    for (let at = namesOf(folder).length; at < names.length; at += 1) found.add(pathOf(names.slice(0, at + 1)));
-  }
-  return [...found].sort((a, b) => namesOf(a).length - namesOf(b).length);
+  const depth = (path) => namesOf(path).length;
+  const all = wanted.flatMap(({ path, file }) => [...foldersAbove(path), ...file ? [] : [path]]);
+  return [...new Set(all)].filter((it) => depth(it) > depth(folder)).sort((a, b) => depth(a) - depth(b));
 }
 
-async function overfull(wanted, folder, folders) {
-  const inside = new Map();
-  for (const path of [...foldersOf(wanted, folder), ...wanted.filter((it) => it.file).map((it) => it.path)]) {
-    const above = folderOf(path);
-    if (!inside.has(above)) inside.set(above, new Set(await folders.names(above)));
-    inside.get(above).add(lastName(path));
-  }
-  return [...inside].filter(([, names]) => names.size > MOST_THINGS);
+async function overfull(wanted, folder, namesIn) {
+  const all = [...foldersOf(wanted, folder), ...wanted.filter((it) => it.file).map((it) => it.path)];
+  const inside = await Promise.all([...Map.groupBy(all, folderOf)].map(async ([above, paths]) =>
+    [above, new Set([...await namesIn(above), ...paths.map(lastName)])]));
+  return inside.filter(([, names]) => names.size > MOST_THINGS);
 }
 
 function beforeWords(replaced) {
@@ -161,35 +206,35 @@ async function sendAll(app, transfer, wanted, folder) {
   const failed = files.length - count;
   if (failed && !isOne) transfer.title = t.failedOf(failed, files.length);
   if (failed && count === 0) return "";
-  const where = app.place.path === folder ? "" : t.areIn(shown(folder));
+  const where = app.place.path === folder ? "" : t.areIn(shown(calledIn(room.name, folder)));
   return t.uploaded(count, sizeWords(size), transfer.seconds) + where + beforeWords(replaced);
 }
 
-/** True where both are to stay; else the trash in which the old one is kept, "skip", or null where all is left. */
+/** True to keep both; else the `trash` that keeps the old ones, "skip", or null. */
 async function askOfClashes(app, clashes) {
   const { path: trash } = await trashOf(app);
   return ask({ title: t.thereAlready(clashes.length), words: listed(clashes.map(({ path }) => shown(path))),
-    does: t.keepBoth, others: [...trash ? [{ words: t.replaceAndKeep, value: { trash } }] : [],
-      { words: t.replace, value: { trash: null } }, { words: t.leaveOut, value: "skip" }] });
+    does: t.keepBoth, others: offered([[trash, { words: t.replaceAndKeep, value: { trash } }],
+      [true, { words: t.replace, value: { trash: null } }], [true, { words: t.leaveOut, value: "skip" }]]) });
 }
 
 async function wantedOf(app, folder, chosen) {
   const fit = await fitting(app, folder, chosen);
-  const folders = new Folders(app.room);
+  const namesIn = lister(app.room);
   let wanted = fit.map(({ names, file }) => ({ path: goalOf(folder, names), file, isNew: true }));
   const isThere = await Promise.all(wanted.map(async ({ path, file }) =>
-    file && (await folders.names(folderOf(path))).has(lastName(path))));
+    file && (await namesIn(folderOf(path))).has(lastName(path))));
   const clashes = wanted.filter((_, at) => isThere[at]);
   const answer = clashes.length ? await askOfClashes(app, clashes) : true;
   if (answer === null) return [];
   if (answer === "skip") wanted = wanted.filter((it) => !clashes.includes(it));
   const taken = new Set(wanted.map((it) => it.path));
   for (const it of clashes) {
-    if (answer === true) it.path = await folders.free(it.path, taken);
+    if (answer === true) it.path = await freeOf(it.path, namesIn, taken);
     else Object.assign(it, { isNew: false, replaces: true, trash: answer.trash });
   }
-  const over = await overfull(wanted, folder, folders);
-  return !over.length || await mayOverflow(over, wanted, folders) ? wanted : [];
+  const over = await overfull(wanted, folder, namesIn);
+  return !over.length || await mayOverflow(over, wanted, namesIn) ? wanted : [];
 }
 
 export async function upload(app, folder, chosen) {
@@ -197,34 +242,28 @@ export async function upload(app, folder, chosen) {
     const wanted = await wantedOf(app, folder, chosen);
     if (wanted.length) await start(app, wanted, folder);
   } catch (fault) {
-    tellFault(t.about(t.uploadTo(shown(folder)), fault.message));
+    tellFault(t.about(t.uploadTo(shown(calledIn(app.room.name, folder))), fault.message));
   }
 }
 
 const keepInTrash = (room, path, trash) => placedInTrash(path, trash, async (to) =>
   writeCopy(room, path, to, await readFile(room, path)));
 
-async function keepOld(room, path) {
-  const beside = await freePath(room, besideIt(path, t.before(new Date().toISOString().slice(0, 10))));
-  return writeCopy(room, path, beside, await readFile(room, path));
-}
+export const keepBeside = async (room, path, words, bytes) =>
+  writeCopy(room, path, await freePath(room, besideIt(path, words)), bytes ?? await readFile(room, path));
 
-/** Whether a file may take the place of what is there; `kept` of it is where the old one is then. */
-function askToReplace(app, wanted, mayKeep) {
-  const { path, file } = wanted;
-  const keep = async () => { wanted.kept = await keepOld(app.room, path); };
-  return ask({ title: t.doTo(t.replace, shown(lastName(path))), does: t.replace,
-    words: t.takesPlace(shown(file.name), sizeWords(file.size)),
-    others: mayKeep ? [{ words: t.keepBoth, value: true, task: keep }] : [] });
-}
-
-/** `replaces` is null where nothing whole is there yet; its `mayKeep` allows a copy beside it. */
+/** `replaces` is null where nothing whole is there yet. */
 export async function newVersion(app, path, [it], replaces) {
-  const fault = faultOf({ ...it, names: [lastName(path)] }, folderOf(path));
+  const [{ file }, name, folder] = [it, lastName(path), folderOf(path)];
+  const fault = faultOf({ names: [name], file }, folder);
   if (fault) return tellFault(t.nothingSent(fault), aboutOf(app.room, path));
-  const wanted = { path, file: it.file, isNew: false, replaces: replaces !== null };
-  if (replaces && !await askToReplace(app, wanted, replaces.mayKeep)) return;
-  await start(app, [wanted], folderOf(path));
+  const wanted = { path, file, isNew: false, replaces: replaces !== null };
+  const before = t.before(new Date().toISOString().slice(0, 10));
+  const keep = async () => { wanted.kept = await keepBeside(app.room, path, before); };
+  const mayGo = !replaces || await ask({ title: t.doTo(t.replace, shown(name)), does: t.replace,
+    words: t.takesPlace(shown(file.name), sizeWords(file.size)),
+    others: replaces.mayKeep ? [{ words: t.keepBoth, value: true, task: keep }] : [] });
+  if (mayGo) await start(app, [wanted], folder);
 }
 
 function start(app, wanted, folder) {

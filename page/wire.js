@@ -3,7 +3,7 @@ import { t } from "./words.js";
 
 const WAIT = 30_000; // milliseconds for an answer
 const DELAY = 30; // the code of 'later': the message did nothing
-const STEP = 10.2; // milliseconds a request: the front takes 100 of a login each second, and some 200 at once
+const STEP = 2.6; // milliseconds a request: the front takes 400 of a login each second, and some 200 at once
 const BURST = 150;
 let ready = 0; // when the next request may go
 
@@ -13,8 +13,8 @@ async function turn() {
   if (ready > now) await new Promise((goOn) => setTimeout(goOn, ready - now));
 }
 
-/** Whether it acted is not known. `isShut`: not sent again by itself, since each wrong login counts as a guess, and one
- * that the front holds till tomorrow asks in vain. */
+/** Whether it acted is not known. What `isShut` is not sent again by itself: a wrong login counts as a guess, and one
+ * that is held asks in vain. */
 class NoAnswer extends Error {
   constructor(words, isShut = false) {
     super(words);
@@ -62,7 +62,7 @@ export async function untilAnswered(url, body, patience, before = () => {}) {
       before();
       await turn();
       try {
-        return await exchange(url, body);
+        return await Promise.race([exchange(url, body), waiting.givenUp]);
       } catch (fault) {
         if (!(fault instanceof NoAnswer)) throw fault;
         await waiting.wait(fault.message, times, fault.isShut);
@@ -77,3 +77,6 @@ export async function fileOfFront(url) {
   const { status, text } = await fetchText(url, {});
   return status === 200 ? text : null;
 }
+
+export const toldAt = (url, instead) =>
+  fileOfFront(url).then((it) => JSON.parse(it ?? "null") ?? instead).catch(() => instead);

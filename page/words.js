@@ -1,4 +1,4 @@
-/** The words of the page in the language that was chosen, or that the browser asks for: a table each, words.EN.js. */
+/** The words of the page in the language that was chosen, or that the browser asks for. */
 
 export const LANGUAGES = { en: "English", de: "Deutsch" };
 const KEPT = "fileroom/language";
@@ -15,10 +15,8 @@ const filled = (text) => (...parts) => text
   .replace(CHOICE, (_, at, one, other) => ([1, true].includes(parts[at] ?? 1) ? one : other))
   .replace(/\{(\d)\}/g, (_, at) => (Array.isArray(parts[at]) ? joined(parts[at]) : parts[at]));
 
-/** The words by their keys. A text with blanks is a function that fills them. */
 export const t = Object.fromEntries(Object.entries(table).map(([key, it]) => [key, /\{\d/.test(it) ? filled(it) : it]));
 
-/** From the next load of the page on. */
 export const choose = (it) => localStorage.setItem(KEPT, it);
 
 document.documentElement.lang = language;

@@ -142,7 +142,7 @@ class Club:
         """Whether the page is that user's, after a while at the latest. (On a busy machine Chromium once stayed with
         the login of before: it then goes once more.)"""
         # (an address that is new to the browser: a page from its cache would ask for no password)
-        self.browser.go(self.address(f"?{next(self.logins)}", user))
+        self.browser.go(self.address(f"log-in?{next(self.logins)}", user))
         end = time.monotonic() + A_MINUTE / 2
         while time.monotonic() < end:
             if user in self.browser.text_of("#user"):

@@ -1,7 +1,7 @@
 """What the browser tells a screen reader, contrast, reflow and sizes (WCAG 2.2 AA)."""
 import pytest
 
-from .club import PLACE
+from .club import ALL, PLACE, VIEW, entry
 
 TOP = "/reader"
 COLOURS = """const part = (it) => { const [r, g, b, a = 1] = it.match(/[\\d.]+/g).map(Number); return {r, g, b, a}; };
@@ -41,6 +41,16 @@ SMALL = """return [...document.querySelectorAll('button, select, input, summary'
   .filter((it) => it.checkVisibility()).map((it) => [it, (it.closest('label') ?? it).getBoundingClientRect()])
   .filter(([, {width, height}]) => width < 24 || height < 24)
   .map(([it]) => it.getAttribute('aria-label') ?? it.textContent)"""
+# texts of a row that lie over another of it
+OVER = """const boxOf = (it) => { const range = document.createRange(); range.selectNodeContents(it);
+  return range.getBoundingClientRect(); };
+const isOver = (one, other) => one.left < other.right - 1 && other.left < one.right - 1 && one.top < other.bottom - 1 &&
+  other.top < one.bottom - 1;
+return [...document.querySelectorAll('.things tbody tr')].flatMap((row) => {
+  const all = [...row.querySelectorAll('.name, .place, .size, .who a')].filter((it) => it.checkVisibility() &&
+    it.textContent).map((it) => [it.textContent, boxOf(it)]);
+  return all.flatMap(([words, box], at) => all.slice(at + 1).filter(([, other]) => isOver(box, other))
+    .map(([others]) => [words, others])); });"""
 PLACES = {"folder": f"#open/club{TOP}", "document": f"#open/club{TOP}/a.txt", "sharing": f"#access/club{TOP}",
           "matrix": f"#who/club{TOP}", "search": f"#find/club{TOP}"}
 SIGNS = set("▾▸↑↓")  # drawn by styles: a screen reader would read them aloud
@@ -86,12 +96,39 @@ def test_a_view_can_be_perceived(club, browser, text, view):
     assert browser.script("return document.documentElement.scrollWidth") == 320
 
 
+@pytest.mark.parametrize("view", ["folder", "search"])
+def test_a_row_has_room_on_a_phone(club, browser, tells, view):
+    """Where somebody of a long name can see it; no text lies over another."""
+    tells("names.json", {"eve": "Maximiliane Freifrau von Hohenstein-Oldenburg"})
+    club.lay(f"{TOP}/minutes of the board about the summer fair in May.txt")
+    club.lets("eve", "/", VIEW, 0)
+    club.sets(TOP, entry("OWNER@", ALL), entry("eve", VIEW), flags=2)
+    browser.size(320, 640)
+    club.log_in("ann")  # (with the names)
+    club.go(PLACES[view] + "?in=May" * (view == "search"))
+    browser.sees("Maximiliane", ".things")
+    assert (browser.script(OVER), browser.script("return document.documentElement.scrollWidth")) == ([], 320)
+
+
 def test_a_dialog_can_be_perceived(club, browser, text):
     """The borders of its fields, and its words."""
     club.open(f"{TOP}/a.txt")
     browser.press("Add text")
     browser.sees("on a line of its own", "dialog")
     assert pale(browser) == NOTHING_PALE
+
+
+def test_where_people_log_in_can_be_perceived(club, browser):
+    """And what is wrong is told aloud."""
+    browser.go(club.address("sign-in"))
+    browser.act("//*[@id='name']", "value", {"text": "a b"})
+    browser.act("//*[@id='word']", "value", {"text": "x\ue007"})
+    browser.sees("wrong", "#told")
+    lacking, roles = nameless(browser)
+    assert (lacking, {"main", "heading", "alert", "textbox"} - {*roles}, browser.script(SMALL)) == ([], set(), [])
+    assert pale(browser) == NOTHING_PALE
+    browser.size(320, 640)
+    assert browser.script("return document.documentElement.scrollWidth") == 320
 
 
 def test_what_is_too_pale_is_found(club, browser, text):

@@ -7,7 +7,6 @@ from cases import No
 
 from .club import BEHIND, BUTTONS, DIALOG, MIB, SLOW, by_menu, choose, forget_told
 
-CASES = cases.TABLE["case"]
 TOLD = ("const it = document.querySelector('dialog[open] form'); return [it && !it.inert ? it.innerText : '', "
         "...['notices', 'transfers'].map((its) => document.getElementById(its).innerText)]")
 ALL_ROWS = ("return [...document.querySelectorAll('.things tbody tr')].map((it) => [it.querySelector('bdi')"
@@ -142,14 +141,10 @@ class Page:
         self.club.lossy.hears = hears
 
 
-def compared(name, got, want):
-    assert got == want, name
-
-
 @pytest.fixture(scope="module")
 def played(stage, tmp_path_factory, request):
     """The room and the tab of the cases, each of which has a folder of its own. `anew` makes others."""
-    left = {case["name"]: case["not"][Page.name] for case in CASES if Page.name in case.get("not", {})}
+    left = {it["name"]: it["not"][Page.name] for it in cases.TABLE["case"] if Page.name in it.get("not", {})}
     request.config.run.told += [f"cases: not by the page: {name}: {why}" for name, why in left.items()]
 
     def anew():
@@ -162,13 +157,11 @@ def played(stage, tmp_path_factory, request):
     stage.stop()
 
 
-@pytest.mark.parametrize("number, case", [
-    pytest.param(number, case, id=case["name"]) for number, case in enumerate(CASES)
-    if Page.name not in case.get("not", {})])
+@cases.each_case(Page)
 @pytest.mark.timeout(2 * SLOW)
 def test_case(stage, played, number, case):
     try:
-        cases.Played(number, case, Page(stage), cases.Judge(stage.room.port), compared).play()
+        cases.Played(number, case, Page(stage), cases.Judge(stage.room.port)).play()
     except BaseException:  # (it may have left a dialog, or a request that waits)
         played()
         raise

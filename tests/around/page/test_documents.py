@@ -48,6 +48,12 @@ def test_edit(club, browser, saves):
     browser.sees("another\ntext", "pre")
 
 
+def test_edit_is_offered_first(club, browser):
+    club.lay(("/plans/may.txt", b"first\n"))
+    club.open("/plans/may.txt")
+    assert browser.script(BUTTONS)[:2] == ["Edit", "Add text"]
+
+
 def test_markup_is_text(club, browser):
     """Names and documents of markup are text, and the policy takes no markup from a script."""
     club.lay("/plans/june.txt")
@@ -108,6 +114,8 @@ def test_print(club, browser):
     browser.devtools("Emulation.setEmulatedMedia", media="print")
     shown = "return [...document.querySelectorAll(arguments[0])].filter((it) => it.checkVisibility()).length"
     assert [browser.script(shown, it) for it in ("h1, .about, pre", "button, select, .views a")] == [3, 0]
+    club.open("/lost.txt", "who")
+    assert browser.script("return getComputedStyle(document.querySelector('.matrix')).printColorAdjust") == "exact"
 
 
 # In its dialogs
@@ -169,7 +177,7 @@ def test_a_right_that_is_taken_while_she_types(club, browser):
 
 
 def test_log_out(club, browser):
-    """The browser forgets the login: a request of the page is asked for one again. Back shows nothing and fails not."""
+    """The browser forgets the login, and no box of its own asks for another. Back shows nothing and fails not."""
     club.lay("/plans/")
     club.anew("/plans")  # (Back from the first would load another page, which waits for a login)
     ask = ("fetch(new URL('/whoami', location.origin), {signal: AbortSignal.timeout(3000)})"
@@ -178,7 +186,7 @@ def test_log_out(club, browser):
     club.user = ""
     of_user(browser, "Log out")
     browser.sees("You are logged out", "h1")
-    assert browser.later(ask) == "waits for a login"
+    assert browser.later(ask) == 401
     browser.script("history.back()")
     browser.until("Back", lambda: browser.script("return location.hash") == "#open/club")
     assert browser.script("return document.querySelector('h1').textContent") == "You are logged out"

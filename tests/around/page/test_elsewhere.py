@@ -8,7 +8,8 @@ from given import number
 
 from .club import FOUND, MENU, PLACE, ROWS, TYPED, VIEW, Club, by_rail, choose, edit, ends, make_document, search, share
 
-NEEDS = {Firefox: ["firefox-esr"], Phone: ["chromium", "chromedriver"]}
+CHROMIUM = ["chromium", "chromedriver"]
+NEEDS = {Browser: CHROMIUM, Firefox: ["firefox-esr"], Phone: CHROMIUM}
 TOUCHED = "return matchMedia('(pointer: coarse)').matches"
 
 
@@ -18,15 +19,20 @@ class Elsewhere(Club):
         self.lasting(self.browser.driver.pid)
 
 
-@pytest.fixture(scope="module", params=[Firefox, Phone], ids=["firefox", "phone"])
-def place(request, tmp_path_factory, lasting):
-    missing = [it for it in NEEDS[request.param] if not shutil.which(it)]
+def club_in(kind, folder, lasting):
+    """A club that this kind of browser is used in."""
+    missing = [it for it in NEEDS[kind] if not shutil.which(it)]
     if missing:
         pytest.skip(f"no {', no '.join(missing)} here")
     Browser.wait = number("WAIT", 40)
-    it = type("It", (Elsewhere,), {"kind": request.param})(str(tmp_path_factory.mktemp("elsewhere")), lasting=lasting)
+    it = type("It", (Elsewhere,), {"kind": kind})(str(folder), lasting=lasting)
     yield it
     it.close()
+
+
+@pytest.fixture(scope="module", params=[Firefox, Phone], ids=["firefox", "phone"])
+def place(request, tmp_path_factory, lasting):
+    yield from club_in(request.param, tmp_path_factory.mktemp("elsewhere"), lasting)
 
 
 @pytest.fixture

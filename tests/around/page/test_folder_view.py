@@ -43,6 +43,14 @@ def test_the_first_row_is_four_tabs_away(browser, frame):
     assert browser.script(FOCUS) == "attic"
 
 
+def test_an_empty_folder_is_skipped_to_at_its_name(club, browser):
+    club.lay("/bare/")
+    club.open("/bare")
+    browser.script("document.getElementById('skip').focus()")
+    browser.keys("enter")
+    assert browser.script(FOCUS) == "bare"
+
+
 @pytest.mark.parametrize("view", ["access", "who", "find"])
 def test_search_is_at_hand(club, browser, frame, view):
     club.open(TOP, view)
@@ -305,6 +313,23 @@ def test_others_changes_are_seen_by_who_comes_back(club, browser, frame):
     browser.sees("of eve.txt", ".things")
 
 
+def test_a_folder_that_is_closed_or_gone_is_not_shown_to_who_comes_back(club, browser):
+    """The reason is told, and none of its names stays."""
+    def comes_back_to(words):
+        browser.script("dispatchEvent(new Event('focus'))")  # (once more where the page was at work)
+        return words in browser.text_of("main")
+    club.lay("/closing/a.txt", "/leaving/a.txt")
+    club.lets("eve", "/closing", VIEW)
+    club.open("/leaving")
+    club.does({"cmd": "RENAME", "path": "/leaving", "to": "/left"})
+    browser.until("that it is gone", lambda: comes_back_to("There is nothing at this path"))
+    club.log_in("eve")
+    club.open("/closing")
+    club.sets("/closing", entry("OWNER@", ALL), flags=2)
+    browser.until("that it is closed", lambda: comes_back_to("You don't have access to /closing."))
+    assert "a.txt" not in browser.shown()
+
+
 def test_others_changes_are_seen_by_who_does_nothing(club, browser, frame):
     """Here after a second in the place of a minute."""
     quick = "const slow = setInterval; setInterval = (task, time) => slow(task, time / 60);"
@@ -323,6 +348,8 @@ def test_others_changes_are_not_seen_where_that_is_not_wished(club, browser, fra
         club.lay(f"{TOP}/{name}")
         sent = club.lossy.times('"LIST"')
         browser.later(comes_back)
+        if is_shown:
+            browser.until(words, lambda before=sent: club.lossy.times('"LIST"') > before)
         assert (words, club.lossy.times('"LIST"') > sent) == (words, is_shown)
     browser.sees("two.txt", ".things")
     browser.act("//tr[.//bdi='two.txt']//input", "click")  # (what is chosen stays so)

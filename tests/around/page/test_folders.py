@@ -10,7 +10,7 @@ import manifests
 import pytest
 from room_client.manifest import read_manifest
 
-from .club import DIALOG, FOUND, NAME, by_menu, ends, of_folder, row, search, search_in, to_folder
+from .club import DIALOG, FOUND, NAME, TEXTS, by_menu, ends, of_folder, row, search, search_in, to_folder
 
 LARGE = bytes(range(256)) * 512 + b"seven"
 TREE = {"/t/a.txt": b"a", "/t/..\\x:y": b"slip", "/t/sub/b.txt": b"b", "/t/sub/deep/\u00fc.txt": "\u00fc".encode(),
@@ -76,7 +76,7 @@ def test_zip_of_a_folder(club, browser, tree):
     entries, files = packed(club, browser, "/t")
     assert files == {path[1:].replace("\\", "_").replace(":", "_"): data for path, data in ALL_OF_IT.items()}
     assert {(it.compress_type, it.flag_bits & 0x800) for it in entries} == {(zipfile.ZIP_STORED, 0x800)}
-    assert browser.later("import('/zip.js').then((it) => arguments[0](it.crcOf(new Uint8Array(0))))") == 0
+    assert browser.later("import('/downloads.js').then((it) => arguments[0](it.crcOf(new Uint8Array(0))))") == 0
 
 
 def test_zip_can_be_unpacked(club, browser):
@@ -96,6 +96,7 @@ def test_search(club, browser, tree):
     search(browser, "LARGE")
     ends(browser, "2 results among")
     assert sorted(browser.script(FOUND)) == ["/large.txt", "/t/sub/large.bin"]
+    assert sorted(browser.script(TEXTS, ".things td.where")) == ["/t/sub", "club"]
     browser.act("//main//label[contains(., 'Only in t')]/input", "click")
     ends(browser, "1 result among 8 names.")
     assert browser.script(FOUND) == ["/t/sub/large.bin"]
@@ -104,6 +105,20 @@ def test_search(club, browser, tree):
     browser.script("history.back()")
     ends(browser, "1 result among 8 names.")
     assert browser.script(FOUND) == ["/t/sub/large.bin"]
+
+
+def test_search_field_is_empty_elsewhere(club, browser, tree):
+    """What is typed there begins anew; who comes back finds the words again."""
+    field = "return document.querySelector('header input').value"
+    club.open("/t")
+    search(browser, "LARGE")
+    ends(browser, "1 result among")
+    browser.follow("large.bin")
+    browser.sees("128 KiB, owner ann", "main")
+    assert browser.script(field) == ""
+    browser.script("history.back()")
+    ends(browser, "1 result among")
+    assert browser.script(field) == "LARGE"
 
 
 def test_search_gives_rows_like_any(club, browser, tree):
@@ -117,6 +132,15 @@ def test_search_gives_rows_like_any(club, browser, tree):
     browser.until("it is found by its new name", lambda: browser.script(FOUND) == ["/t/sub/larger.bin"])
     browser.follow("/t/sub")
     browser.sees("larger.bin", ".things")
+
+
+def test_search_says_what_it_is_a_list_of(club, browser, tree):
+    """And the way above it leads to where it was asked for."""
+    search_in(club, "/t", "large")
+    browser.sees("Results for “large”", "h1")
+    assert browser.script("return document.title") == "Results for “large” – club"
+    ways = "return [...document.querySelectorAll('.way a, .views a')].map((it) => it.getAttribute('href'))"
+    assert browser.script(ways) == ["#open/club", "#open/club/t"]
 
 
 # Planted

@@ -1,7 +1,8 @@
 """The page's words in another language, of which none is lacking."""
 import re
 
-from .club import DIALOG, choose, of_user, row
+from .club import DIALOG, MENU, choose, of_user, row
+from .test_accessible import SMALL
 
 SHAPES = """const [done] = arguments;
 const blanks = (it) => [...new Set([...it.matchAll(/{([0-9])/g)].map(([, at]) => at))].sort().join();
@@ -50,7 +51,7 @@ def test_sizes_are_written_as_the_language_has_them(club, browser):
 
 
 def test_words_of_the_legend_are_whole_on_a_phone(club, browser):
-    """Also the long ones of German."""
+    """And in a cell of the matrix: also the long ones of German."""
     club.open()
     of_user(browser, "Deutsch")
     browser.sees("+ Neu", "main")
@@ -58,6 +59,11 @@ def test_words_of_the_legend_are_whole_on_a_phone(club, browser):
     club.open("", "who")
     broken = browser.script("""return [...document.querySelectorAll('.legend dt')].filter((it) => {
       it.style.overflowWrap = 'normal'; return it.scrollWidth > it.clientWidth; }).map((it) => it.textContent)""")
+    assert broken == []
+    broken = browser.script("""const cell = document.querySelector('.matrix td button');
+      const heightOf = (word) => { cell.textContent = word; return cell.offsetHeight; };
+      return [...document.querySelectorAll('.legend dt')].flatMap((it) => it.textContent.split(' '))
+        .filter((it) => heightOf(it) > heightOf('x'))""")
     assert broken == []
 
 
@@ -67,5 +73,24 @@ def test_german_says_from_where_access_is(club, browser):
     of_user(browser, "Deutsch")
     browser.sees("+ Neu", "main")
     club.open("/plans", "access")
-    browser.sees("Ansehen geerbt von /", ".given")
+    browser.sees("Ansehen geerbt von club", ".given")
     browser.sees("ann ist Eigentümer dieses Ordners, kann aber noch nicht öffnen oder bearbeiten", ".share")
+    browser.sees("Erlaubt für Eigentümer (ann): alles tun.", "main ol")
+
+
+def test_german_words_have_room(club, browser):
+    """The longest button in a row, and the shortest head above one."""
+    club.make_trash()
+    club.lay("/plans/a.txt")
+    club.open("/plans")
+    of_user(browser, "Deutsch")
+    browser.sees("+ Neu", "main")
+    assert browser.script(SMALL) == []
+    browser.press("Mehr zu a.txt")
+    browser.press("Entfernen", MENU)
+    browser.press("Entfernen", DIALOG)
+    browser.sees("ist im Papierkorb.", "#notices")
+    browser.press("Orte")
+    browser.act("//*[@id='rail']//a[.='Papierkorb']", "click")
+    browser.sees("Wiederherstellen", ".things")
+    assert browser.script("return document.documentElement.scrollWidth - innerWidth") <= 0

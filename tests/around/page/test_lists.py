@@ -2,9 +2,10 @@
 import pytest
 from room_client.words import RIGHTS, SETS
 
-from .club import ADD, ALL, BUTTONS, EDIT, MATRIX, NAME, PASS, PIECE, VIEW, entry, offers, set_list
+from .club import (ADD, ALL, BUTTONS, CHANGE, EDIT, MATRIX, NAME, PASS, PIECE, VIEW, WORK_HERE, entry, offers,
+                   set_list)
 
-WORDS = "import('/rights.js').then((it) => arguments[0]([it.RIGHTS.map(({bit, words}) => [bit, words]), " \
+WORDS = "import('/lists.js').then((it) => arguments[0]([it.RIGHTS.map(({bit, words}) => [bit, words]), " \
         "it.SETS.map(({name, mask}) => [name, mask])]))"
 TAKES_OVER = "//main//label[contains(., 'takes over')]"
 SUMMARIES = "return [...document.querySelectorAll('.entries > li > details > summary')].map((it) => it.textContent)"
@@ -62,6 +63,16 @@ def test_a_list_of_its_own(club, browser):
     browser.sees("Allow the user eve to view.", ".handed")
 
 
+def test_an_entry_that_is_moved_keeps_the_focus(club, browser):
+    club.lay("/june.txt")
+    club.sets("/june.txt", entry("bob", VIEW, 0), entry("eve", VIEW, 0))
+    club.open("/june.txt", "access")
+    browser.act("//main//ol[1]/li[1]//summary", "click")
+    browser.press("Down", "//main//ol[1]/li[1]")
+    browser.until("it stands below", lambda: "bob" in browser.script(SUMMARIES)[1])
+    assert browser.script("return document.activeElement.textContent") == browser.script(SUMMARIES)[1]
+
+
 def test_two_change_a_list(club, browser):
     """An unknown user is pointed out; then both lists are shown."""
     path = "/june.txt"
@@ -87,6 +98,16 @@ def test_one_vocabulary(club, browser):
     rights, sets = browser.later(WORDS)
     assert sorted(rights) == sorted([bit, list(dict.fromkeys(words[:2]))] for bit, *words in RIGHTS)
     assert dict(sets) == {name: mask for name, mask in SETS.items() if name != "none"}
+
+
+def test_matrix_has_the_words_of_share(club, browser):
+    """Who may edit and delete in a folder may not remove it."""
+    club.lay("/plans/")
+    club.sets("/plans", entry("bob", WORK_HERE, 0), entry("bob", CHANGE, 0xB), entry("OWNER@", ALL), flags=2)
+    club.lay("/plans/sub/", "/plans/a.txt")
+    club.open("/plans", "who")
+    assert [row[:3] for row in browser.script(MATRIX)] == [
+        [it, "Full control", "Can edit and delete"] for it in ("plans/", "a.txt", "sub/")]
 
 
 # A large file
@@ -145,8 +166,8 @@ def test_list_of_a_large_file(club, browser, whole, closed):
 
 @pytest.mark.parametrize("mask, wanted", [
     (VIEW, ["Download", "Copy", "Print"]), (ADD, ["Add text", "Download", "Copy", "Print"]),
-    (EDIT, ["Add text", "Edit", "Download", "Upload a new version", "Copy", "Print"]),
-    (ALL, ["Add text", "Edit", "Download", "Upload a new version", "Rename", "Move", "Copy", "Remove", "Print"])],
+    (EDIT, ["Edit", "Add text", "Download", "Upload a new version", "Copy", "Print"]),
+    (ALL, ["Edit", "Add text", "Download", "Upload a new version", "Rename", "Move", "Copy", "Remove", "Print"])],
     ids=["view", "add", "edit", "all"])
 def test_what_a_document_offers(club, browser, mask, wanted):
     """What one's rights refuse is not."""

@@ -7,7 +7,7 @@ import gateway
 import pytest
 from nginx import Front
 
-from .club import ALL, DIALOG, PAGE, PLACE, ROWS, TEXTS, USERS, by_rail, entry, of_folder, offers
+from .club import ALL, DIALOG, PAGE, PLACE, ROWS, TEXTS, USERS, by_rail, edit, entry, of_folder, offers
 
 WHEN = "return [...document.querySelectorAll('.things tbody tr .when')].map((it) => it.innerText)"
 
@@ -20,7 +20,8 @@ def dated(stage, room, tmp_path):
                   opens="100r/s")
     its = gateway.start(os.path.join(folder, "work/dav.sock"), str(tmp_path / "state"), socket)
     before, stage.port, stage.user = stage.port, front.port, ""
-    stage.puts = lambda user, path: front.once(user, "PUT", f"/dav/club{path}", b"some words")
+    stage.puts = lambda user, path, data=b"some words": front.once(user, "PUT", f"/dav/club{path}", data)
+    stage.makes = lambda user, path: front.once(user, "MKCOL", f"/dav/club{path}")
     try:
         stage.enter(str(tmp_path))
         yield stage
@@ -81,6 +82,35 @@ def test_recent_changes_are_those_of_ones_own_places(plans):
     plans.open()
     by_rail(browser, "Recent changes")
     browser.until("what is closed is gone", lambda: browser.script(ROWS) == ["b.txt"])
+
+
+def test_recent_changes_have_the_newest_first(plans):
+    """Folders among documents."""
+    browser = plans.browser
+    plans.open("/plans")
+    time.sleep(1)
+    assert plans.makes("bob", "/plans/new").status == 201
+    time.sleep(1)
+    assert plans.puts("bob", "/plans/b.txt").status == 204
+    by_rail(browser, "Recent changes")
+    browser.until("they are shown", lambda: browser.script(PLACE) == "#recent/club")
+    assert browser.script(ROWS)[:2] == ["b.txt", "new"]
+
+
+def test_conflict_tells_who_came_first(plans):
+    """And nobody by a change of before."""
+    browser = plans.browser
+    for saves, told in ((lambda: plans.puts("bob", "/plans/a.txt", b"by bob"), "bob"),
+                        (lambda: plans.writes("/plans/a.txt", b"past the front"), "")):
+        plans.open("/plans/a.txt")
+        edit(browser, "by ann")
+        time.sleep(1)
+        saves()
+        browser.press("Save")
+        browser.sees("Somebody changed this meanwhile", "dialog")
+        assert browser.text_of("dialog time").split(", ")[-1] == told
+        browser.press("Take theirs")
+        browser.until("it is closed", lambda: not browser.text_of("dialog"))
 
 
 def test_a_folder_says_how_file_managers_open_it(plans):

@@ -57,6 +57,17 @@ def test_given_up(club, browser, log):
     assert log() == "given up\nafter it\n"
 
 
+def test_given_up_while_an_answer_is_awaited(club, browser, log):
+    """It is not waited for."""
+    club.lossy.lose("APPEND", 10_000)
+    append(browser, "given up")
+    browser.sees("times so far.", "#busy")
+    club.lossy.hold("APPEND")
+    browser.until("it is sent once more", lambda: club.lossy.held)
+    browser.press_anyway("Give up")
+    browser.sees("Whether it was done is not known", "dialog", 20)
+
+
 def test_a_killed_room(club, browser, log):
     """It is started again while a request waits."""
     append(browser, "killed", club.room.kill)

@@ -31,8 +31,9 @@ def told(browser, wanted):
 
 
 @pytest.fixture
-def names(tells):
+def names(club, tells):
     tells("names.json", {"bob": "Bob Ray"})
+    club.log_in("ann")
 
 
 def test_a_row_tells_who_can_see_it(club, browser, names):
@@ -127,3 +128,15 @@ def test_on_a_phone_it_stands_below_the_name(club, browser, frame):
     (_, top), (left, of_size), (right, of_who) = browser.script(boxes)
     assert (of_size > top + 16, of_who > top + 16, right > left) == (True, True, True)
     assert browser.script("return document.documentElement.scrollWidth") == 360
+
+
+def test_on_a_phone_it_moves_nothing(club, browser, frame):
+    """However many can see it."""
+    browser.size(360, 740)
+    club.anew(FRAME_TOP)
+    browser.until("who", lambda: browser.script(SEERS)["notes.txt"] == "eng")
+    boxes = ("return [...document.querySelectorAll('.things tbody :is(.name, .size)')].map((it) => "
+             "it.getBoundingClientRect().top).concat(document.documentElement.scrollWidth)")
+    before = browser.script(boxes)
+    browser.script("document.querySelectorAll('.things .who a').forEach((it) => { it.append(', eng'.repeat(20)); })")
+    assert browser.script(boxes) == before

@@ -8,6 +8,8 @@ from .drawn import PNG
 CELLAR, BOX = f"{TOP}/cellar", f"{TOP}/attic/box"
 BOTH = ["list.xlsx", "notes.txt"]
 BAR = "return [...document.querySelectorAll('.chosen:not([hidden]) button:not([hidden])')].map((it) => it.textContent)"
+IN_MAIN = ("return document.querySelector('.chosen').hidden && "
+           "document.querySelector('main').contains(document.activeElement)")
 TR = "//tr[.//bdi='{}']".format
 # what the mouse would do, event by event: a row is taken, held over an element, and let go; whether it may be
 DRAG = """const data = new DataTransfer(), [from, to] = [arguments[0], arguments[1]].map((path) =>
@@ -199,3 +201,13 @@ def test_a_picture_is_pasted_into_the_folder(club, browser, frame):
         browser.sees("1 file uploaded", "#notices")
         browser.until("it is shown", lambda: len(browser.script(ROWS)) == 6 + count)
         assert club.bytes(f"{TOP}/{name}") == PNG
+
+
+@pytest.mark.parametrize("words", ["Clear selection", "Download", "Move"])
+def test_the_focus_is_somewhere_once_the_bar_is_gone(browser, both, words):
+    """By keys nobody begins at the top of the page."""
+    of_chosen(browser, words)
+    if words == "Move":
+        to_folder(browser, "cellar", CELLAR)
+        browser.press("Move", DIALOG)
+    browser.until("the focus", lambda: browser.script(IN_MAIN))

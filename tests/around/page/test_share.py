@@ -59,6 +59,8 @@ def test_share_with_a_group(club, browser, board):
         ("LIST", ""), ("MKDIR", "/of bob"), ("REMOVE", "/of bob"), ("REMOVE", "/of ann"))), user="bob")
     told = club.holds_all([{"cmd": "REMOVE", "path": PATH}, {"cmd": "LIST", "path": TOP}], "bob")
     assert [(it["code"], it["bit"]) for it in told] == [(5, 0x10000), (5, 1)]
+    club.open(TOP, "access")
+    browser.until("whom it lets pass", lambda: "the group staffPasses through×" in given(browser))
 
 
 def test_share_is_changed(club, browser, passed):
@@ -107,6 +109,56 @@ def test_share_tells_all_who_have_access(club, browser, board):
               "the group engCan add and edit from /board", "bobDenied"]
     browser.until("all that is told", lambda: given(browser) == wanted)
     assert "nobody" not in browser.text_of(".share")
+
+
+def test_share_tells_each_folder_that_it_is_from(club, browser, board):
+    """Who has less from the one and more from the other."""
+    club.sets("/", entry("bob", VIEW), entry("OWNER@", ALL), flags=2)
+    club.sets(TOP, entry("bob", EDIT))
+    club.open(PATH, "access")
+    browser.until("both", lambda: "bobCan add and edit from /board, club" in given(browser))
+
+
+def test_nobody_gives_away_their_own_control_unasked(club, browser, board):
+    """By a group: it could not be undone. An owner keeps it in any case."""
+    before = [entry("staff", ALL, STAFF), entry("OWNER@", ALL)]
+    club.sets(TOP, *before, flags=2)
+    club.log_in("bob")
+    club.open(TOP, "access")
+    browser.press("Stop sharing with the group staff")
+    browser.sees("You can then no longer change who has access.", "dialog")
+    browser.press("Cancel", DIALOG)
+    assert club.holds({"cmd": "GETLIST", "path": TOP})["entries"] == before
+    browser.press("Stop sharing with the group staff")
+    browser.press("Save the list", DIALOG)
+    browser.until("it is gone", lambda: club.own(TOP) == [(0, 3, ALL, "OWNER@")])
+    browser.sees("Sharing updated.", "#notices")
+    assert "Undo" not in browser.text_of("#notices")
+
+
+def test_names_are_whole_on_a_phone(club, browser, tells, board):
+    """Also beside long words."""
+    tells("names.json", {"ann": "Annegret Lindemann"})
+    club.log_in("ann")
+    club.sets(TOP, entry("ann", ALL), entry("OWNER@", ALL), flags=2)
+    browser.size(390, 740)
+    club.open(TOP, "access")
+    browser.sees("owner, with full access to what others add", ".share")
+    assert browser.script("return document.querySelector('.given span').offsetHeight") < 40
+
+
+def test_top_is_called_by_its_room(club, browser):
+    """Where access comes from it, and where it lets somebody not pass."""
+    club.lay(f"{TOP}/")
+    club.sets("/", entry("bob", VIEW), entry("ann", ALL), flags=2)
+    club.open(TOP, "access")
+    browser.until("from where", lambda: "bobCan view from club" in given(browser))
+    share(browser, "eve", "Can view")
+    browser.sees("eve cannot get through club.", "dialog")
+    browser.press("Close", DIALOG)
+    club.open(TOP, "who")
+    of_eve = "return [...document.querySelectorAll('.matrix .shut button')].map((it) => it.title)[0]"
+    assert "eve may not pass through club, so cannot get at /board." in browser.script(of_eve)
 
 
 def test_share_lets_those_get_there_who_cannot(club, browser, board):
@@ -162,6 +214,21 @@ def test_share_is_made_private(club, browser, board):
     assert club.holds({"cmd": "GETLIST", "path": PATH}) == before
 
 
+def test_what_is_private_is_shared_as_the_folder_above(club, browser, board):
+    """By one press, however long ago it was made so; not so what is shared with somebody, a trash, or the top."""
+    club.sets(TOP, entry("bob", VIEW), entry("OWNER@", ALL), flags=2)
+    club.sets(PATH, entry("ann", ALL), flags=2)
+    club.open(PATH, "access")
+    browser.press("Share as the folder above")
+    browser.until("it is so", lambda: "bobCan view from /board" in given(browser))
+    assert (club.holds({"cmd": "GETLIST", "path": PATH})["aclflag"], club.own(PATH)) == (1, [(0, 3, ALL, "ann")])
+    club.make_trash()
+    club.sets("/", entry("OWNER@", ALL), flags=2)
+    for path in PATH, TOP, "/trash/ann", "":
+        club.open(path, "access")
+        assert "Share as the folder above" not in browser.shown()
+
+
 @pytest.mark.parametrize("keeps, level, whos", [
     (True, "Can add and edit", ["staff", "ann"]), (False, "Can add and edit", ["staff"]),
     (True, "Can view", ["staff"])], ids=["kept", "not kept", "nothing to keep"])
@@ -199,6 +266,22 @@ def test_share_tells_by_name_who_cannot_get_there(club, browser, board, tells):
     browser.sees("Bob Ray (bob) cannot get through /board.", "dialog")
     browser.press("Allow", DIALOG)
     browser.sees("Checked: the user Bob Ray (bob) can get there.", "#notices")
+
+
+@pytest.mark.parametrize("above, told", [(VIEW, "Those who can: ann."), (PASS, "Ask its owner.")],
+                         ids=["known", "unknown"])
+def test_who_may_not_change_it_is_shown_who_may(club, browser, board, above, told):
+    """What would be refused is not offered. (eve does not get there.)"""
+    club.sets(TOP, entry("staff", above, GROUP), entry("OWNER@", ALL), flags=2)
+    club.sets(PATH, entry("staff", VIEW, STAFF), entry("eve", ALL), entry("ann", EDIT), entry("OWNER@", ALL))
+    club.log_in("bob")
+    club.open(PATH, "access")
+    browser.sees(f"You may see who has access, but not change it. {told}", ".share")
+    assert browser.script(TEXTS, ".shares li > span") == [
+        "the group staff", "Can view", "eve", "Full control", "ann", "Can add and edit", "its owner (ann)",
+        "Full control"]
+    assert browser.script(TEXTS, ".share :is(button, input, select), .exceptions :is(button, input, select)") == []
+    assert browser.script(TEXTS, ".exceptions .entries li")[1].startswith("Allow the user eve to do all.")
 
 
 def test_share_with_the_folders_owner(club, browser, board):
@@ -243,5 +326,15 @@ def test_share_shows_names_as_people_write_them(club, browser, passed, tells):
     assert club.own(PATH) == [(0, 3, ALL, "ann"), (0, 3, VIEW, "bob")]
     browser.until("it is shown", lambda: browser.script(SHARES) == [["Bob Ray (bob)", "Can view"]])
     club.open(PATH, "who")
-    titles = browser.script("return [...document.querySelectorAll('.matrix thead th')].map((it) => it.title)")
-    assert titles[1:3] == ["Ann <b>Lee", "Bob Ray"]
+    heads = browser.script("return [...document.querySelectorAll('.matrix thead th')].map((it) => "
+                           "[it.textContent, it.title])")
+    assert heads[1:3] == [["Ann <b>Lee", "Ann <b>Lee (ann)"], ["Bob Ray", "Bob Ray (bob)"]]
+
+
+def test_who_has_the_name_of_another_is_told_apart(club, browser, tells):
+    club.lay(f"{TOP}/")
+    tells("names.json", {"ann": "Ann Lee", "bob": "Bob Ray", "eve": "Ann Lee"})
+    club.log_in("ann")
+    club.open(TOP, "who")
+    heads = browser.script("return [...document.querySelectorAll('.matrix thead th')].map((it) => it.textContent)")
+    assert heads[1:4] == ["Ann Lee (ann)", "Bob Ray", "Ann Lee (eve)"]

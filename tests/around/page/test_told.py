@@ -190,6 +190,20 @@ def test_closed_folder_tells_nothing_else(club, browser):
     assert told == ["Folder", "You don't have access to /closed. Ask its owner."]
 
 
+def test_folder_to_pass_says_how_to_go_on(club, browser):
+    """Who may see nothing of it but gets to what is shared below."""
+    club.lay("/shared/")
+    club.sets("/", entry("OWNER@", ALL), entry("eve", PASS, 0), flags=2)
+    club.sets("/shared", entry("OWNER@", ALL), entry("eve", VIEW), flags=2)
+    club.log_in("eve")
+    club.open()
+    browser.sees("You don't have access to club. Ask its owner. "
+                 "What is shared with you in it opens by its link.", "main")
+    club.open("/shared")
+    browser.sees("This folder is empty.", "main")
+    assert "its link" not in browser.text_of("main")
+
+
 def test_who_shares_can_send_the_link(club, browser):
     """Of what was shared, once somebody has access who had none."""
     club.lay("/sent/")
@@ -235,7 +249,7 @@ def test_fault_of_a_copy_is_told_where_the_place_is_chosen(club, browser, shut):
     to_folder(browser, "club", "club")
     browser.fill("Name", "copied")
     browser.press("Copy", DIALOG)
-    browser.sees("You may not make documents in it (/).", "dialog")
+    browser.sees("You may not make documents in it (club).", "dialog")
     assert browser.script(TYPED) == "copied"
     to_folder(browser, "told", TOP)
     browser.press("Copy", DIALOG)

@@ -114,6 +114,15 @@ def test_trash_is_at_hand_everywhere(club, browser, thrown, trashes):
     assert "t" in club.names("/other")
 
 
+def test_who_restores_the_last_thing_stands_at_the_name(club, browser, trashes):
+    """Of the trash, which is empty then."""
+    club.lay("/other/", f"{TRASH}/last.txt~other~{STAMP}")
+    club.go(f"#open/club{quote(TRASH)}")
+    browser.press("Restore last.txt", "//main")
+    browser.sees("This folder is empty.", "main")
+    browser.until("the focus is there", lambda: browser.script(FOCUSED) == "Trash of ann")
+
+
 def test_trash_that_is_not_there_has_no_way(club, browser):
     club.open()
     browser.until("the rail", lambda: browser.script(TEXTS, "#rail a") == ["club"])

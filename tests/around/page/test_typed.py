@@ -110,7 +110,6 @@ def meets(club, browser, mine, theirs, words):
     browser.press("Save")
     browser.sees("Somebody changed this meanwhile", "dialog")
     browser.sees(theirs, "dialog pre")
-    browser.sees("The room keeps no record of who it was.", "dialog")
     browser.sees(mine, "dialog pre")
     browser.press(words)
 

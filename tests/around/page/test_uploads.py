@@ -177,7 +177,7 @@ def test_upload_that_is_stopped(club, browser, big):
     club.put("/big", club.on_disk("stopped", data))
     browser.sees("sent again until", "#busy")
     kept = "return Object.keys(localStorage).filter((it) => /^fileroom.ann.*body$/.test(it)).length"
-    browser.until("six are under way, each kept", lambda: browser.script(kept) == 6)
+    browser.until("four are under way, each kept", lambda: browser.script(kept) == 4)
     browser.go("about:blank")
     club.lossy.lose("")
     club.open("/big")
@@ -232,6 +232,22 @@ def test_upload_of_what_is_dropped_anywhere(club, browser):
     assert drop(browser, club.on_disk("one.txt", b"one")) == "Drop to upload to dropped"
     browser.sees("1 file uploaded", "#notices")
     assert club.kinds("/dropped") == {"one.txt": "file"}
+
+
+def test_upload_of_what_is_dropped_goes_to_what_is_shown(club, browser):
+    """Also where the folder before comes late."""
+    club.lay("/slow/", "/dropped/")
+    club.open()
+    club.lossy.hold('"ACCESS"', '"/slow"')
+    browser.script("location.hash = '#open/club/slow'")
+    browser.until("it is asked for", lambda: club.lossy.held)
+    club.open("/dropped")
+    club.lossy.go_on()
+    for _ in range(9):  # (by then that came too)
+        browser.later("fetch('/whoami').then(() => arguments[0]())")
+    assert drop(browser, club.on_disk("one.txt", b"one")) == "Drop to upload to dropped"
+    browser.sees("1 file uploaded", "#notices")
+    assert (club.names("/slow"), club.names("/dropped")) == ([], ["one.txt"])
 
 
 def test_upload_of_what_is_dropped_where_one_may_not(club, browser):

@@ -10,7 +10,7 @@ import { GONE, TOP, begun, bytesOf, endAll, isQuiet, isTidy, lay, names, numbers
 const { t } = await page("words");
 const { writeFile } = await page("files");
 const { NOBODY, readFile } = await page("reading");
-const { removeAll } = await page("clearing");
+const { removeAll } = await page("parts");
 
 test("a save is answered with its manifest, and the user goes on beside the rest", async () => {
   const [room, path] = [await begun(), `${TOP}/behind`];

@@ -39,6 +39,9 @@ const PART = /^([a-z][a-z0-9]*)?((?:\.[\w-]+)*)(?:\[([\w-]+)(?:='([^']*)')?\])?$
 export class Element {
   onclick = null;
   onsubmit = null;
+  onkeydown = null;
+  oncancel = null;
+  ontoggle = null;
   onchange = null;
   parentNode = null;
   hidden = false;
@@ -58,6 +61,8 @@ export class Element {
   setAttribute(key, value) { this.attributes.set(key, String(value)); }
   getAttribute(key) { return this.attributes.get(key) ?? null; }
   removeAttribute(key) { this.attributes.delete(key); }
+  get ariaExpanded() { return this.getAttribute("aria-expanded"); }
+  set ariaExpanded(it) { this.setAttribute("aria-expanded", it); }
   addEventListener() {}
   normalize() {}
   setSelectionRange() {}

@@ -11,8 +11,9 @@ const { isOwnTrash, nameAt, ownTrash, toTrash, toldBy, trashOf } = await page("t
 const { writeCopy, writeFile } = await page("files");
 const { NOBODY, readFile } = await page("reading");
 const { PIECE } = await page("manifest");
-const { useClipboard } = await page("clipboard");
-const { latest, note } = await page("mine");
+const { useClipboard } = await page("drag");
+const { upload } = await page("uploads");
+const { latest, note } = await page("rail");
 const { helpThem, setBack } = await page("questions");
 const TRASH = "/trash/@d/ann";
 const PRIVATE = { aclflag: 2, entries: [{ type: 0, flag: 3, mask: 0x1f07ff, who: "OWNER@" }] };
@@ -224,6 +225,12 @@ test("who is let pass stands behind those who are kept out", async () => {
   assert.deepEqual(shelf.things.get("/d").list, { aclflag: 2, entries: [denied, owner] });
 });
 
+test("what somebody set meanwhile is not set back, and the top is told by its room", async () => {
+  const [shelf, changes] = [new Shelf(), [{ path: "/", before: PRIVATE, after: "" }]];
+  const { room } = appOver(shelf);
+  await assert.rejects(setBack(room, changes), { message: t.about(room.name, t.changed) });
+});
+
 test("a large file is read whole or not at all", async () => {
   const shelf = new Shelf();
   const { room } = appOver(shelf);
@@ -247,4 +254,28 @@ test("an upload that is given up leaves nothing, and what was there", async () =
     await refused(writeFile(room, "/l", LARGE.map(() => 8), transfer), "given up");
     assert.deepEqual(shelf.below("/").sort(), names);
   }
+});
+
+const onDisk = (name, text) =>
+  ({ names: [name], file: { size: text.length, arrayBuffer: async () => new TextEncoder().encode(text) } });
+
+/** Uploads into the folder that is shown. */
+const uploaded = (shelf, folder, ...chosen) =>
+  upload(Object.assign(appOver(shelf), { place: { path: folder } }), folder, chosen);
+
+test("what the trash has no room for is not replaced", async () => {
+  const shelf = trashed();
+  shelf.refuses = ({ cmd, path }) => (cmd === "CREATE" && path.startsWith(TRASH) ? 11 : 0);
+  const done = uploaded(shelf, "/d", onDisk("a.txt", "new"));
+  await press(t.replaceAndKeep);
+  await done;
+  assert.equal(shelf.text("/d/a.txt"), "a");
+  assert.equal(shown("div.fault").filter((it) => it.textContent.includes(t.trashFull)).length, 1);
+});
+
+test("a folder takes as many things as it has room for, unasked", async () => {
+  const shelf = new Shelf();
+  for (let at = 0; at < 255; at += 1) shelf.put(`/${at}`, "a");
+  await uploaded(shelf, "/", onDisk("last", "new"));
+  assert.deepEqual([shelf.names("/").length, shelf.text("/last"), shown("dialog")], [256, "new", []]);
 });

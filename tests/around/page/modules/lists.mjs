@@ -6,8 +6,8 @@ import { page } from "./browser.mjs";
 
 const lists = await page("lists");
 const { ALL, APPEND, CHANGE, FILE, FOLDER, LARGE, READ, SETS, VIEW, WRITE, askedOf, levelOf, ofLarge, rightsIn } =
-  await page("rights");
-const { Refusal } = await page("codes");
+  await page("lists");
+const { Refusal } = await page("room");
 const { t } = await page("words");
 
 const entry = (who, mask = VIEW, flag = 0, type = 0) => ({ type, flag, mask, who });

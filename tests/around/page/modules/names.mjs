@@ -4,8 +4,8 @@ import { test } from "node:test";
 
 import { page } from "./browser.mjs";
 
-const { clean, forDisk, inOrder, learnNames, shown, usersBy } = await page("names");
-const { addressOf, isTooLong, nameFault, numbered, pathFault, placeOf, shortened } = await page("places");
+const { addressOf, clean, forDisk, inOrder, isTooLong, learnNames, nameFault, numbered, pathFault, placeOf, shortened,
+  shown, usersBy } = await page("names");
 const { t } = await page("words");
 
 test("what nobody would see, or turns the text, is shown as a mark", () => {

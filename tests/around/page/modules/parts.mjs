@@ -10,11 +10,10 @@ import { appOver } from "./shelf.mjs";
 
 const { showAccess } = await page("access");
 const { showContents } = await page("contents");
-const { ACCESS, NOENT, Refusal } = await page("codes");
-const { writeFile } = await page("files");
+const { ACCESS, NOENT, Refusal } = await page("room");
+const { secure, writeFile } = await page("files");
 const { bytesOf: textOf, manifestOf } = await page("manifest");
 const { NOBODY, readFile } = await page("reading");
-const { secure } = await page("secure");
 const { t } = await page("words");
 const [ALL, VIEW, GROUP, PLANTED] = [0x1f07ff, 0x1200a9, 0x40, ".room-pieces-0123456789abcdef"];
 const entry = (who, mask, flag = 3) => ({ type: 0, flag, mask, who });
@@ -164,7 +163,7 @@ test("one that neither takes its place nor gets its name back stays where it is"
   const { ann, path, data } = await anewAs("stays", (_, cmd, at) =>
     Promise.reject(new Refusal({ code: ACCESS, bit: 1, path: at }, { cmd, path: at })));
   const lists = await Promise.all((await ann.names(path)).map(([name]) =>
-    ann.asideIfAllowed("READ", `${path}/${name}/001`)));
+    ann.look("READ", `${path}/${name}/001`)));
   assert.ok(lists.some((it) => it?.data === data));
 });
 

@@ -38,7 +38,8 @@ function reached(url, how) {
 globalThis.fetch = async (url, how) => reached(url, how);
 
 /** Waits of the page, which end at once, but for those of a tab that `isDead`. */
-export const patience = { waits: [], isDead: false, begin: () => ({ over() {}, async wait(why, times, isShut) {
+const givenUp = new Promise(() => {}); // (never)
+export const patience = { waits: [], isDead: false, begin: () => ({ givenUp, over() {}, async wait(why, times, isShut) {
   patience.waits.push({ why, times, isShut });
   if (patience.waits.length > MOST) throw new Error(`it waits without end: ${why}`);
   if (patience.isDead) await new Promise(() => {});

@@ -55,7 +55,7 @@ export async function begun() {
   const room = await tab();
   await room.session.askAside({ cmd: "MKDIR", path: TOP });
   await room.session.askAside({ cmd: "SETLIST", path: TOP, ...LISTED });
-  const wide = Array.from({ length: 6 }, () => room.session.askAside({ cmd: "STAT", path: "/" }));
+  const wide = Array.from({ length: 4 }, () => room.session.askAside({ cmd: "STAT", path: "/" }));
   await Promise.all([...wide, room.session.ask({ cmd: "STAT", path: "/" })]);
   front.asked.length = 0;
   return room;

@@ -2,7 +2,7 @@
 import { page } from "./browser.mjs";
 
 const { Room } = await page("room");
-const { folderOf, isWithin, lastName } = await page("places");
+const { folderOf, isWithin, lastName } = await page("names");
 const OPEN = { aclflag: 1, entries: [{ type: 0, flag: 0x83, mask: 0x1f07ff, who: "EVERYONE@" }] };
 const [NOENT, ISDIR, EXIST, NOTEMPTY] = [1, 3, 4, 6];
 

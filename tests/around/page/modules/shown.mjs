@@ -6,12 +6,14 @@ import { buttonOf, happens, kept, page, shown } from "./browser.mjs";
 
 const { t } = await page("words");
 const { ask, closeAll, input, isUnsaved } = await page("dialogs");
-const { openMenu } = await page("menu");
+const { openMenu } = await page("dialogs");
 const notices = await page("notices");
 const { GaveUp, begin } = await page("busy");
 const { preview } = await page("preview");
-const { Zip, crcOf } = await page("zip");
+const { Zip, crcOf } = await page("downloads");
 const { sizeWords } = await page("transfers");
+const { Row } = await page("rows");
+const { Details } = await page("rows");
 const { part, make } = await page("dom");
 const bytes = (text) => new TextEncoder().encode(text);
 const soon = () => new Promise((goOn) => setTimeout(goOn, 0));
@@ -31,6 +33,62 @@ test("the page speaks what was chosen, or what the browser asks for, or English"
   assert.deepEqual(await speaks("de", "en-US"), german);
   assert.deepEqual(await speaks("xx", "fr"), english);
   assert.deepEqual(await speaks("constructor", "fr"), english);
+});
+
+test("a text of several blanks has each of them in its place, in German too", async () => {
+  localStorage.setItem("fileroom/language", "de");
+  const { t: german } = await import(`${process.env.PAGE}/words.js?blanks`);
+  kept.clear();
+  for (const [key, parts, words] of [
+    ["wouldHave", ["/a", 270, 256], "In /a wären 270 Elemente; höchstens 256 sind möglich."],
+    ["tooLong", [70, 64], "Das zählt als 70 Buchstaben, höchstens 64 sind möglich"],
+    ["tooLarge", [17, 16], "hat 17 MiB, höchstens 16 MiB sind möglich"],
+    ["listFull", [33, 32], "Das wären 33 Einträge, höchstens 32 sind möglich."],
+    ["barred", ["bob", "/a", "/a/b", ""], "bob darf nicht durch /a und kommt nicht an /a/b."],
+    ["shutOutAt", ["bob", "/a"], "bob kommt nicht durch /a."],
+    ["isFull", ["/a", "/b"], "/a ist voll: 256 Elemente. Was Sie anlegen, kommt in /b"],
+    ["takesPlace", ["a.txt", "2 KiB"], "a.txt (2 KiB) ersetzt, was da ist"],
+    ["isNow", ["/a", "/b", 1], "/a ist jetzt /b."], ["isNow", ["/a", "/b", 2], "/a sind jetzt /b."],
+    ["notInRoster", ["eve", true], "eve ist kein Benutzer dieses Raums."],
+    ["notInRoster", ["eve", false], "eve ist keine Gruppe dieses Raums."],
+    ["ruling", [true, "bob", "lesen"], "Verboten für bob: lesen."],
+    ["ruling", [false, "bob", "lesen"], "Erlaubt für bob: lesen."],
+    ["cannotUpload", [1, 3], "1 von 3 lässt sich nicht"], ["cannotUpload", [2, 3], "2 von 3 lassen sich nicht"],
+    ["narrow", ["", 4, 1], "Benutzer und Gruppen, deren Name diese Buchstaben hat (Benutzer: 4, Gruppen: 1)"],
+    ["handsDown", [false, ["Ordner"], true], "Gilt hier nicht, aber für Ordner darin und weiter unten."],
+    ["handsDown", [true, ["Ordner"], false], "Gilt hier und für Ordner darin, weiter unten nicht."]]) {
+    assert.equal(german[key](...parts).slice(0, words.length), words);
+  }
+});
+
+test("an answer that comes late is not drawn over the row on which somebody stands by then", async () => {
+  const answers = new Map();
+  const row = (called) => ({ path: `/${called}`, called, kindName: "folder", cells: { kind: make("td") },
+    look: () => new Promise((tell) => answers.set(called, () => tell({ kind: "folder", words: "" }))) });
+  const seers = { questions: { stat: async () => null }, of: async () => null };
+  const details = new Details({ app: { room: { behind() {} } }, place: { room: "club" }, seers });
+  details.element.checkVisibility = () => true;
+  for (const called of ["first", "second"]) {
+    details.show(row(called));
+    for (let times = 0; times < 500 && !answers.has(called); times += 1) await soon();
+  }
+  for (const called of ["second", "first"]) {
+    answers.get(called)();
+    for (let times = 0; times < 10; times += 1) await soon();
+  }
+  assert.equal(details.element.querySelector("h2").textContent, "second");
+});
+
+test("a change of today is told by its time, one of the same day of another year by that", () => {
+  const [now, before] = [new Date(), new Date()];
+  before.setFullYear(now.getFullYear() - 1);
+  const told = (when) => {
+    const cells = { when: make("td") };
+    Row.prototype.tellWhen.call({ cells }, { who: "bob", when: when.getTime() / 1_000 });
+    return cells.when.textContent;
+  };
+  assert.match(told(now), /^\d+:\d\d.*, bob$/);
+  assert.match(told(before), new RegExp(` ${before.getFullYear()}, bob$`));
 });
 
 test("a fault stays until what it is about goes well, a word until the next", () => {
@@ -60,15 +118,20 @@ test("who waits is told from the second time on, and may give up; a login is wai
   await waiting.wait(t.restarting, 1, false);
   assert.equal(part("busy").hidden, true);
   await waiting.wait(t.restarting, 2, false);
-  assert.equal(part("busy").hidden, false);
+  assert.deepEqual([part("busy").hidden, part("busy-login").hidden], [false, true]);
   await waiting.wait(t.restarting, 20, false);
   assert.deepEqual(pauses, [250, 500, 5000]);
   const shut = waiting.wait(t.loginGone, 3, true);
   globalThis.setTimeout = plain;
   assert.equal(pauses.length, 3);
+  assert.equal(part("busy-login").hidden, false);
   happens("focus");
   await shut;
-  const given = waiting.wait(t.restarting, 4, true);
+  const other = waiting.wait(t.loginGone, 4, true);
+  happens("storage", { key: "fileroom/logged-in" });
+  await other;
+  const given = waiting.wait(t.held, 4, true);
+  assert.equal(part("busy-login").hidden, true);
   part("busy-stop").onclick();
   await assert.rejects(given, (fault) => fault instanceof GaveUp && fault.message === t.unknown(t.gaveUp));
   waiting.over();

@@ -17,7 +17,7 @@ globalThis.fetch = async (url) => {
 
 /** Of a page that is loaded anew. */
 async function warnings() {
-  const { warn } = await import(`${process.env.PAGE}/warned.js?${loads += 1}`);
+  const { warn } = await import(`${process.env.PAGE}/notices.js?${loads += 1}`);
   return async (user, room) => {
     await warn(user, room);
     return shown("p.fault").map((it) => it.childNodes[0]);
