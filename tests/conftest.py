@@ -4,8 +4,10 @@ FILEROOM names another program than build/fileroom. A file of tests fails that l
 temporary folder; and so does a test that could not be tried. The last line is 'N passed, M failed'.
 """
 import os
+import shlex
 import shutil
 import signal
+import subprocess
 import sys
 import tempfile
 import time
@@ -15,21 +17,23 @@ import pytest
 HERE = os.path.dirname(os.path.abspath(__file__))
 sys.path[:0] = [os.path.join(HERE, "lib"), os.path.join(HERE, "..", "tools")]
 sys.dont_write_bytecode = True
-pytest.register_assert_rewrite("players")
+pytest.register_assert_rewrite("cases", "players", "typed")
 import given
 import served
+from nginx import PATH
 from parts import below, send
 
 MOST_TOLD = 12  # tests that failed, at the end
 LETTERS, BEFORE = 600, 80  # of a value that differs, and of them those before the first that does
-MOMENT = 5  # seconds for what ends with a test to be gone
+MOMENT = 30  # seconds for what ends with a test to be gone
+WITHIN = "PLAYED_WITHIN"  # has its folder in a process that plays a test behind other words
 
 
 class Run:
     """The folder of a run, and what it has to say at its end."""
 
     def __init__(self):
-        self.folder = tempfile.mkdtemp(prefix="fileroom-")
+        self.folder = os.environ.get(WITHIN) or tempfile.mkdtemp(prefix="fileroom-")
         self.temporary, self.told, self.counts = os.path.join(self.folder, "tmp"), [], []
         self.lasting = []  # processes that one fixture has for several files
         os.mkdir(self.temporary)
@@ -47,6 +51,7 @@ def stopped(number, _):
 def pytest_configure(config):
     config.run = Run()
     config.addinivalue_line("markers", "without_program: a test that needs no program")
+    config.addinivalue_line("markers", "within(*words): a test that a process behind these words plays, as unshare's")
     config.option.basetemp = os.path.join(config.run.folder, "tests")
     os.environ["TMPDIR"] = tempfile.tempdir = config.run.temporary
     signal.signal(signal.SIGTERM, stopped)
@@ -59,6 +64,34 @@ def pytest_collection_finish(session):
     needed = [it for it in session.items if not it.get_closest_marker("without_program")]
     if needed and not (session.config.option.collectonly or os.access(served.PROGRAM, os.X_OK)):
         pytest.exit(f"there is no {served.PROGRAM}: run make build", 1)
+
+
+# Tests that a process of their own plays
+
+def words_within(item):
+    """The words behind which the test is to be played, or None."""
+    mark = None if WITHIN in os.environ else item.get_closest_marker("within")
+    return mark and mark.args
+
+
+def pytest_itemcollected(item):
+    if words_within(item):
+        item.fixturenames.clear()  # (they are made there)
+
+
+@pytest.hookimpl(tryfirst=True)
+def pytest_pyfunc_call(pyfuncitem):
+    words = words_within(pyfuncitem)
+    if not words:
+        return None
+    run, how = pyfuncitem.config.run, {"stdout": subprocess.PIPE, "stderr": subprocess.STDOUT, "text": True}
+    folder = os.path.join(run.folder, "in")  # (a short path: sockets lie below it)
+    os.makedirs(folder, exist_ok=True)
+    done = subprocess.run([*words, "pytest-3", f"{pyfuncitem.path}::{pyfuncitem.name}"], **how,
+                          env={**os.environ, "PATH": PATH, WITHIN: folder}, preexec_fn=served.end_with_parent)
+    assert done.returncode == 0, done.stdout
+    run.told += done.stdout.splitlines()[2:-1]  # (its counts left out)
+    return True
 
 
 # What is said
@@ -83,6 +116,7 @@ def pytest_terminal_summary(terminalreporter, config):
     wrong = {it.nodeid: it for it in [*stats["failed"], *stats["error"]]}
     run = config.run
     run.told += [f"FAILED: {line_of(it)}" for it in list(wrong.values())[:MOST_TOLD]]
+    run.told += [f"again: pytest-3 {shlex.quote(it)}" for it in list(wrong)[:MOST_TOLD]]
     run.told += [f"tests: NOT TRIED: {it.nodeid}: {it.longrepr[2]}" for it in stats["skipped"]]
     if wrong and given.numbers:
         run.told.append(f"tests: with {' '.join(f'{name}={it}' for name, it in given.numbers.items())}")

@@ -8,7 +8,7 @@ import signal
 import subprocess
 import time
 
-from served import end_with_parent, free_port, started_here
+from served import end_with_parent, free_port, put_file, started_here
 
 WAIT = 600  # seconds for what a page shows: no time that it is to keep, but one after which it never comes
 ANSWER = 300  # seconds for a step of the browser, its start included: the same
@@ -133,8 +133,7 @@ class Browser:
         return [it["message"] for it in self.ask("POST", "/se/log", {"type": "browser"}) if it["level"] == "SEVERE"]
 
     def picture(self, path):
-        with open(path, "wb") as file:
-            file.write(base64.b64decode(self.ask("GET", "/screenshot")))
+        put_file(path, base64.b64decode(self.ask("GET", "/screenshot")))
 
     def until(self, what, task, seconds=None):
         """The first true value of the task, within so many seconds."""

@@ -11,6 +11,7 @@ import threading
 import time
 import tomllib
 
+from given import each
 from served import HERE, Line, session, slot, until
 
 TOP, TRASH = "/cases", "/trash/@d/ann"
@@ -20,12 +21,18 @@ OPEN = [*PRIVATE, {"flag": 3, "mask": 0x1200A9, "type": 0, "who": "bob"}]
 TRASHES = {"own": (TRASH, 2, PRIVATE), "older": ("/trash/ann", 2, PRIVATE), "open": (TRASH, 2, OPEN),
            "inherits": (TRASH, 1, PRIVATE), "bob's": (TRASH, 2, PRIVATE)}
 PIECES, GONE = (re.compile(rf"\.room-{it}-[0-9a-f]{{16}}") for it in ("pieces", "gone"))
-COUNTS, BEHIND = {"spare": 0, "extra": 0}, 20  # seconds until all is done that comes behind an answer
+COUNTS, BEHIND = {"spare": 0, "extra": 0}, 120  # seconds until all is done that comes behind an answer
 ASKS = re.compile(rb'"cmd":"(CREATE|MKDIR|WRITE)",.*"path":"([^"]*)"', re.DOTALL)
 INHERITED, ENTRY = 0x80, re.compile("([+-])(.+):([0-9A-Fx]+):([0-9]+)")
 STEP = re.compile(r"(\w+) (.*?)(?: ([=!&]) (.*))?")
 with open(os.path.join(HERE, "cases", "cases.toml"), "rb") as file:
     TABLE = tomllib.load(file)
+
+
+def each_case(player):
+    """A case for each of those that this one plays."""
+    return each("number, case", [(it["name"], at, it) for at, it in enumerate(TABLE["case"])
+                                 if player.name not in it.get("not", {})])
 
 
 class No(Exception):
@@ -323,14 +330,16 @@ def brief(found):
 
 
 class Played:
-    """One case with one player. `differs(name, got, want)` hears what came of it."""
+    """One case with one player."""
 
-    def __init__(self, number, case, player, judge, differs):
+    def __init__(self, number, case, player, judge):
         self.number, self.case, self.player, self.judge = number, case, player, judge
-        self.differs = lambda name, got, want: differs(f"{player.name}: {case['name']}: {name}", got, want)
         self.lock, self.seen, self.is_due = threading.Lock(), [], True
         self.asked, self.heard_at = set(), 0  # what was made or written, and when something was asked last
         self.quiet = getattr(player, "quiet", 0)
+
+    def differs(self, name, got, want):
+        assert got == want, f"{self.player.name}: {self.case['name']}: {name}"
 
     def play(self):
         case = self.case

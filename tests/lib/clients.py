@@ -131,12 +131,12 @@ class Client(Caller):
 
 
 class Pieces:
-    """A slot that appends pieces to documents of its own: what was answered last, and the request in flight. `need`
-    hears whether an answer is the one that is due."""
+    """A slot that appends pieces to documents of its own: what was answered last, and the request in flight. Each
+    answer is the one that is due."""
     most = 2000  # pieces of a document
 
-    def __init__(self, need, number=0):
-        self.need, self.number, self.seq, self.flight, self.last = need, number, 0, None, None
+    def __init__(self, number=0):
+        self.number, self.seq, self.flight, self.last = number, 0, None, None
         self.path, self.docs = None, {}
 
     def next(self):
@@ -164,14 +164,14 @@ class Pieces:
             answer = None
         if answer is None:
             return False
-        self.need(answer.body == body, f"{data!r} was answered {answer} and not {body}")
+        assert answer.body == body, f"{data!r} was answered {answer} and not {body}"
         self.last, self.flight = (data, answer.whole), None
         return True
 
     def repeat(self, line):
         """The last request that was answered, while none is in flight that may have run."""
         if self.last and self.flight is None:
-            self.need(line.ask(self.last[0]).whole == self.last[1], f"a repeat of {self.last[0]!r} differs")
+            assert line.ask(self.last[0]).whole == self.last[1], f"a repeat of {self.last[0]!r} differs"
 
     def read(self, line):
         """Reads each document: it is what was sent, once."""
@@ -179,7 +179,7 @@ class Pieces:
             self.seq += 1
             got = line.ask(slot(self.number, self.seq, {"cmd": "READ", "path": path})).body
             want = b'{"code":0,"data":"%s"}' % base64.b64encode(pieces)
-            self.need(got == want, f"{path} holds {got!r} and not {want!r}")
+            assert got == want, f"{path} holds {got!r} and not {want!r}"
 
 
 def look(reader, clients, own=slice(None)):

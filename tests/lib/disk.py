@@ -9,7 +9,7 @@ import os
 import re
 import subprocess
 
-from served import PROGRAM, end_with_parent, started_here, text_of
+from served import PROGRAM, end_with_parent, put_file, started_here, text_of
 
 SECTOR = 512
 CALLS = "openat,pwrite64,pwritev,write,writev,sendto,ftruncate,fdatasync,fsync,unlink,unlinkat,rename,close"
@@ -152,8 +152,7 @@ def points(log, files, dice, flushes=True):
 def written(folder, files):
     os.makedirs(folder)
     for path, data in files.items():
-        with open(os.path.join(folder, path), "wb") as file:
-            file.write(data)
+        put_file(os.path.join(folder, path), data)
 
 
 def held(folder):

@@ -9,7 +9,7 @@ import subprocess
 import time
 
 from browser import ANSWER, ELEMENT, Browser
-from served import end_with_parent, free_port, started_here
+from served import end_with_parent, free_port, put_file, started_here
 
 PREFERENCES = """user_pref("marionette.port", %d);
 user_pref("network.http.phishy-userpass-length", 255);
@@ -25,7 +25,9 @@ user_pref("services.settings.server", "data:,none");
 COMMANDS = {"POST /url": "Navigate", "POST /execute/sync": "ExecuteScript", "POST /execute/async": "ExecuteAsyncScript",
             "POST /element": "FindElement", "POST /element/ID/click": "ElementClick",
             "POST /element/ID/clear": "ElementClear", "POST /element/ID/value": "ElementSendKeys",
-            "POST /actions": "PerformActions", "GET /screenshot": "TakeScreenshot"}
+            "POST /actions": "PerformActions", "GET /screenshot": "TakeScreenshot", "GET /window": "GetWindowHandle",
+            "GET /window/handles": "GetWindowHandles", "POST /window": "SwitchToWindow",
+            "DELETE /window": "CloseWindow", "POST /window/rect": "SetWindowRect"}
 TO_TOUCH = "arguments[0].scrollIntoView({ block: 'center' }); return arguments[0].tagName"
 
 
@@ -33,8 +35,7 @@ class Firefox(Browser):
     def __init__(self, folder):
         self.port, profile = free_port(), os.path.join(folder, "firefox")
         os.makedirs(profile)
-        with open(os.path.join(profile, "user.js"), "w") as file:
-            file.write(PREFERENCES % self.port)
+        put_file(os.path.join(profile, "user.js"), PREFERENCES % self.port)
         how = {"stdin": subprocess.DEVNULL, "stdout": subprocess.DEVNULL, "stderr": subprocess.DEVNULL}
         words = ["firefox-esr", "--headless", "--marionette", "--no-remote", "--profile", profile]
         self.driver = subprocess.Popen(words, env={**os.environ, "HOME": folder, "TMPDIR": folder},
@@ -58,8 +59,13 @@ class Firefox(Browser):
 
     def received(self):
         """A message: its length, a colon, JSON."""
-        length = b"".join(iter(lambda: self.file.read(1), b":"))
-        return json.loads(self.file.read(int(length)))
+        length = b""
+        while not length.endswith(b":"):
+            piece = self.file.read(1)
+            if not piece:
+                raise ConnectionError("Firefox has ended")
+            length += piece
+        return json.loads(self.file.read(int(length[:-1])))
 
     def command(self, name, params):
         self.count += 1

@@ -1,8 +1,6 @@
 """What a test is given: cases by name, and numbers that the environment may name, as in `ROUNDS=240 pytest-3 ..`."""
 import os
 
-import pytest
-
 numbers = {}  # that tests of this run asked for
 
 
@@ -14,4 +12,5 @@ def number(name, default):
 
 def each(names, rows):
     """A case for each row: its name, and the values of `names`."""
+    import pytest  # (what lab/ plays by hand has none)
     return pytest.mark.parametrize(names, [pytest.param(*values, id=ascii(name)[1:-1]) for name, *values in rows])

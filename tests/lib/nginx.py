@@ -27,11 +27,11 @@ def login(user, password):
     return "authorization: Basic " + base64.b64encode(f"{user}:{password}".encode()).decode()
 
 
-def certified(folder, *names):
+def certified(folder, *names, days=2):
     """Makes a certificate of its own, with its key, for these names: `DNS:a.b`, `IP:127.0.0.1`."""
     os.makedirs(folder, exist_ok=True)
     cert, key = (os.path.join(folder, it) for it in ("cert.pem", "key.pem"))
-    words = ["openssl", "req", "-x509", "-newkey", "rsa:2048", "-nodes", "-days", "2", "-subj", "/CN=a front",
+    words = ["openssl", "req", "-x509", "-newkey", "rsa:2048", "-nodes", "-days", str(days), "-subj", "/CN=a front",
              "-addext", f"subjectAltName={','.join(names)}", "-keyout", key, "-out", cert]
     subprocess.run(words, check=True, capture_output=True)
     return cert, key

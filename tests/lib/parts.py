@@ -4,11 +4,12 @@ A part is a command. Its last line may be 'N passed, M failed'; without that it 
 ends with another status than 0, counts a failure or nothing at all, takes longer than it may, or leaves a process or,
 in the folder for its temporary files, a file; and where it could not try something, since the machine lacks what that
 needs: it then prints a line 'NAME: NOT TRIED: WHAT', or ends with 'skipped: WHY'. Lines 'FAILED: WHAT' tell which of
-its statements failed.
+its statements failed; lines 'again: WORDS' name the test of each, as its last word.
 """
 import os
 import re
 import select
+import shlex
 import shutil
 import signal
 import subprocess
@@ -20,10 +21,11 @@ from served import end_with_parent
 
 COUNTS = re.compile(r"(\d+) passed, (\d+) failed")
 FAILED = re.compile(r"(\w+: )?FAILED: ")
+AGAIN = re.compile(r"again: (.+)")
 NOT_TRIED = re.compile(r"(?:skipped|\w+: NOT TRIED): (.+)")
 BY_PYTEST = re.compile(r"[.]+ *\[ *\d+%\]|\d+ passed.* in [\d.]+s.*")  # what it says of its own
 GRACE = 20  # seconds to end in order
-MOMENT = 5  # seconds for what ends with a part to see that it has ended, where other work comes first
+MOMENT = 30  # seconds for what ends with a part to see that it has ended, where other work comes first
 TICKS = os.sysconf("SC_CLK_TCK")
 
 
@@ -50,16 +52,16 @@ class Process:
 
     def __init__(self, pid):
         self.pid = pid
-        with open(f"/proc/{pid}/stat") as file:
+        with open(f"/proc/{pid}/stat", encoding="utf-8", errors="surrogateescape") as file:
             said = file.read().rpartition(")")[2].split()
         self.state, self.parent, self.session = said[0], int(said[1]), int(said[3])
         self.seconds = sum(map(int, said[11:15])) / TICKS
 
     def words(self):
-        """Its words, none where it has ended."""
+        """Its words, of whatever bytes, none where it has ended."""
         try:
-            with open(f"/proc/{self.pid}/cmdline") as file:
-                return file.read().split("\0")
+            with open(f"/proc/{self.pid}/cmdline", "rb") as file:
+                return os.fsdecode(file.read()).split("\0")
         except OSError:
             return []
 
@@ -99,19 +101,20 @@ def send(pid, number):
 
 
 class Part:
-    """A command with a name. `says` is all that it has to say; `watch` gets each line, and looks at its processes.
+    """A command with a name. `watch` gets each line, and looks at its processes.
 
     `due` tells whether it may begin: True, False while that may still come, and None once it cannot. `more` gives words
     that are known as it begins. `at_end` is called once it has been counted."""
 
-    def __init__(self, name, words, limit, env=None, says=None, watch=None, own_folder=True):
-        self.name, self.words, self.limit, self.env, self.says = name, words, limit, env or {}, says
+    def __init__(self, name, words, limit, env=None, watch=None, own_folder=True):
+        self.name, self.words, self.limit, self.env = name, words, limit, env or {}
         self.watch, self.own_folder = watch, own_folder
         self.due, self.more, self.at_end = lambda: True, list, lambda: None
         self.child = self.folder = None
         self.is_ended = False
         self.lines, self.why, self.rest, self.is_open = [], [], b"", False
-        self.not_tried, self.statements = [], []
+        self.not_tried, self.statements, self.tests = [], [], []  # (that failed)
+        self.unsteady = []
         self.passed = self.failed = 0
         self.seconds = self.ended = 0.0
 
@@ -145,6 +148,9 @@ class Part:
             self.not_tried.append(untried[1])
         if FAILED.match(text):
             self.statements.append(text)
+        again = AGAIN.fullmatch(text)
+        if again:
+            self.tests.append(shlex.split(again[1])[-1])
         if self.watch:
             self.watch.line(text)
 
@@ -211,6 +217,14 @@ class Part:
         self.failed += 1
         self.log.line(f"FAILED: {self.name}: {why}")
 
+    def tests_to_try_again(self):
+        """The tests that failed, where nothing else is wrong with it."""
+        return self.tests if self.why == [f"{len(self.tests)} failed", "it ended with status 1"] else []
+
+    def forgive(self):
+        """Its tests that failed have passed in another part."""
+        self.unsteady, self.failed, self.why, self.statements = self.tests, 0, [], []
+
     def count(self):
         lines = [it for it in self.lines if it.strip()]
         found = COUNTS.fullmatch(lines[-1]) if lines else None
@@ -225,8 +239,6 @@ class Part:
         self.why += [f"not tried: {it}" for it in self.not_tried]
         if self.child.returncode:
             self.why.append(f"it ended with status {self.child.returncode}")
-        if self.says is not None and lines != [self.says]:
-            self.why.append(f"it did not say {self.says!r}")
 
     def ended_with(self, most):
         """The statements of it that failed, else the last lines that it printed: so many at most."""
@@ -240,6 +252,8 @@ class Part:
             return f"FAILED: {self.why[0][:300]}"
         if self.watch:
             return self.watch.showed()
+        if self.unsteady:
+            return f"{self.passed} passed; UNSTEADY: {', '.join(self.unsteady)}"
         lines = [it for it in self.lines if it.strip() and not (COUNTS.fullmatch(it) or BY_PYTEST.fullmatch(it))]
         return f"{self.passed} passed: {lines[-1].removeprefix(f'{self.name}: ')}" if lines else f"{self.passed} passed"
 

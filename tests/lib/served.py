@@ -9,6 +9,7 @@ import contextlib
 import ctypes
 import fcntl
 import http
+import itertools
 import json
 import os
 import random
@@ -30,7 +31,7 @@ PROGRAM = os.path.realpath(os.environ.get("FILEROOM", os.path.join(HERE, "..", "
 SCRIPT = os.path.relpath(os.path.abspath(sys.argv[0]), os.path.join(HERE, ".."))
 SID = "0123456789abcdef0123456789abcdef"
 ROSTER = '[users]\nann = ["eng"]\nbob = ["eng", "staff"]\neng = []\n'
-WAIT = 30  # seconds for any one answer
+WAIT = 120  # seconds for any one answer, on a machine that has much to do
 STOPS = (signal.SIGTERM, signal.SIGINT, signal.SIGHUP, signal.SIGALRM)
 LIBC = ctypes.CDLL(None)
 SET_PDEATHSIG = 1  # of prctl
@@ -158,6 +159,13 @@ def bytes_of(path):
         return file.read()
 
 
+def put_file(path, data):
+    """Writes a text, or bytes, and makes the folders above."""
+    os.makedirs(os.path.dirname(path) or ".", exist_ok=True)
+    with open(path, "wb") as file:
+        file.write(data if isinstance(data, bytes) else data.encode())
+
+
 def peak_of(pid):
     """The most memory that a process has held, in KiB, or 0 once it has ended."""
     with open(f"/proc/{pid}/status") as status:
@@ -165,8 +173,8 @@ def peak_of(pid):
 
 
 def free_port():
-    """A port that nobody has, below those that the system gives to clients."""
-    for port in random.SystemRandom().sample(range(10000, 30000), 100):
+    """A port that nobody has, below those that the system gives to clients and those of tests/around/service."""
+    for port in random.SystemRandom().sample(range(10000, 20000), 100):
         with contextlib.suppress(OSError), socket.socket() as it:
             it.bind(("127.0.0.1", port))
             return port
@@ -181,10 +189,17 @@ def loopback():
 
 
 def listener(port):
-    """The socket that listens on a port, as /proc names it, or None."""
+    """The socket that listens on a port, as /proc names it, or None. (Those that listen stand before all others.)"""
     with open("/proc/net/tcp") as sockets:
-        found = re.search(f":{port:04X} 00000000:0000 0A .*", sockets.read())
-    return found and f"socket:[{found[0].split()[8]}]"
+        rows = itertools.takewhile(lambda it: it[3] == "0A", map(str.split, itertools.islice(sockets, 1, None)))
+        return next((f"socket:[{it[9]}]" for it in rows if it[1].endswith(f":{port:04X}")), None)
+
+
+def waiting_at(port):
+    """How many connections to a port have sent something that nobody has read."""
+    words = ["ss", "-Htn", "state", "established", f"sport = :{port}"]
+    rows = subprocess.run(words, capture_output=True, text=True, check=True).stdout.splitlines()
+    return sum(int(it.split()[0]) > 0 for it in rows)
 
 
 def has_file(server, name):
@@ -201,6 +216,15 @@ def until(task, seconds=WAIT, pause=0.02):
     while not (found := task()) and time.monotonic() < end:
         time.sleep(pause)
     return found
+
+
+def least(measure, enough, times=9):
+    """The least of some numbers, the last of which is below `enough`, if one of so many is: a machine that has much to
+    do adds to the seconds of each."""
+    found = []
+    while len(found) < times and (not found or found[-1] >= enough):
+        found.append(measure())
+    return min(found)
 
 
 def wait_for_port(port, server, longest=WAIT):
@@ -336,6 +360,9 @@ class Line:
         self.socket = socket.create_connection(("127.0.0.1", port), WAIT, (source, 0))
         self.socket.setsockopt(socket.IPPROTO_TCP, socket.TCP_NODELAY, 1)
         self.rest = b""
+
+    def fileno(self):
+        return self.socket.fileno()
 
     def send(self, data):
         self.socket.sendall(data)

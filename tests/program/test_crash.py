@@ -55,10 +55,6 @@ pytestmark = pytest.mark.usefixtures("alone")
 
 # At times drawn at random
 
-def need(fact, text):
-    assert fact, text
-
-
 def until_killed(room, clients, dice):
     """Requests until the server is killed."""
     line = room.start().line()
@@ -78,7 +74,7 @@ def until_killed(room, clients, dice):
 
 @pytest.mark.timeout(1800)
 def test_serve_killed_at_any_time(own, tmp_path):
-    clients, dice, lost = [Pieces(need, 0), Pieces(need, 1)], random.Random(SEED), 0
+    clients, dice, lost = [Pieces(0), Pieces(1)], random.Random(SEED), 0
     for _ in range(ROUNDS):
         until_killed(own, clients, dice)
         lost += sum(client.flight is not None for client in clients)

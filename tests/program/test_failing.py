@@ -23,7 +23,7 @@ import preloaded
 import pytest
 import scenes
 from given import each, number
-from served import HERE, ROSTER, message, run, whole
+from served import HERE, ROSTER, message, put_file, run, whole
 
 EVERY, SEED = number("EVERY", 17), number("SEED", 1)
 FILES = sorted(glob.glob(os.path.join(HERE, "..", "crates", "test_examples", "data", "*.txt")))
@@ -97,8 +97,7 @@ class Player:
     def __init__(self, folder):
         roster = os.path.join(folder, "roster.toml")
         self.replay = "replay", roster, "ann", "eng"
-        with open(roster, "w", encoding="utf-8") as file:
-            file.write(ROSTER)
+        put_file(roster, ROSTER)
         self.env = {**os.environ, "LD_PRELOAD": preloaded.built(folder, os.path.join(HERE, "lib", "fail.c"))}
 
     def ended(self, words, sent, **how):

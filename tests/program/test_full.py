@@ -17,12 +17,11 @@ import subprocess
 
 import pytest
 from given import number
-from served import Room, end_with_parent, findings_of, narrow, session, slot, whole
+from served import Room, findings_of, narrow, session, slot, whole
 
 LIMITS = [60 * 1024 + at * (37 * 1024 + 123) for at in range(number("LIMITS", 12))]  # bytes of a file
 MOST = 200  # documents
 DISK, LEFT = 64 * 2**20, 2**20  # bytes of a disk, and those that are left of it once a room is made
-INSIDE = "FULL_INSIDE"  # is set in the mount namespace
 DELAY = b'{"code":30,"error":"DELAY"}'
 pytestmark = pytest.mark.usefixtures("alone")
 
@@ -128,14 +127,8 @@ def test_a_limit(tmp_path, limit, is_lifted):
     acts_once(Narrow(str(tmp_path / "own"), limit), f"limit {limit}, lifted: {is_lifted}", is_lifted)
 
 
+@pytest.mark.within("unshare", "-rm")
 def test_a_full_disk(tmp_path):
-    """(Once more by a process of its own, which may mount one.)"""
-    if INSIDE not in os.environ:
-        how = {"capture_output": True, "text": True, "preexec_fn": end_with_parent}
-        words = ["unshare", "-rm", "pytest-3", f"{__file__}::test_a_full_disk"]
-        done = subprocess.run(words, env={**os.environ, INSIDE: "1"}, **how)
-        assert done.returncode == 0, done.stdout
-        return
     disk = str(tmp_path)
     subprocess.run(["mount", "-t", "tmpfs", "-o", f"size={DISK}", "tmpfs", disk], check=True)
     try:

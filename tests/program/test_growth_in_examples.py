@@ -29,7 +29,7 @@ from given import number
 from parts import Process
 from players import BAD_HTTP, each_scene
 from refusing import Refusals
-from served import ROSTER, WAIT, Line, PlayedRoom, run, start_program, until, whole
+from served import ROSTER, WAIT, Line, PlayedRoom, put_file, run, start_program, until, whole
 
 EVERY, SEED = number("EVERY", 97), number("SEED", 1)
 DELAY = [whole(b'{"code":30,"error":"DELAY"}', 503, last) for last in (False, True)]
@@ -62,8 +62,7 @@ class InMemory:
     def __init__(self, folder, refusals):
         self.env, self.line = refusals.env, None
         self.roster = os.path.join(folder, "roster.toml")
-        with open(self.roster, "w") as file:
-            file.write(ROSTER)
+        put_file(self.roster, ROSTER)
 
     def reads(self, refusals):
         """Whether the program waits for its input."""
@@ -259,7 +258,7 @@ class Play:
         for step in self.room.steps(self.scene):
             self.every = self.asked if step in self.scene.steps else 0
             self.step(step, numbers)
-            self.counts["examples"] += step.count() if self.every and self.starts is None else 0
+            self.counts["examples"] += step.times if self.every and self.starts is None else 0
         return self.room.rows()
 
 

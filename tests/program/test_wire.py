@@ -13,7 +13,7 @@ import time
 
 import pytest
 from given import each
-from served import (PROGRAM, ROSTER, SID, bytes_of, end_with_parent, free_port, message, run, session, slot,
+from served import (PROGRAM, ROSTER, SID, bytes_of, end_with_parent, free_port, message, put_file, run, session, slot,
                     started_here, text_of, whole)
 
 BASE, BODY = f"/v1/sessions/{SID}", b'{"slots":3}'
@@ -123,7 +123,7 @@ def test_connections_that_end_badly_do_not_end_the_server(room):
     start = time.monotonic()
     line = room.line()
     assert line.ask(ONE).whole == GOOD
-    assert time.monotonic() - start < 10
+    assert time.monotonic() - start < 30  # (a peer that takes nothing is waited for twice as long)
     line.close()
 
 
@@ -212,8 +212,7 @@ NO_ROOM = [
                       *((it[:40], it.encode(), "not a room") for it in NO_ROOM),
                       ("no UTF-8", b"[users]\nann = [\"\xff\"]\n", "cannot read roster")])
 def test_rosters(at, text, fault):
-    with open(at["ROSTER"], "wb") as file:
-        file.write(text)
+    put_file(at["ROSTER"], text)
     assert said(at, "report NONE ROSTER lists") == (1, b"", f"fileroom: {fault}\n".encode())
     assert not os.path.exists(at["NONE"])
 
@@ -279,8 +278,7 @@ SOME = [(f"u{n:03}", "001200a9" if n % 2 == 0 else "00000000") for n in range(10
     ("quoted", "# nobody\n[users]\n\"a.b_c-d\" = ['eng', 'eng']\n", [("a.b_c-d", "001200a9")]),
     ("a thousand", "[users]\n" + "".join(f"{it} = {['eng'] * (mask > '00000000')}\n" for it, mask in SOME), SOME)])
 def test_users_have_their_lines_in_order_of_name(own, text, due):
-    with open(own.roster, "w") as file:
-        file.write(text)
+    put_file(own.roster, text)
     assert own.report("access") == (0, "".join(f"{mask} {name:32} /\n" for name, mask in due).encode(), b"")
 
 

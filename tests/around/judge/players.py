@@ -17,12 +17,13 @@ from browser import Browser
 from gateway import stop
 from nginx import login
 from rule import FALSE_RETRY
-from served import HERE, WAIT, end_with_parent, started_here, until
+from served import HERE, end_with_parent, put_file, started_here, until
 
 ASKER = os.path.join(HERE, "around", "judge", "asker.py")
 PAGE = os.path.join(HERE, "..", "page")
 KINDS, MARKUP = (".js", ".css", ".html", ".svg", ".png"), "judge.html"
 TABS = 3
+LONGEST = 300  # seconds until something comes, however slow the machine is
 WRITERS = 4
 MOMENT = 0.1  # seconds until somebody who was refused goes on
 AWAKE = ["--disable-background-timer-throttling", "--disable-renderer-backgrounding",
@@ -44,7 +45,7 @@ function one() {
   if (chance(0.2)) return { cmd: "READ", keep: false, path };
   return { cmd: "APPEND", data: btoa(`${mine}-${count}.`), path };
 }
-const patience = { begin: () => ({ wait, over() {} }) };
+const patience = { begin: () => ({ wait, givenUp: new Promise(() => {}), over() {} }) };
 const tell = () => { window.told.finished += 1; };
 const failed = (fault) => { window.told.faults.push(`${fault}`); };
 async function play() {
@@ -61,7 +62,7 @@ STEP = """
 const [user, logs] = arguments;
 const wait = () => new Promise((goOn) => setTimeout(goOn, 40));
 import("/session.js").then(async ({ sessionOfTab }) => {
-  const patience = { begin: () => ({ wait, over() {} }) };
+  const patience = { begin: () => ({ wait, givenUp: new Promise(() => {}), over() {} }) };
   const session = await sessionOfTab("/rooms/plans", "plans", patience, user, () => {});
   session.askAside({ cmd: "APPEND", data: btoa("a step."), path: logs[0] }, true);
 });
@@ -74,8 +75,7 @@ def page_without(folder):
     shutil.copytree(PAGE, page, ignore=lambda _, names: [it for it in names if not it.endswith(KINDS)])
     with open(os.path.join(page, "index.html"), encoding="utf-8") as file:
         text = file.read()
-    with open(os.path.join(page, MARKUP), "w", encoding="utf-8") as file:
-        file.write(re.sub("<script.*?</script>", "", text))
+    put_file(os.path.join(page, MARKUP), re.sub("<script.*?</script>", "", text))
     return page
 
 
@@ -193,7 +193,7 @@ class Page:
             launched.callback(self.end)
             self.give_up_twice()
             self.open_all()
-            if not until(lambda: self.recorder.codes[self.user, FALSE_RETRY]):
+            if not until(lambda: self.recorder.codes[self.user, FALSE_RETRY], LONGEST):
                 raise LookupError("the page was told of no false retry")
             launched.pop_all()
 
@@ -222,7 +222,7 @@ class Page:
         for word, fate in (b'"APPEND"', "answer"), (b'"path":"/"', "request"):
             self.recorder.lose(self.user, word, fate)
             self.open(STEP)
-            if not self.recorder.has_lost.wait(WAIT):
+            if not self.recorder.has_lost.wait(LONGEST):
                 raise LookupError(f"the page sent no {word}")
             self.browser.close_tab()
             self.tabs.pop()

@@ -26,13 +26,13 @@ from rule import MOST_TOLD, judged
 from served import Room, session, slot, sqlite, until, work_folder
 
 from .asker import PIECES
-from .players import Client, Gateway, Page, page_without
+from .players import LONGEST, Client, Gateway, Page, page_without
 
 REQUESTS, SEED = number("REQUESTS", 3000), number("SEED", 1)
 SHARE = 0.15  # of the requests to slots that something happens to
 SHARE_OF_ONE = 10  # a tenth of all requests is each client's at least
+MORE = 20  # requests of each client at the end
 PAUSE = 0.5, 2.5  # seconds between two events
-LONGEST = 300  # seconds until nothing is under way, however slow the machine is
 EVENTS = {"program": 6, "player": 6, "anew": 1}
 PLAYERS = {it.name: it for it in (Client, Page, Gateway)}
 ROSTER = '[users]\nann = ["eng"]\nbob = ["eng"]\ncat = ["eng"]\n'
@@ -85,9 +85,15 @@ class Scene:
                 time.sleep(self.dice.uniform(*PAUSE))
                 self.let_happen(self.dice.choices([*EVENTS], [*EVENTS.values()])[0])
             self.let_happen("anew")
-            time.sleep(PAUSE[1])
+            self.each_goes_on()
             self.recorder.share = 0.0
         assert until(self.recorder.is_idle, LONGEST), "what was under way never ended"
+
+    def each_goes_on(self):
+        """Until each client has asked for more."""
+        time.sleep(PAUSE[1])
+        before, asked = self.recorder.asked.copy(), self.recorder.asked
+        assert until(lambda: all(asked[it.user] > before[it.user] + MORE for it in self.players), LONGEST), "one ended"
 
     def is_enough(self):
         asked = self.recorder.asked
