@@ -12,6 +12,7 @@ import subprocess
 
 from nginx import certified
 from served import text_of
+from typed import as_told
 
 NAME, OWN_NAMES = "room.example", ("room.lan", "192.168.1.5")
 FOLDER, OWN_FOLDER = "/root/authority", "/root/own-authority"
@@ -55,10 +56,10 @@ class Scene:
             os.symlink("/etc/nginx/sites-available/default", DEFAULT_SITE)
         self.must("systemctl", "restart", "nginx", "fileroom-ports")
 
-    def does(self, shell, lines, is_as_told):
+    def does(self, shell, lines, due=as_told):
         for line, told in lines:
             status, printed = shell.does(line)
-            self.tally.differs(line, (status, printed), (0, printed if is_as_told(printed, told) else told))
+            self.tally.differs(line, (status, printed), (0, due(printed, told)))
 
     def trusts(self, cert, name):
         """This machine takes for good what the authority vouches for."""
@@ -111,10 +112,10 @@ def renewed(scene):
     scene.until(lambda: served() == on_disk(), "the front shows the renewed certificate")
 
 
-def by_certbot(scene, shell, day, lines):
+def by_certbot(scene, shell, lines):
     """The site that Debian has at port 80 is there first, and is put away by the line of `check`."""
     begin_pebble(scene)
-    scene.does(shell, lines, lambda *_: True)  # (certbot tells much, and RUNNING none of it)
+    scene.does(shell, lines, lambda printed, _: printed)  # (certbot tells much, and RUNNING none of it)
     scene.until(lambda: served() == on_disk(), "the front shows the certificate")
     found = scene.said("fileroom-admin", "check")[1].splitlines()
     remedy = next((it.strip() for at, it in enumerate(found) if at and "default site" in found[at - 1]), "")
@@ -125,11 +126,18 @@ def by_certbot(scene, shell, day, lines):
     scene.must("systemctl", "stop", "pebble")
 
 
-def of_ones_own(scene, shell, day, lines):
-    """A desk that trusts it, by Debian's lines, finds the room by name and by address; one that does not, does not."""
+def of_ones_own(scene, shell, lines):
+    """A desk that trusts it, by Debian's lines, finds the room by name and by address; one that does not, does not. It
+    is told when the certificate ends, and then the last three lines are done again."""
     os.mkdir(OWN_FOLDER)
     shell.does(f"cd {OWN_FOLDER}")
-    scene.does(shell, lines, day.is_as_told)
+    scene.does(shell, lines)
+    for line, _ in lines[-2:]:
+        scene.tally.differs("one of few days", shell.does(line.replace("-days 397", "-days 5"))[0], 0)
+    ends = lambda: "the certificate expires" in scene.said("fileroom-admin", "check")[1]
+    scene.tally.differs("it is told", ends(), True)
+    scene.does(shell, lines[-3:])
+    scene.tally.differs("and no more", ends(), False)
 
     def asks(name):
         words = ["curl", "-s", "-m", "20", "--connect-to", "::127.0.0.1:", "-o", "/dev/null", "-w", "%{http_code}"]

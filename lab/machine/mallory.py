@@ -13,6 +13,7 @@ def bound():
         except OSError:
             it.close()
             time.sleep(0.002)
+print("begins", flush=True)
 it = bound()
 while True:
     line, _ = it.accept()

@@ -57,14 +57,16 @@ class Scene:
         self.cannot_be_read(install)
         self.it.must("apt-get", "remove", "-y", "fileroom")
         self.is_gone("removed")
-        self.tally.differs("rooms end with it", [self.it.state(f"fileroom@{it}") for it in ("plans", "club")],
-                           ["inactive"] * 2)
+        states = "--state=active,activating,deactivating"
+        left = self.it.said("systemctl", "list-units", "--plain", "--no-legend", states, "fileroom*")
+        self.tally.differs("its units end with it", left, (0, ""))
         self.it.must("apt-get", "install", "-y", install)
         self.is_there("installed again")
         told = self.it.must("apt-get", "purge", "-y", "fileroom")
         self.is_gone("purged")
         self.tally.differs("a purge names what stays", [it for it in KEPT if f"{it} is kept" not in told], [])
         self.tally.differs("and keeps it", [it for it in KEPT if os.path.isdir(it) and not os.listdir(it)], [])
+        self.tally.differs("what else is left", [it for it in glob.glob("/var/lib/fileroom*") if it not in KEPT], [])
 
     def cannot_be_read(self, install):
         """While nginx refuses another site's file it goes on with the front, and so does the wall."""

@@ -5,11 +5,12 @@ import json
 import os
 import pwd
 
-from mallory import READS
+from mallory import READS, REACH
 from nginx import login
 from served import Line, message, text_of
 
 FOLDER = "/var/lib/fileroom-dav"
+PACKAGE = "/root/fileroom_1.0_amd64.deb"
 GATEWAY, MEETING = "/run/fileroom-dav/gateway.sock", "/run/fileroom-front/dav.sock"
 PROBE = READS + """
 def writes(path):
@@ -69,11 +70,11 @@ class Scene:
         self.reinstalled()
 
     def reinstalled(self):
-        """(Where it was installed as a package.)"""
-        if self.it.said("dpkg", "--status", "fileroom")[0] == 0:
+        """(Where a package is installed that is there yet.)"""
+        if self.it.said("dpkg", "--status", "fileroom")[0] == 0 and os.path.exists(PACKAGE):
             self.it.must("dpkg", "-r", "fileroom")
             self.tally.differs("it ends with the package", self.it.state("fileroom-dav.socket"), "inactive")
-            self.it.must("dpkg", "-i", "/root/fileroom_1.0_amd64.deb")
+            self.it.must("dpkg", "-i", PACKAGE)
             self.is_there("reinstalled")
 
     def turned_on(self):
@@ -87,7 +88,7 @@ class Scene:
         for user in "mallory", "nobody", "www-data":
             group = grp.getgrgid(pwd.getpwnam(user).pw_gid).gr_name
             for at in GATEWAY, MEETING, FOLDER:
-                words = ["ls", at] if at == FOLDER else ["python3", "-c", self.it.REACH, at]
+                words = ["ls", at] if at == FOLDER else ["python3", "-c", REACH, at]
                 status, told = self.it.said(*self.it.as_user(user, group, *words))
                 self.tally.differs(f"{user} at {at}", told == "refused" or status != 0, True)
 
@@ -109,7 +110,7 @@ class Scene:
     def killed(self):
         self.it.must("systemctl", "kill", "--signal=KILL", "fileroom-dav")
         self.is_there("killed")
-        self.it.must("pkill", "-KILL", "-x", "nginx")
+        self.it.must("systemctl", "kill", "--signal=KILL", "nginx")
         self.tally.differs("what a killed nginx left", os.path.exists(MEETING), True)
         self.it.must("systemctl", "restart", "nginx")
         self.is_there("nginx-killed")

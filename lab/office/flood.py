@@ -4,7 +4,7 @@ import threading
 import time
 
 from people import HELD, Failed
-from served import stopping
+from served import put_file, stopping
 
 TOP = "/flood"
 LARGE = 1 << 20  # bytes of a file that it sends besides
@@ -43,8 +43,7 @@ class Flood:
         folder = self.person.place.at("many")
         os.mkdir(folder)
         for it in range(200):
-            with open(os.path.join(folder, f"{it}"), "w") as file:
-                file.write(f"{it}")
+            put_file(os.path.join(folder, f"{it}"), f"{it}")
         number = 0
         while self.goes_on():
             done = self.person.does("put", "-r", folder, f"{TOP}/client-{number}")

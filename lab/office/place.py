@@ -9,27 +9,25 @@ import json
 import os
 import re
 import shutil
-import socket
 import sqlite3
 import subprocess
 import sys
 import threading
 
-from between import Between
+import gateway
+from ban import Fail2ban
 from nginx import Front
-from served import HERE, PROGRAM, Room, end_with_parent, started_here, text_of, until
+from served import HERE, PROGRAM, Room, put_file, text_of
+from turns import Turns
 
 TOP = os.path.join(HERE, "..")
 SERVICE, PAGE = os.path.join(TOP, "service"), os.path.join(TOP, "page")
-GATEWAY = os.path.join(TOP, "dav", "fileroom-dav")
 UNIT = os.path.join(SERVICE, "fileroom-backup@.service")
-DAV_UNIT = os.path.join(SERVICE, "dav", "fileroom-dav.service")
-PYTHON = "/usr/bin/python3"  # (Debian's, which has Debian's packages)
 ADMIN = os.path.join(SERVICE, "admin", "fileroom-admin")
 OWNER, GROUP = "boss", "all"
 PAST = 600_000  # numbers that the room has used: by this more than half, nearly all of what is gone
+SOCKET = "root/run/fileroom/plans.sock"
 LOGS = "root/etc/nginx/fileroom/work"
-JAILS = re.compile("fileroom-(?:made|sent)-(?:few|usual|many)")
 
 
 def roster_of(users):
@@ -37,13 +35,13 @@ def roster_of(users):
 
 
 class Place:
-    def __init__(self, folder, users):
+    def __init__(self, folder, users, **front):
         self.folder, self.users = folder, users
         self.tools = self.at("tools")
         self.env = {**os.environ, "FILEROOM": PROGRAM, "PATH": f"{self.tools}:{os.environ['PATH']}:/usr/sbin"}
         self.make_room()
         self.front = Front(self.at("root/etc/nginx/fileroom"), {it: f"{it}-word" for it in users},
-                           {"plans": self.room.port}, PAGE, dav=self.at("gate.sock"), connections=4096)
+                           {"plans": self.at(SOCKET)}, PAGE, dav=self.at("gate.sock"), connections=4096, **front)
         self.start_gateway()
         self.make_tools()
         self.ban = None
@@ -52,9 +50,7 @@ class Place:
         return os.path.join(self.folder, path)
 
     def write(self, path, text, mode=0o644):
-        os.makedirs(os.path.dirname(self.at(path)), exist_ok=True)
-        with open(self.at(path), "w", encoding="utf-8") as file:
-            file.write(text)
+        put_file(self.at(path), text)
         os.chmod(self.at(path), mode)
 
     def make_room(self):
@@ -67,19 +63,12 @@ class Place:
             table.execute("UPDATE room SET next = ?", (PAST + 1,))
         self.room.start()
         os.makedirs(self.at("root/run/fileroom"))
-        listener = socket.socket(socket.AF_UNIX)
-        listener.bind(self.at("root/run/fileroom/plans.sock"))
-        listener.listen(64)
-        Between(listener, self.room.port)
+        Turns(self.at(SOCKET), self.room.port)
 
     def start_gateway(self):
-        words = [PYTHON, "-B", GATEWAY, self.at("root/etc/nginx/fileroom/work/dav.sock"), self.at("state"),
-                 self.at("gate.sock")]
-        its = dict(re.findall("(?m)^Environment=([A-Z_]+)=([0-9]+)$", text_of(DAV_UNIT)))
         with open(self.at("gateway.log"), "w") as log:
-            self.gateway = subprocess.Popen(words, preexec_fn=end_with_parent, env={**os.environ, **its}, stderr=log)
-        started_here.append(self.gateway)
-        until(lambda: os.path.exists(self.at("gate.sock")))
+            to, at = self.at("root/etc/nginx/fileroom/work/dav.sock"), self.at("gate.sock")
+            self.gateway = gateway.start(to, self.at("state"), at, log)
 
     def make_tools(self):
         """What fail2ban's action and `fileroom-admin` call."""
@@ -141,39 +130,18 @@ class Place:
     # Who is held.
 
     def begin_to_count(self):
-        """By fail2ban, anew, as on another day, whose log of changes is a new one: with the filters, jails and action
-        as they are shipped."""
+        """By fail2ban, anew, as on another day, whose log of changes is a new one."""
         if not shutil.which("fail2ban-server"):
             return False
         self.end_counting()
         log = self.at(f"{LOGS}/changes.log")
         os.truncate(log, 0)
-        etc = self.at("ban/etc")
-        shutil.copytree("/etc/fail2ban", etc, symlinks=True)
-        shutil.rmtree(os.path.join(etc, "jail.d"))
-        self.write("ban/etc/fail2ban.local", "[Definition]\ndbfile = :memory:\n")
-        for name, to in (("made", "filter.d/fileroom-made"), ("sent", "filter.d/fileroom-sent"),
-                         ("hold", "action.d/fileroom-hold"), ("bounds", "jail.d/bounds")):
-            text = text_of(os.path.join(SERVICE, "fail2ban", f"{name}.conf"))
-            self.write(f"ban/etc/{to}.conf", text.replace("/var/log/fileroom/changes.log", log))
-        words = ["fail2ban-server", "-f", *self.ban_words(), "-p", self.at("ban/pid"), "--logtarget",
-                 self.at("ban/log"), "start"]
-        self.ban = subprocess.Popen(words, env=self.env, stdout=subprocess.DEVNULL, stderr=subprocess.DEVNULL,
-                                    preexec_fn=end_with_parent)
-        started_here.append(self.ban)
-        return until(lambda: len(JAILS.findall(self.ban_says("status"))) == 6)
-
-    def ban_words(self):
-        return ["-c", self.at("ban/etc"), "-s", self.at("ban/sock")]
-
-    def ban_says(self, *words):
-        return subprocess.run(["/usr/bin/fail2ban-client", *self.ban_words(), *words], capture_output=True,
-                              text=True).stdout
+        self.ban = Fail2ban(self.at("ban"), log, self.env)
+        return True
 
     def end_counting(self):
         if self.ban:
-            self.ban.terminate()
-            self.ban.wait()
+            self.ban.end()
         shutil.rmtree(self.at("ban"), ignore_errors=True)
 
     def held(self):

@@ -14,6 +14,7 @@ from load import DELAY, USERS, Load
 from nginx import certified, login
 from served import PROGRAM, first_answer, message, text_of
 from standby import AS_USER, BRICK, DB, NAME, ROSTER, TOP, kept_words, look_at_tables
+from typed import as_told
 
 NEEDED = ("pcs", "pacemakerd", "corosync", "crm_mon", "nginx", "openssl", "sshd", "ssh-keygen", "setpriv",
           "modprobe", "fuser", "curl", "logrotate")
@@ -80,11 +81,10 @@ def does(machine, line, want, tally):
     if re.match(r"\w+=", line):
         script += f"declare -p {line.partition('=')[0]} >>/run/set\n"
     status, told, faults = machine.status("bash", "-c", f"cd; {script}", timeout=900)
-    patterns = [".*".join(map(re.escape, it.split(".."))) for it in want]
     said = told.splitlines()
-    as_told = len(said) == len(patterns) and all(map(re.fullmatch, patterns, said))
-    tally.differs(f"{machine.name}: {line}", (status, said, faults[-400:] if status or not as_told else ""),
-                  (0, said if as_told else want, ""))
+    due = as_told(said, want)
+    tally.differs(f"{machine.name}: {line}", (status, said, faults[-400:] if status or due != said else ""),
+                  (0, due, ""))
 
 
 class BootedLab(Lab):
@@ -240,7 +240,7 @@ def longest(load, since):
     return max(done - begun for begun, done, _ in load.times if done >= since)
 
 
-def taken_over(cluster, load, tally, dice, kind):
+def taken_over(cluster, load, tally, kind):
     """The machine that serves dies in the middle of the load: it is fenced, and another one goes on."""
     dead, asked = cluster.serving(), len(cluster.lab.strip.asked)
     load.start()
@@ -540,7 +540,7 @@ def play(folder, tally, dice, kinds):
             say(f"by the lines after {time.monotonic() - begin:.0f} seconds")
             walls(cluster, tally)
             for kind in kinds:
-                taken_over(cluster, load, tally, dice, kind)
+                taken_over(cluster, load, tally, kind)
             on_purpose(cluster, load, tally)
             backed_up(cluster, load, tally)
             found(cluster, tally)

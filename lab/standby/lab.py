@@ -14,8 +14,8 @@ import socket
 import struct
 import subprocess
 import sys
-import time
 
+import served
 from served import LIBC, WAIT, end_with_parent
 
 NET = 0x40000000  # CLONE_NEWNET of setns
@@ -96,14 +96,10 @@ def sh(*words, **how):
 
 def until(task, seconds, what, pause=0.1):
     """Waits until it is so; a RuntimeError where it is not in time."""
-    end = time.monotonic() + seconds
-    while True:
-        found = task()
-        if found:
-            return found
-        if time.monotonic() > end:
-            raise RuntimeError(f"not in {seconds} seconds: {what}")
-        time.sleep(pause)
+    found = served.until(task, seconds, pause)
+    if not found:
+        raise RuntimeError(f"not in {seconds} seconds: {what}")
+    return found
 
 
 class Disk:
