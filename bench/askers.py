@@ -193,4 +193,5 @@ def front_before(names, folder):
     os.mkdir(page)
     with open(os.path.join(page, PAGE), "wb") as file:
         file.write(bytes(1024))
-    return Front(home, {USER: PASSWORD}, names, page, rate="1000000r/s", opens="1000000r/s", bulk=1000000000)
+    return Front(home, {USER: PASSWORD}, names, page, rate="1000000r/s", long="60000000r/m", opens="1000000r/s",
+                 heavy="1000000r/s", bulk=1000000000, under_way=1000, connections=4096)

@@ -36,6 +36,13 @@ def total(out):
         return int(re.search(r"(?m)^totals: (\d+)", file.read())[1])
 
 
+def events(out):
+    """How often each thing happened that callgrind was to count."""
+    with open(out) as file:
+        names, counts = re.search(r"(?ms)^events: (.*?)$.*^totals: (.*?)$", file.read()).groups()
+    return collections.Counter(dict(zip(names.split(), map(int, counts.split()))))
+
+
 def within(out, is_inside):
     """The instructions of all calls from other functions to those of such a name, with all that these call."""
     names, found, caller, callee, is_call = {}, 0, "", "", False
@@ -126,11 +133,11 @@ class Counted(Room):
             sys.exit(f"bench: the server ended with {self.server.returncode}")
         return self
 
-    def taken(self):
-        """Ends the server, and reads what it took."""
+    def taken(self, of=taken_in):
+        """Ends the server, and reads what it took, or what else is to be read."""
         self.server.send_signal(signal.SIGTERM)
         self.server.wait()
-        return taken_in(self.out)
+        return of(self.out)
 
     def monitor(self, line, *words):
         """Tells callgrind something. It looks for that while the server runs, so the server is asked for no route until
