@@ -6,7 +6,7 @@ BUILT := $(if $(FILEROOM),,build)
 
 .PHONY: try demo quick build test wrong growth failing full wire tables upgrade crash hostile front soak client page
 .PHONY: decisions power wrong-around wrong-definitions
-.PHONY: bench dist deb install uninstall service firstday standby machine office
+.PHONY: bench dist deb image install uninstall service firstday standby machine office directory
 
 # Serves a room with sample folders, the front and the page, until Ctrl-C: with build/fileroom where `make build` made
 # it, and else with the quick build, which proves nothing. It goes again; with FOLDER=.. it is kept there.
@@ -112,10 +112,16 @@ front: $(BUILT)
 standby: $(BUILT)
 	lab/standby/run
 
-# A Debian 12 with systemd itself, booted by systemd-nspawn: what `make dist` makes is installed there, the first day
-# done, and then attacked. By hand, and not part of `make test`. Needs root, systemd-container and debootstrap.
+# A Debian 12, and then a 13, with systemd itself, booted by systemd-nspawn: what `make dist` makes is installed there,
+# the first day done, and then attacked. By hand, and not part of `make test`. Needs root, systemd-container and
+# debootstrap.
 machine: $(BUILT)
 	lab/machine/run
+
+# The sign-in service before a real Active Directory, which Samba serves in a network of its own. By hand, and not part
+# of `make test`. Needs root, samba, samba-ad-provision, samba-dsdb-modules, samba-vfs-modules and winbind.
+directory:
+	lab/signin/run
 
 # An office of fifty for ten days, or a smaller one by the environment, as the head of the script has it. By hand, and
 # not part of `make test`: it takes hours. Needs nginx, openssl, nodejs, fail2ban, chromium, chromium-driver, and what
@@ -130,15 +136,11 @@ soak: $(BUILT)
 # Does the README's first screen, with the quick build too, and the first day of docs/RUNNING.md by their own lines, and
 # times them; then tries `make try` and `make dist`. Needs nginx, openssl, sqlite3 and curl, and for the first day root.
 firstday: $(BUILT)
-	tests/firstday/run
-	tests/firstday/try
-	tests/firstday/dist
-	RT='$(RT)' tests/firstday/run quick
+	RT='$(RT)' pytest-3 tests/around/firstday
 
 # Tries the page's modules in node, and the page in a browser. Needs nodejs, nginx-light, chromium and chromium-driver,
 # and says so where they are not installed.
 page: $(BUILT)
-	tests/around/page/modules/run
 	pytest-3 tests/around/page
 
 # Times and counts the program's works; the program beside a server in C over libsqlite3; the instructions of both, and
@@ -153,13 +155,18 @@ bench: $(BUILT)
 	bench/growth
 
 # Leaves build/fileroom-VERSION-COMMIT.tar.gz: the program that `make build` proved of this commit, with client, page,
-# front, units, man pages and docs. It runs on Debian 12 without the toolchain.
+# front, units, man pages and docs. It runs on Debian 12 and 13 without the toolchain.
 dist: $(BUILT)
 	RT='$(RT)' tools/dist
 
-# The same as a package of Debian 12: build/fileroom_VERSION_amd64.deb, which brings what it needs.
+# The same as a package of Debian 12 and 13: build/fileroom_VERSION_amd64.deb, which brings what it needs.
 deb: $(BUILT)
 	RT='$(RT)' tools/deb
+
+# The same as a container's image, localhost/fileroom, in podman's store, which lab/machine/image tries. Needs root,
+# debootstrap and podman.
+image: $(BUILT)
+	RT='$(RT)' tools/image
 
 # Puts the proved program that `make build` made below PREFIX, with its man pages, the client, the page, units, the
 # backup script, and samples of roster and front: docs/RUNNING.md goes on from there. DESTDIR stands before each path,
