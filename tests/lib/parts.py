@@ -52,16 +52,16 @@ class Process:
 
     def __init__(self, pid):
         self.pid = pid
-        with open(f"/proc/{pid}/stat", encoding="utf-8", errors="surrogateescape") as file:
+        with open(f"/proc/{pid}/stat", errors="replace") as file:
             said = file.read().rpartition(")")[2].split()
         self.state, self.parent, self.session = said[0], int(said[1]), int(said[3])
         self.seconds = sum(map(int, said[11:15])) / TICKS
 
     def words(self):
-        """Its words, of whatever bytes, none where it has ended."""
+        """Its words, none where it has ended."""
         try:
-            with open(f"/proc/{self.pid}/cmdline", "rb") as file:
-                return os.fsdecode(file.read()).split("\0")
+            with open(f"/proc/{self.pid}/cmdline", errors="replace") as file:
+                return file.read().split("\0")
         except OSError:
             return []
 

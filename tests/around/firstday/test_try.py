@@ -103,7 +103,7 @@ def test_processes_whose_names_are_no_text(work):
     path = os.fsencode(work) + b"/\xff"
     os.symlink("/bin/sh", path)
     with subprocess.Popen([path, "-c", "read line", "sh", path], stdin=subprocess.PIPE):
-        assert processes(os.fsdecode(path))
+        assert processes(work)
 
 
 def test_once(work):
