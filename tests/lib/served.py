@@ -5,6 +5,7 @@ servers and folders with it, when it is stopped, when its parent ends, and when 
 `python3 tests/lib/served.py` prints a free port.
 """
 import atexit
+import collections
 import contextlib
 import ctypes
 import fcntl
@@ -32,12 +33,14 @@ SCRIPT = os.path.relpath(os.path.abspath(sys.argv[0]), os.path.join(HERE, ".."))
 SID = "0123456789abcdef0123456789abcdef"
 ROSTER = '[users]\nann = ["eng"]\nbob = ["eng", "staff"]\neng = []\n'
 WAIT = 120  # seconds for any one answer, on a machine that has much to do
+HANGS = 300  # seconds for a command: the same, where all that it does may wait for a processor
 STOPS = (signal.SIGTERM, signal.SIGINT, signal.SIGHUP, signal.SIGALRM)
 LIBC = ctypes.CDLL(None)
 SET_PDEATHSIG = 1  # of prctl
 MOST_TOLD = 12  # statements that failed, at the end of a script
 SIOCGIFFLAGS, SIOCSIFFLAGS, IFF_UP = 0x8913, 0x8914, 1
 started_here = []
+held_ports = collections.deque(maxlen=16)  # sockets, each at a port that a server of this process soon has
 stopping = threading.Event()  # from then on no server is started
 
 
@@ -97,7 +100,7 @@ def start_program(*words, **how):
 
 def run(*words, stdin=b"", **how):
     """The status, the output and the faults of one run of the program."""
-    how = {"input": stdin, "capture_output": True, "timeout": 60, "preexec_fn": end_with_parent, **how}
+    how = {"input": stdin, "capture_output": True, "timeout": HANGS, "preexec_fn": end_with_parent, **how}
     done = subprocess.run([PROGRAM, *words], **how)
     return done.returncode, done.stdout, done.stderr
 
@@ -113,7 +116,7 @@ def narrow(size):
 
 def sqlite(db, text):
     """What the sqlite3 program says to this text."""
-    how = {"input": text, "capture_output": True, "text": True, "timeout": 60}
+    how = {"input": text, "capture_output": True, "text": True, "timeout": HANGS}
     done = subprocess.run(["sqlite3", "-batch", db], **how)
     return done.stdout + done.stderr
 
@@ -131,7 +134,7 @@ def findings_of(db):
 def lists_say(db):
     """The status of tools/lists, and what it says."""
     words = [os.path.join(HERE, "..", "tools", "lists"), db]
-    done = subprocess.run(words, capture_output=True, text=True, timeout=60)
+    done = subprocess.run(words, capture_output=True, text=True, timeout=HANGS)
     return done.returncode, done.stdout
 
 
@@ -173,11 +176,18 @@ def peak_of(pid):
 
 
 def free_port():
-    """A port that nobody has, below those that the system gives to clients and those of tests/around/service."""
+    """A port that nobody has, below those that the system gives to clients and those of tests/around/service. It is
+    held until a server has it: other processes that look for one pass it over."""
     for port in random.SystemRandom().sample(range(10000, 20000), 100):
-        with contextlib.suppress(OSError), socket.socket() as it:
+        it = socket.socket()
+        try:
             it.bind(("127.0.0.1", port))
-            return port
+        except OSError:
+            it.close()
+            continue
+        it.setsockopt(socket.SOL_SOCKET, socket.SO_REUSEADDR, 1)  # (a server that sets it too can listen there)
+        held_ports.append(it)
+        return port
     sys.exit(f"{SCRIPT}: no port is free")
 
 

@@ -9,7 +9,7 @@ import subprocess
 import time
 
 import manifests
-from served import HERE, PROGRAM, Line, Room, session, slot, until
+from served import HANGS, HERE, PROGRAM, Line, Room, session, slot, until
 
 SERVICE = os.path.join(HERE, "..", "service")
 BACKUP = os.path.join(SERVICE, "fileroom-backup")
@@ -81,7 +81,7 @@ def measured(*words, **env):
 
 def said(*words, **env):
     """The status, and all that a command says."""
-    how = {"capture_output": True, "text": True, "timeout": 60, "env": {**os.environ, "FILEROOM": PROGRAM, **env}}
+    how = {"capture_output": True, "text": True, "timeout": HANGS, "env": {**os.environ, "FILEROOM": PROGRAM, **env}}
     done = subprocess.run(words, **how)
     return done.returncode, done.stdout, done.stderr
 

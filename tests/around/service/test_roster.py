@@ -9,7 +9,7 @@ import threading
 
 import pytest
 from nginx import certified
-from served import put_file, text_of
+from served import HANGS, put_file, text_of
 from slapd import BASE, TLS, WORD
 
 from .contents import SERVICE
@@ -52,7 +52,7 @@ def read(folder):
 
 
 def said(*words):
-    done = subprocess.run([sys.executable, "-I", PROGRAM, *words], capture_output=True, text=True, timeout=60)
+    done = subprocess.run([sys.executable, "-I", PROGRAM, *words], capture_output=True, text=True, timeout=HANGS)
     return done.returncode, done.stdout, done.stderr
 
 

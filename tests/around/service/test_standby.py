@@ -7,7 +7,7 @@ import time
 
 import pytest
 from nginx import PATH
-from served import put_file, text_of
+from served import HANGS, put_file, text_of
 
 from .contents import SERVICE, below, said
 from .test_backup import stand_in
@@ -84,7 +84,7 @@ class Manager:
         os.rename(f"{self.cib}.new", self.cib)
 
     def does(self, *words):
-        done = subprocess.run(words, env=self.env, capture_output=True, text=True, timeout=60)
+        done = subprocess.run(words, env=self.env, capture_output=True, text=True, timeout=HANGS)
         assert done.returncode == 0, done.stderr
         return done.stdout + done.stderr
 
