@@ -11,6 +11,7 @@ import threading
 import pytest
 from given import each
 from nginx import FOLDER, certified
+from served import WAIT, until
 
 sys.path.append(os.path.join(FOLDER, "..", "signin"))
 from fileroom_signin import app, known
@@ -38,7 +39,7 @@ class Directory:
     def is_right(self, user, word):
         self.asked.append((user, word))
         if word != self.quick:
-            self.may.wait(60)
+            self.may.wait(WAIT)
         if self.down:
             raise self.down
         return (user, word) == ("ann", "ann-word")
@@ -126,50 +127,41 @@ def test_a_name_that_was_never_right_is_shut_out(service, clock):
     assert service.ask("bob", "bob-word") == 204
 
 
-def test_many_at_once(service):
-    """Who asks counts until it was right, so no more than three are under way."""
+def waits_or_ended(thread):
+    frame = sys._current_frames().get(thread.ident)
+    return not thread.is_alive() or frame is not None and frame.f_code.co_name == "wait"
+
+
+@contextlib.contextmanager
+def waiting(service, *logins):
+    """While these wait for a directory that is slow, or were told that they may not. What all are told is there behind
+    it."""
+    got = []
     service.directory.may.clear()
-    threads = [threading.Thread(target=service.ask, args=("bob", f"no{at}")) for at in range(12)]
+    threads = [threading.Thread(target=lambda its=its: got.append(service.ask(*its))) for its in logins]
     for it in threads:
         it.start()
-    for it in threads[:0:-1]:
-        it.join(0.05)
+    assert until(lambda: all(map(waits_or_ended, threads)))
+    yield got
     service.directory.may.set()
     for it in threads:
-        it.join(60)
+        it.join(WAIT)
+
+
+def test_many_at_once(service):
+    """Who asks counts until it was right, so no more than three are under way."""
+    with waiting(service, *(("bob", f"no{at}") for at in range(12))):
+        assert len(service.directory.asked) == 3
     assert len(service.directory.asked) == 3
 
 
 def test_the_same_at_once(service):
     """One question, whose answer all have: a program begins with several requests."""
     for word, status in ("ann-word", 204), ("no", 401):
-        got = []
         service.directory.asked.clear()
-        service.directory.may.clear()
-        threads = [threading.Thread(target=lambda its=word: got.append(service.ask("ann", its))) for _ in range(9)]
-        for it in threads:
-            it.start()
-        for it in threads:
-            it.join(0.05)
-        service.directory.may.set()
-        for it in threads:
-            it.join(60)
+        with waiting(service, *[("ann", word)] * 9) as got:
+            assert got == []
         assert (got, service.directory.asked) == ([status] * 9, [("ann", word)])
-
-
-@contextlib.contextmanager
-def waiting(service, *logins):
-    """While these wait for a directory that is slow."""
-    service.directory.may.clear()
-    threads = [threading.Thread(target=service.ask, args=its) for its in logins]
-    for it in threads:
-        it.start()
-    for it in threads:
-        it.join(0.05)
-    yield
-    service.directory.may.set()
-    for it in threads:
-        it.join(60)
 
 
 def test_who_was_right_waits_for_nobody(service):
@@ -209,16 +201,8 @@ def test_who_is_shut_out_waits_for_no_place(service):
 def test_the_same_is_no_wrong_one_meanwhile(service):
     """Two wrong ones are there, and who asks is the third."""
     assert [service.ask("ann", f"no{at}") for at in range(2)] == [401] * 2
-    got = []
-    service.directory.may.clear()
-    threads = [threading.Thread(target=lambda: got.append(service.ask("ann", "ann-word"))) for _ in range(4)]
-    for it in threads:
-        it.start()
-    for it in threads:
-        it.join(0.05)
-    service.directory.may.set()
-    for it in threads:
-        it.join(60)
+    with waiting(service, *[("ann", "ann-word")] * 4) as got:
+        assert got == []
     assert got == [204] * 4
 
 
