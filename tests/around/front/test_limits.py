@@ -172,9 +172,10 @@ def test_the_gateway_is_no_address(fronted, memory):
 
 # Spread over the second
 
-def beside(begin, asked):
-    """The statuses of what does not wait behind those that are spread, and the seconds since."""
-    return [it() for it in asked], time.monotonic() - begin
+def beside(lines, asked):
+    """The statuses of what does not wait behind those that are spread, and whether some of these wait then."""
+    found = [it() for it in asked]
+    return found, len(select.select(lines, [], [], 0)[0]) < len(lines)
 
 
 def test_many_by_webdav(fronted, gateway):
@@ -183,11 +184,11 @@ def test_many_by_webdav(fronted, gateway):
     front, many = fronted(dav=gateway.at, rate=f"{A_SECOND}r/s", connections=4096), 3 * DAV_AT_ONCE
     begin = time.monotonic()
     lines = of_addresses(front, begun_by_dav, many)
-    others, early = beside(begin, [lambda: begun_by_dav(front, "u02").answer().status])
+    others = beside(lines, [lambda: begun_by_dav(front, "u02").answer().status])
     assert {it.answer().status for it in lines} <= {200, 429}
     took = time.monotonic() - begin
     assert took >= (many - DAV_AT_ONCE - 1) / A_SECOND
-    assert (others, early < took / 2) == ([200], True)
+    assert others == ([200], True)
 
 
 def test_heavy_ones(fronted):
@@ -197,27 +198,28 @@ def test_heavy_ones(fronted):
     front = fronted(heavy=f"{A_SECOND}r/s", pieces=FEW, under_way=many, connections=4096)
     begin = time.monotonic()
     lines = of_addresses(front, begun, many, bytes(HEAVY))
-    others, early = beside(begin, [lambda: front.status("u01", "POST", SLOT + "98", bytes(HEAVY - 1)),
-                                   lambda: front.status("u02", "POST", SLOT + "98", bytes(HEAVY))])
+    others = beside(lines, [lambda: front.status("u01", "POST", SLOT + "98", bytes(HEAVY - 1)),
+                            lambda: front.status("u02", "POST", SLOT + "98", bytes(HEAVY))])
+    early = time.monotonic() - begin
     found = [it.answer().status for it in lines]
     took, passed = time.monotonic() - begin, found.count(200)
     assert set(found) == {200, 429}
     assert FEW + HEAVY_WAITING <= passed <= FEW + HEAVY_WAITING + 2 + A_SECOND * early
     assert took >= (passed - FEW - 1) / A_SECOND
-    assert (others, early < took / 2) == ([200, 200], True)
+    assert others == ([200, 200], True)
 
 
 @each("begin_one", [("at a room", begun), ("by WebDAV", begun_by_dav)])
 def test_in_the_long_run(fronted, gateway, begin_one):
     """Behind as many as half a minute has a login asks less often, from however many addresses: it waits, and nobody
     else does."""
-    many = 3 * A_SECOND
+    many = 6 * A_SECOND
     front = fronted(dav=gateway.at, long=f"{A_SECOND}r/s", long_at_once=FEW, under_way=many, connections=4096)
     begin = time.monotonic()
     lines = of_addresses(front, begin_one, many)
-    others, early = beside(begin, [lambda: begin_one(front, "u02").answer().status])
+    others = beside(lines, [lambda: begin_one(front, "u02").answer().status])
     found = [it.answer().status for it in lines]
     took = time.monotonic() - begin
     assert took >= (many - FEW - 1) / A_SECOND
     assert found.count(200) >= many - FEW
-    assert (others, early < took / 2) == ([200], True)
+    assert others == ([200], True)
