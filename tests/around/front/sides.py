@@ -14,7 +14,7 @@ from served import Line, message, whole
 OPEN_AT_ONCE = 16  # requests of one login at one address
 BURST = 200  # requests of one login that come at once
 MANY = 1000  # of which the front is to refuse one, however slow this machine is
-SOON = 30  # seconds for what nobody holds back, on a slow machine
+SOON = 120  # seconds for what nobody holds back, on a slow machine
 LEAST = 1.8  # seconds that a wrong login is not answered: two, by nginx's own clock, which a loaded machine holds back
 ROOM = "/rooms/plans"
 SESSION = f"/v1/sessions/{'0' * 32}"

@@ -20,7 +20,7 @@ pytestmark = pytest.mark.without_program
 PATIENCE = 1  # seconds for all servers that take no connection
 WAIT = 5  # seconds for one that does, or for each of them
 MINUTE = 60  # seconds for one that answers, on any machine
-SLACK = 15  # more, on a slow machine
+SLACK = 40  # more, on a slow machine
 RIGHT = part(ENUMERATED, b"\0")
 REST = b"\4\0\4\0"  # no name, no words
 
@@ -193,13 +193,13 @@ def test_the_last_of_many_addresses(serve, named, asks, monkeypatch):
     monkeypatch.setattr(socket, "create_connection", one)
     url = named(its.port, "127.0.0.2", "127.0.0.3", "127.0.0.1")
     assert asks(url)[0] is True
-    assert parts == [pytest.approx(MINUTE / count, abs=SLACK) for count in (3, 2, 1)]
+    assert parts == [pytest.approx(MINUTE / count, abs=MINUTE / 4) for count in (3, 2, 1)]
 
 
 def test_many_servers(deaf, asks, monkeypatch):
     monkeypatch.setattr(directory, "IN_ALL", PATIENCE)
     urls = [f"ldaps://127.0.0.1:{deaf('127.0.0.1')}" for _ in range(6)]
-    is_down(*asks(*urls, seconds=WAIT), False, PATIENCE)
+    is_down(*asks(*urls), False, PATIENCE)
 
 
 @each("answer", [

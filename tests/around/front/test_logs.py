@@ -1,4 +1,5 @@
 """The front's logs: of changes, also where their callers left; of refusals and of WebDAV little; turned over."""
+import contextlib
 import glob
 import json
 import os
@@ -16,7 +17,6 @@ from .sides import SLOT, SOON, begun, log_of
 REFUSED = b'{"code":5,"error":"a refusal is longer than what is done"}'
 LINE_OF_REFUSAL = 800  # bytes at most, whatever was asked
 GROWN = 257 << 20  # bytes: more than the log of changes may have
-MOMENT = 30  # seconds until nginx has the new log
 CHANGE = b'{"cmd":"MKDIR","path":"/a"}'
 
 
@@ -79,12 +79,18 @@ def rotate(front, tmp_path):
     (tmp_path / "systemctl").chmod(0o755)
     words = ["logrotate", "--state", tmp_path / "state", tmp_path / "rules"]
 
+    def has_it():
+        """(What nginx has open goes meanwhile.)"""
+        with contextlib.suppress(OSError):
+            files = glob.glob(f"/proc/{front.server.pid}/fd/*")
+            return any(os.path.samefile(it, log_of(front)) for it in files if os.path.exists(it))
+        return False
+
     def rotated(*how):
         front.settle()  # (a log without a line is left as it is)
         before = os.stat(log_of(front)).st_ino
         subprocess.run([*words, *how], env={"PATH": f"{tmp_path}:/usr/sbin:/usr/bin:/sbin:/bin"}, check=True)
-        until(lambda: any(os.path.samefile(it, log_of(front)) for it in glob.glob(f"/proc/{front.server.pid}/fd/*")
-                          if os.path.exists(it)), MOMENT)
+        until(has_it)
         return os.stat(log_of(front)).st_ino != before
     return rotated
 
