@@ -20,8 +20,8 @@ import pytest
 from given import each
 from plain import ALL, OWNER_RIGHTS
 from rows import other_rows, put
-from served import (Room, bytes_of, end_with_parent, findings_of, fresh_tables, lists_say, message, run, session, slot,
-                    sqlite, started_here)
+from served import (WAIT, Room, bytes_of, end_with_parent, findings_of, fresh_tables, lists_say, message, run, session,
+                    slot, sqlite, started_here)
 
 DUMP = "SELECT * FROM room; SELECT * FROM node; SELECT * FROM entry ORDER BY 1, 2; SELECT node, hex(bytes) FROM doc;" \
     "SELECT * FROM session; SELECT sid, slot, seq, CAST(request AS TEXT), CAST(reply AS TEXT) FROM kept;"
@@ -236,7 +236,7 @@ def test_a_file_that_is_held(own):
     holder.stdin.flush()
     holder.stdout.readline()
     assert own.report("lists") == held
-    holder.communicate("ROLLBACK;\n", timeout=10)
+    holder.communicate("ROLLBACK;\n", timeout=WAIT)
     assert own.report("lists")[0] == 0
     own.start(1)
     assert own.report("lists") == held

@@ -123,7 +123,7 @@ def test_connections_that_end_badly_do_not_end_the_server(room):
     start = time.monotonic()
     line = room.line()
     assert line.ask(ONE).whole == GOOD
-    assert time.monotonic() - start < 30  # (a peer that takes nothing is waited for twice as long)
+    assert time.monotonic() - start < 50  # (a peer that takes nothing is waited for a minute)
     line.close()
 
 
