@@ -17,7 +17,7 @@ from .saves import TRASH, Saves
 
 HOW = {"kind": Saves, "patience": WAIT}
 SIZE = 2 * PIECE + 99
-SOON = 20  # seconds; the gateway waits longer for the room
+SOON = WAIT / 2  # seconds: the gateway waits longer for the room
 
 
 @contextlib.contextmanager

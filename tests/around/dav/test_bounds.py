@@ -14,13 +14,14 @@ from fileroom_dav import bodies, props, spool, tree, turns
 from nginx import login
 from room_client import files
 from room_client.reading import manifest_in
-from served import until
+from served import WAIT, until
 
 from . import desk as shared
 from .desk import PIECE, has, tag_of
 
 USERS = "ann", "bob", "cat", "dan"
-HOW = {"roster": shared.ROSTER + 'dan = ["eng"]\n', "passwords": {it: f"{it}-word" for it in USERS}}
+HOW = {"roster": shared.ROSTER + 'dan = ["eng"]\n', "passwords": {it: f"{it}-word" for it in USERS},
+       "patience": WAIT}
 LARGE = 8 << 20
 
 
@@ -68,7 +69,7 @@ def begins(lines, kind, at, path):
     """The status of a GET whose body nobody reads."""
     line = lines.enter_context(socket.socket(kind))
     line.setsockopt(socket.SOL_SOCKET, socket.SO_RCVBUF, 4096)
-    line.settimeout(60)
+    line.settimeout(WAIT)
     line.connect(at)
     line.sendall((f"GET /dav/plans{path} HTTP/1.1\r\nHost: x\r\nConnection: close\r\n"
                   f"{login('ann', 'ann-word')}\r\n\r\n").encode())
@@ -83,13 +84,13 @@ def test_what_nobody_reads(desk):
         assert begins(lines, socket.AF_INET, ("127.0.0.1", desk.front.port), "/unread") == b"200"
         time.sleep(1)
         assert [it for it in open_files(desk.front.server.pid) if "/work/proxy/" in it] == []
-    assert until(lambda: desk.ask("ann", "HEAD", "/small").status == 200, 60, 0.1)
+    assert until(lambda: desk.ask("ann", "HEAD", "/small").status == 200, pause=0.1)
     with contextlib.ExitStack() as lines:
         said = [begins(lines, socket.AF_UNIX, desk.path("gate.sock"), "/small") for _ in range(turns.MOST_UNREAD + 1)]
         assert said == [b"200"] * turns.MOST_UNREAD + [b"503"]
         desk.does("ann", "GET", "/small", 503)
         desk.does("bob", "PROPFIND", "/dav/", 207, raw=True, Depth="0")
-    assert until(lambda: desk.ask("ann", "HEAD", "/small").status == 200, 60, 0.1)
+    assert until(lambda: desk.ask("ann", "HEAD", "/small").status == 200, pause=0.1)
 
 
 def test_threads_for_others(desk):

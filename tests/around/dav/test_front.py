@@ -13,7 +13,7 @@ from served import until
 
 from fileroom_dav import front, visit
 
-SOON = 10
+SOON = 120
 WHOLE = b"HTTP/1.1 200 OK\r\nContent-Length: 10\r\n\r\n{\"code\":0}"
 CLOSING = WHOLE.replace(b"\r\n\r\n", b"\r\nConnection: close\r\n\r\n")
 
@@ -61,7 +61,7 @@ def standing(tmp_path):
 def asks(connections, user="ann"):
     """The status of one request, as a visit asks."""
     line = front.FrontLine(connections, Settings(url="http://localhost/rooms/plans", login=user, password="word"))
-    line.open(5.0)
+    line.open(60.0)
     try:
         return line.ask("POST", "/v1/x", b"{}").status
     finally:

@@ -4,12 +4,13 @@ import os
 import time
 
 from given import each
+from served import WAIT
 
 from .desk import asks
 from .saves import Saves
 
-HOW = {"kind": Saves}
-SOON = 10  # seconds; the gateway's patience is 20
+HOW = {"kind": Saves, "patience": WAIT}
+SOON = WAIT / 2  # seconds: the gateway waits longer for the room
 
 
 def put_as_held(desk, name, data, is_it):

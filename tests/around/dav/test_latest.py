@@ -175,10 +175,10 @@ def test_the_log_of_before_tells_what_came_before(place):
     log = f"{place.front.folder}/work/latest.log"
     place.does("ann", "PUT", "/open/a", 201, BYTES)
     place.does("ann", "PUT", "/open/b", 201, BYTES)
-    assert until(lambda: '/open/b' in text_of(log), 10)
+    assert until(lambda: '/open/b' in text_of(log))
     os.rename(log, f"{log}.1")
     os.kill(place.front.server.pid, signal.SIGUSR1)
-    assert until(lambda: os.path.exists(log), 10)
+    assert until(lambda: os.path.exists(log))
     place.does("bob", "PUT", "/open/a", 204, b"bob's")
     assert who(place, "cat") == {"a": "bob", "b": "ann"}
 
@@ -335,7 +335,7 @@ def test_the_log_has_what_it_needs(place):
     place.does("bob", "PUT", "/open/words.tmp", 201, BYTES)  # (which is given a list of its own)
     place.does("bob", "PUT", "/open/large", 201, bytes(200_000))
     place.does("bob", "PUT", "/open/small", 201, b"secret words")
-    assert until(lambda: '/open/small' in text_of(log), 10)
+    assert until(lambda: '/open/small' in text_of(log))
     asked = [json.loads(json.loads(it)["asked"]) for it in text_of(log).splitlines()[before:]]
     mine = [it for it in asked if it["path"].startswith("/open")]
     assert {it["cmd"] for it in asked} <= {"MKDIR", "CREATE", "WRITE", "APPEND", "RENAME", "REMOVE"}

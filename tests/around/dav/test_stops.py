@@ -6,12 +6,13 @@ import re
 import time
 
 import pytest
+from served import WAIT
 
 from .desk import asks, makes_changes, stop
 from .saves import LARGE, SMALL, TRASH, Saves
 
-HOW = {"kind": Saves}
-SOON = 10  # seconds; the gateway's patience is 20
+HOW = {"kind": Saves, "patience": WAIT}
+SOON = WAIT / 2  # seconds: the gateway waits longer for the room
 
 
 class Stop:

@@ -21,7 +21,7 @@ def stage(tmp_path_factory, lasting):
     missing = [*lacking(), *(it for it in ("chromium", "chromedriver") if not shutil.which(it))]
     if missing:
         pytest.skip(f"no {', no '.join(missing)} here")
-    Browser.wait = number("WAIT", 40)  # seconds until something never came
+    Browser.wait = number("WAIT", 60)  # seconds until something never came
     it = Club(str(tmp_path_factory.mktemp("club")), lasting=lasting)
     yield it
     it.close()

@@ -24,7 +24,7 @@ def club_in(kind, folder, lasting):
     missing = [it for it in NEEDS[kind] if not shutil.which(it)]
     if missing:
         pytest.skip(f"no {', no '.join(missing)} here")
-    Browser.wait = number("WAIT", 40)
+    Browser.wait = number("WAIT", 60)
     it = type("It", (Elsewhere,), {"kind": kind})(str(folder), lasting=lasting)
     yield it
     it.close()
