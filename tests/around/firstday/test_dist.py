@@ -25,7 +25,7 @@ NOT_PROVED, WITH_FILEROOM = "not the program that was proved", AROUND | {"FILERO
 
 def says(*words, env=AROUND, **how):
     """The status, what is said, and what is told as a fault."""
-    done = subprocess.run(words, capture_output=True, text=True, timeout=200, env=env, **how)
+    done = subprocess.run(words, capture_output=True, text=True, timeout=500, env=env, **how)
     return done.returncode, done.stdout, done.stderr
 
 

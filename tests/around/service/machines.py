@@ -15,7 +15,7 @@ import time
 import types
 
 from nginx import PATH
-from served import PROGRAM, Line, Room, free_port, put_file, session, slot, text_of
+from served import PROGRAM, WAIT, Line, Room, free_port, put_file, session, slot, text_of
 from transcripts import as_told, by_shell, lines_of, scenes
 
 from . import fits
@@ -248,7 +248,7 @@ class Served:
                                      stdout=subprocess.DEVNULL,
                                      env=its.env | {"TMPDIR": its.folder}))  # (what a kill leaves there)
         begun.set()
-        assert ended.wait(60)
+        assert ended.wait(WAIT)
         self.meanwhile = lambda: None
 
     def end(self):

@@ -16,7 +16,7 @@ import pytest
 from fileroom_admin import asking, places, sheets, trash
 from given import each
 from room_client.line import MOST
-from served import text_of
+from served import WAIT, text_of
 
 from .machines import ADMIN
 from .test_changes import log_of
@@ -162,12 +162,12 @@ def takes_its_time(taken, monkeypatch, sends, wait, in_all):
     with pytest.raises(places.Fault) as fault, trash.Trashes(taken.path, users) as trashes:
         for user in users:
             trashes.settle(user)
-    assert time.monotonic() - begin < 15
+    assert time.monotonic() - begin < 90  # (several minutes, where nothing ends it)
     return str(fault.value)
 
 
 @pytest.mark.parametrize("sends, wait, in_all, what", [
-    (byte_by_byte, 2, 4, "does not answer"), (a_bit_late, 12, 3, "longer than 3 seconds in all")])
+    (byte_by_byte, 2, 60, "does not answer"), (a_bit_late, 12, 3, "longer than 3 seconds in all")])
 def test_a_room_that_takes_its_time(taken, monkeypatch, sends, wait, in_all, what):
     """It holds the lock of all changes for as long as a room may take, however it spends that."""
     assert what in takes_its_time(taken, monkeypatch, sends, wait, in_all)
@@ -176,7 +176,7 @@ def test_a_room_that_takes_its_time(taken, monkeypatch, sends, wait, in_all, wha
 def test_heads_without_end(taken, monkeypatch):
     """They take no memory."""
     endless = HeadsWithoutEnd()
-    assert "does not answer" in takes_its_time(taken, monkeypatch, endless, 2, 4)
+    assert "does not answer" in takes_its_time(taken, monkeypatch, endless, 5, 60)
     assert MOST <= endless.sent < 2 * MOST
 
 
@@ -185,7 +185,7 @@ def test_stopped_by_hand(machine, taken):
     taken.is_silent = True
     words = [sys.executable, "-B", ADMIN, "--root", machine.root, "-q", "user", "add", "plans", "may"]
     with subprocess.Popen(words, env=machine.env, stdout=subprocess.PIPE, stderr=subprocess.DEVNULL) as done:
-        assert taken.met.wait(60)
+        assert taken.met.wait(WAIT)
         done.send_signal(signal.SIGINT)
         assert len(done.communicate()[0].strip()) == 16
 

@@ -5,7 +5,7 @@ import socket
 import threading
 
 import pytest
-from served import until
+from served import WAIT, free_port, until
 from turns import Turns
 
 ANSWER = b"HTTP/1.1 200 OK\r\ncontent-length: 5\r\nconnection: close\r\n\r\n{\"a\"}"
@@ -17,7 +17,7 @@ class Asked:
 
     def __init__(self):
         self.heard, self.may_answer, self.answer, self.pause = [], threading.Event(), ANSWER, 0
-        self.begin(0)
+        self.begin(free_port())  # (which nobody else has while it is down)
 
     def begin(self, port):
         self.listener = socket.create_server(("127.0.0.1", port), backlog=128)
@@ -65,7 +65,7 @@ def path(turns, tmp_path):
 
 def sends(path, user, target, body=b""):
     line = socket.socket(socket.AF_UNIX)
-    line.settimeout(20)
+    line.settimeout(WAIT)
     line.connect(path)
     head = b"POST %b HTTP/1.1\r\nhost: localhost\r\nconnection: close\r\ncontent-length: %d\r\nroom-user: %b\r\n\r\n"
     line.sendall(head % (target, len(body), user) + body)
@@ -77,12 +77,25 @@ def answered(line):
         return file.read()
 
 
-def waits(path, room):
+def descriptors(turns):
+    return len(os.listdir(f"/proc/{turns.process.pid}/fd"))
+
+
+@contextlib.contextmanager
+def seen(turns):
+    """What comes, or goes, meanwhile is seen by the process between."""
+    before = descriptors(turns)
+    yield
+    assert until(lambda: descriptors(turns) != before)
+    threading.Event().wait(0.05)
+
+
+def waits(path, room, turns):
     """One request stands at the room, and another one's behind it."""
     lines = [sends(path, b"first", b"/first")]
     assert until(lambda: room.heard)
-    lines.append(sends(path, b"next", b"/next"))
-    threading.Event().wait(0.05)
+    with seen(turns):
+        lines.append(sends(path, b"next", b"/next"))
     return lines
 
 
@@ -90,15 +103,15 @@ def users_of(room):
     return [target.decode().strip("/").partition("-")[0] for target, _ in room.heard]
 
 
-def test_each_login_has_its_turn(path, room):
+def test_each_login_has_its_turn(path, room, turns):
     """Two ask six things each, and then a third one asks, as if nobody had more than one."""
-    lines = waits(path, room)
+    lines = waits(path, room, turns)
     for user in b"ann", b"cat":
         for at in range(6):
-            lines.append(sends(path, user, b"/%b-%d" % (user, at)))
-            threading.Event().wait(0.05)  # (that they come in this order)
-    lines.append(sends(path, b"bob", b"/bob-0"))
-    threading.Event().wait(0.05)
+            with seen(turns):  # (that they come in this order)
+                lines.append(sends(path, user, b"/%b-%d" % (user, at)))
+    with seen(turns):
+        lines.append(sends(path, b"bob", b"/bob-0"))
     room.may_answer.set()
     assert [answered(it) for it in lines] == [ANSWER] * 15
     users = users_of(room)
@@ -152,10 +165,6 @@ def test_a_room_that_is_down_answers_nothing(path, room):
     assert answered(sends(path, b"ann", b"/b")) == ANSWER
 
 
-def descriptors(turns):
-    return len(os.listdir(f"/proc/{turns.process.pid}/fd"))
-
-
 def test_names_that_differ_by_a_number_have_places_of_their_own(path, turns):
     """Nearly all: a request takes one descriptor, and the first in a place two more."""
     lines = [sends(path, b"u%03d" % it, b"/") for it in range(300)]
@@ -176,12 +185,14 @@ def test_of_many_at_once_each_is_answered(path, room, turns):
     assert [answered(it) for it in lines] == [ANSWER] * 600
 
 
-def test_who_does_not_wait_is_not_asked_for(path, room):
-    lines = waits(path, room)
-    gone, last = sends(path, b"ann", b"/gone"), sends(path, b"bob", b"/last")
-    threading.Event().wait(0.05)
-    gone.close()
-    threading.Event().wait(0.05)
+def test_who_does_not_wait_is_not_asked_for(path, room, turns):
+    lines = waits(path, room, turns)
+    with seen(turns):
+        gone = sends(path, b"ann", b"/gone")
+    with seen(turns):
+        last = sends(path, b"bob", b"/last")
+    with seen(turns):
+        gone.close()
     room.may_answer.set()
     assert [answered(it) for it in (*lines, last)] == [ANSWER] * 3
     assert [target for target, _ in room.heard] == [b"/first", b"/next", b"/last"]

@@ -15,7 +15,7 @@ from served import text_of, until
 from .machines import ADMIN, stamp
 
 DAY, MB = 24, 1 << 20
-SOON = 60  # seconds, on a machine that has much to do
+SOON = 120  # seconds, on a machine that has much to do
 FULL_NOT_NEAR = 1 << 50  # bytes of a disk
 AT_A_PACE = {97: 1 * MB, 49: 3 * MB, 1: 5 * MB}  # 1 MiB a day
 BACKUPS, WARNINGS = "var/backups/fileroom", "etc/nginx/fileroom/warnings"
@@ -114,7 +114,8 @@ def test_what_is_over(machine):
 def few_numbers(machine):
     """Where the latest backup of a room is that has few numbers left."""
     latest = backups(machine, {49: 1, 1: 1}, numbers="900000\n", owner="ann\n")
-    machine.write(f"{BACKUPS}/club/{stamp(49)}/numbers", "800000\n")
+    first = min(os.listdir(machine.at(f"{BACKUPS}/club")))
+    machine.write(f"{BACKUPS}/club/{first}/numbers", "800000\n")
     return latest
 
 

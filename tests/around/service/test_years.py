@@ -8,7 +8,7 @@ import threading
 import time
 
 import pytest
-from served import HERE, text_of
+from served import HERE, text_of, until
 
 from .machines import LOOKS
 from .stopped import stops
@@ -157,13 +157,12 @@ def test_nobody_waits_while_users_come(machine, plans):
 def test_a_room_that_is_renewed_is_waited_for(machine, plans):
     """One that is served answers again once the command has ended; one that does not run is not waited for."""
     plans.room.kill()
+    machine.told()
     done = []
     command = threading.Thread(target=lambda: done.append(machine.does("room", "renew", "plans")[0]))
     command.start()
-    told = []
-    while command.is_alive() and "systemctl start fileroom@plans" not in told:
-        told += machine.told()
-        time.sleep(0.1)
+    asked = os.path.join(machine.folder, "told")
+    until(lambda: not command.is_alive() or "systemctl start fileroom@plans\n" in text_of(asked))
     time.sleep(1)
     assert done == []
     plans.room.start()
