@@ -3,13 +3,12 @@ keeps and asks: test_asks.py."""
 import itertools
 import json
 import os
-import socket
 import time
 
 import pytest
 from given import each
 from nginx import certified, login
-from served import Line, least, message, put_file, text_of, until
+from served import Line, free_port, least, message, put_file, text_of, until
 from slapd import People, SignIn, conf_of
 
 from .conftest import started
@@ -244,9 +243,7 @@ def test_a_directory_that_is_away(behind, people, tmp_path):
     """By no server, by another's certificate, by one for another name, without TLS: 503, a line that says why, and
     passwords of this machine go on."""
     other, _ = certified(str(tmp_path / "other"), "IP:127.0.0.1")
-    with socket.create_server(("127.0.0.1", 0)) as closed:
-        gone = closed.getsockname()[1]
-    kinds = [("Connection refused", f"ldaps://127.0.0.1:{gone}", people.ca),
+    kinds = [("Connection refused", f"ldaps://127.0.0.1:{free_port()}", people.ca),
              ("certificate", f"ldaps://127.0.0.1:{people.port}", other),
              ("certificate", f"ldaps://localhost:{people.port}", people.ca)]
     for said, server, ca in kinds:
@@ -257,9 +254,7 @@ def test_a_directory_that_is_away(behind, people, tmp_path):
 
 
 def test_the_next_server_answers(behind, people):
-    with socket.create_server(("127.0.0.1", 0)) as closed:
-        gone = closed.getsockname()[1]
-    it = behind(slow_conf(f"ldaps://127.0.0.1:{gone}", f"ldap://127.0.0.1:{people.clear}", ca=people.ca))
+    it = behind(slow_conf(f"ldaps://127.0.0.1:{free_port()}", f"ldap://127.0.0.1:{people.clear}", ca=people.ca))
     assert [it.status("bob", ODD), it.status("bob", "no")] == [200, 401]
 
 
