@@ -1,6 +1,7 @@
 """The words of `room`, and what each does."""
 import argparse
 import contextlib
+import errno
 import json
 import os
 import sys
@@ -22,6 +23,7 @@ from .state import State
 from .sync import sync
 from .version import version
 
+OF_OUTPUT = errno.ENOSPC, errno.EDQUOT, errno.EFBIG, errno.EIO, errno.EBADF
 STOPPED = 130  # the exit status after a stop at the keyboard, as of a shell
 
 ABOUT = """\
@@ -259,6 +261,12 @@ def run(asked: argparse.Namespace) -> None:
         asked.does(room, asked)
 
 
+def told_of(fault: OSError) -> str:
+    """(Of what has no name, these are of the output alone.)"""
+    of = fault.filename or ("standard output" if fault.errno in OF_OUTPUT else None)
+    return f"{of}: {fault.strerror}" if of else fault.strerror or str(fault)
+
+
 def main(arguments: list[str]) -> int:
     for stream in (sys.stdout, sys.stderr):
         stream.reconfigure(errors="backslashreplace")
@@ -277,7 +285,7 @@ def main(arguments: list[str]) -> int:
     except OSError as fault:  # (of files by name a LocalFault tells)
         os.dup2(os.open(os.devnull, os.O_WRONLY), sys.stdout.fileno())
         if not isinstance(fault, BrokenPipeError):
-            say(f"{fault.filename or 'standard output'}: {fault.strerror}")
+            say(told_of(fault))
         return LocalFault.status
     except KeyboardInterrupt:
         return STOPPED

@@ -6,13 +6,14 @@ import os
 import pty
 import re
 import subprocess
+import sys
 
 import pytest
 from given import each
 from room_client import BadWords, files, report
 from room_client.reading import manifest_at
 
-from .desk import COMMAND
+from .desk import CLIENT, COMMAND
 
 MARKUP = '<b>"&\'=x'
 
@@ -119,6 +120,14 @@ def test_report_that_is_none(text, says):
 
 def test_report_of_nothing():
     assert report.read_report(b"") == []
+
+
+def test_what_else_this_machine_lacks_is_not_told_of_the_output(tmp_path):
+    lacks = f"import sys; sys.path.insert(0, {CLIENT!r}); from room_client import command\n" \
+        "def make_report(asked): raise OSError(24, 'Too many open files')\n" \
+        "command.make_report = make_report; sys.exit(command.main(['report', 'it']))"
+    done = subprocess.run([sys.executable, "-B", "-c", lacks], capture_output=True)
+    assert (done.returncode, done.stdout, done.stderr) == (5, b"", b"room: Too many open files\n")
 
 
 def test_output_that_takes_nothing(tmp_path):
