@@ -76,7 +76,8 @@ class Patience:
     """Until when what answers may take its time, which all sessions share."""
 
     def __init__(self, seconds=None):
-        self.end = time.monotonic() + (seconds or IN_ALL)
+        self.seconds = seconds or IN_ALL
+        self.end = time.monotonic() + self.seconds
 
     def more(self):
         self.end = max(self.end, time.monotonic() + WAIT)
@@ -84,7 +85,7 @@ class Patience:
     def of_one(self):
         now = time.monotonic()
         if now >= self.end:
-            raise Fault(f"the room took longer than {IN_ALL} seconds in all")
+            raise Fault(f"the room took longer than {self.seconds} seconds in all")
         return min(self.end, now + WAIT)
 
 

@@ -93,7 +93,7 @@ def add_rooms(words):
     one.add_argument("--as", dest="name", metavar="NAME", help="under another name")
     one.add_argument("--certificate", action="store_true", help="and has the front listen by the file's certificate")
     add_command(room, "copy", copying.room_copy, "what is in a folder, into a new one of another room: with owners, "
-                "groups and lists", "NAME", "PATH", "TO", "NEW", how=TELLS)
+                "groups and lists", "NAME", "PATH", "TO", "NEW", how=AT_ONCE)
     add_command(room, "renew", rooms.room_renew,
                 "new numbers for a room's objects: those of what was removed can be used again", "NAME", how=TELLS)
     add_command(room, "remove", moving.room_remove, "removes a room, and keeps it as such a file", "NAME")

@@ -17,7 +17,7 @@ from .trash import FOLLOWS, PROTECTED, TOP, entries_of
 from .warned import owner_of
 from .words import entries
 
-LONGEST = 24 * 3600  # seconds of all requests
+LONGEST = 24 * 3600  # seconds of all requests, while others change what they like
 # (the trashes of a whole room stay where they are)
 BELOW = """WITH RECURSIVE below(id, path, depth) AS (SELECT ?, '', 0
     UNION ALL SELECT node.id, path || '/' || name, depth + 1 FROM below JOIN node ON parent = below.id

@@ -1,5 +1,7 @@
 """What is in a folder goes into another room: as it was, and nobody sees it before its owner lets them in."""
 import base64
+import contextlib
+import fcntl
 import sqlite3
 
 import pytest
@@ -90,6 +92,19 @@ def test_nobody_is_let_in_before_the_list_is_set(made, club):
     assert club.holds("ann", "SETLIST", "/new", aclflag=2, entries=entries)["code"] == 0
     assert [club.holds("bob", "READ", f"/new/{it}")["code"] for it in ("doc", "team/x", "secret/in")] == [0] * 3
     assert [club.holds("ann", "READ", f"/new/{it}")["code"] for it in ("team/x", "secret/in")] == [0, ACCESS]
+
+
+def test_others_change_something_meanwhile(made, club):
+    """A copy of much takes hours."""
+    taken = []
+
+    def takes_the_lock():
+        with open(made.at("etc/fileroom/admin.lock"), "rb+") as lock, contextlib.suppress(BlockingIOError):
+            fcntl.flock(lock, fcntl.LOCK_EX | fcntl.LOCK_NB)
+            taken.append(True)
+    club.meanwhile = takes_the_lock
+    assert made.does(*WORDS)[0] == 0
+    assert len(taken) > 10
 
 
 def test_of_a_whole_room_the_trashes_stay_behind(made, club):
