@@ -4,6 +4,7 @@ import contextlib
 import json
 import os
 import pwd
+import select
 import subprocess
 import tarfile
 import time
@@ -20,6 +21,7 @@ LOOKED_AT = ".roster.toml"  # in the room's folder, for the program
 SHARED = f"{DB}-shm"  # which sqlite3 leaves
 ASIDE = f"{DB}.undone-", f"{LOG}.undone-"
 NAMED = 5  # users, where there are more
+LONGEST = 1800  # seconds that the rooms' user may look at a file
 
 
 def room_export(call, room, path):
@@ -189,13 +191,33 @@ def tell_logins(call, users, had, odd):
 
 
 def by_rooms(*words):
-    """Has the rooms' user read a file that anybody may have written. (What a process of theirs says is bounded.)"""
+    """Has the rooms' user read a file that anybody may have written. (What a process of theirs says is bounded, and so
+    is its time: others who change something wait behind it.)"""
     nothing = {"stdin": subprocess.DEVNULL, "stdout": subprocess.DEVNULL, "env": {**os.environ, "PATH": SEARCHED}}
     with subprocess.Popen([*AS_ROOMS, *words], stderr=subprocess.PIPE, cwd="/", **nothing) as reader:
-        told = reader.stderr.read(MOST_SAID).decode(errors="replace").strip()
-        reader.stderr.close()
+        told = told_by(reader)
+    if told is None:
+        raise Fault(f"it is no room: to look at it takes longer than {LONGEST} seconds")
     if reader.returncode:
-        raise Fault(f"it is no room: {owned.of_backups().shown(told[:300])}")
+        raise Fault(f"it is no room: {owned.of_backups().shown(told.decode(errors='replace').strip()[:300])}")
+
+
+def told_by(reader):
+    """The beginning of what a process says until it ends, or nothing where it takes too long."""
+    end, told, more = time.monotonic() + LONGEST, b"", b"more"
+    try:
+        while more and len(told) < MOST_SAID:
+            if not select.select([reader.stderr], [], [], max(end - time.monotonic(), 0))[0]:
+                return None
+            more = os.read(reader.stderr.fileno(), MOST_SAID - len(told))
+            told += more
+        reader.stderr.close()
+        reader.wait(max(end - time.monotonic(), 0))
+        return told
+    except subprocess.TimeoutExpired:
+        return None
+    finally:
+        reader.kill()
 
 
 @contextlib.contextmanager

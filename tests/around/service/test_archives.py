@@ -6,6 +6,7 @@ import re
 import subprocess
 import sys
 import tarfile
+import time
 from unittest import mock
 
 import pytest
@@ -54,6 +55,17 @@ def packed(path, its, more=b"", without=()):
     """An archive of these parts, with some bytes before them."""
     put_file(path, more + b"".join(member(*it) for it in its.items() if it[0] not in without) + bytes(1024))
     return path
+
+
+@pytest.mark.parametrize("plays", ["exec sleep 30", "exec sleep 30 2>&-", "sleep 5 & exit 0"])
+def test_who_reads_a_file_for_ever_is_not_waited_for(monkeypatch, plays):
+    """What the archive's file has may do that to it."""
+    monkeypatch.setattr(moving, "AS_ROOMS", ())
+    monkeypatch.setattr(moving, "LONGEST", 0.5, raising=False)
+    begin = time.monotonic()
+    with pytest.raises(places.Fault, match="longer than 0.5 seconds"):
+        moving.by_rooms("sh", "-c", plays)
+    assert time.monotonic() - begin < 25
 
 
 def sparse(size):
