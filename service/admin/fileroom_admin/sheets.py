@@ -7,6 +7,7 @@ import re
 import stat
 
 from . import rosters
+from .owned import of_backups
 from .places import Fault
 
 COLUMNS = ["user", "groups", "name"]
@@ -36,13 +37,25 @@ def bytes_of(path):
     link, in a folder of somebody else's, root would tell what that user cannot read.)"""
     if os.path.islink(path):
         raise Fault(f"{path} is a link, and links are not followed: name the file that it leads to")
-    with open(os.open(path, os.O_RDONLY | os.O_NOFOLLOW | os.O_NONBLOCK | os.O_CLOEXEC), "rb") as file:
+    with open(path, "rb", opener=by_no_link) as file:
         if not stat.S_ISREG(os.fstat(file.fileno()).st_mode):
             raise Fault(f"{path} is no file")
         data = file.read(LARGEST + 1)
     if len(data) > LARGEST:
         raise Fault(f"{path} is longer than a table of {rosters.USERS} users")
     return data
+
+
+def by_no_link(path, _):
+    one = of_backups()
+    try:
+        with one.closing(one.folder_at(os.path.dirname(path) or ".")) as folder:
+            flags = os.O_RDONLY | os.O_NOFOLLOW | os.O_NONBLOCK | os.O_CLOEXEC
+            return os.open(os.path.basename(path), flags, dir_fd=folder)
+    except one.Fault as fault:
+        raise Fault(str(fault)) from None
+    except OSError as fault:
+        raise OSError(fault.errno, fault.strerror, path) from None
 
 
 def as_cell(text):
