@@ -248,14 +248,15 @@ def put_aside(state):
 def wait_until_answers(places, room):
     """A room's program is soon there, or never; on another root than / nothing is started."""
     end = time.monotonic() + 120  # (a large one reads its file)
+    most = (starts_again(room) if places.is_machine else 0) + MANY
     while places.is_machine and not answers(places.socket(room)):
-        if time.monotonic() > end or starts_again(room) >= MANY:
+        if time.monotonic() > end or starts_again(room) >= most:
             raise Fault(f"the room {room} does not answer: journalctl -u fileroom@{room} -u fileroom-proxy@{room}")
         time.sleep(0.1)
 
 
 def starts_again(room):
-    """How often systemd started its program again, which had ended."""
+    """How often systemd started its program again, which had ended, since somebody started the unit."""
     told = said("systemctl", "show", "--property=NRestarts", f"fileroom@{room}")[1].removeprefix("NRestarts=")
     return int(told) if told.isdecimal() else 0
 

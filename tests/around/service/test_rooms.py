@@ -195,3 +195,13 @@ def test_a_program_that_ends_each_time_is_not_waited_for():
         clock.sleep.side_effect = [None] * 9
         changes.wait_until_answers(places, "plans")
     assert 2 < clock.sleep.call_count < 9
+
+
+def test_a_program_that_ended_before_is_waited_for():
+    """What systemd has counted since somebody started the unit is of before."""
+    places, answers = mock.Mock(is_machine=True), iter([False] * 3 + [True])
+    with mock.patch.object(changes, "answers", lambda _: next(answers)), \
+            mock.patch.object(changes, "said", return_value=(0, "NRestarts=7")), \
+            mock.patch.object(changes, "time", mock.Mock(monotonic=lambda: 0)):
+        changes.wait_until_answers(places, "plans")
+    assert next(answers, None) is None
