@@ -290,7 +290,7 @@ def recover(places, tell):
             journal.undo()
     for folder in "etc/fileroom", "etc/nginx/fileroom", "etc/nginx/fileroom/rooms", "etc/nginx/fileroom/queues", \
             "etc/nginx/fileroom/dav", "etc/nginx/fileroom/signin", "etc/nginx/fileroom/tls", "etc/nginx/conf.d", \
-            "etc/nginx/modules-enabled", "etc/nginx", "etc/logrotate.d", "var/log/fileroom":
+            "etc/nginx/modules-enabled", "etc/nginx", "etc/logrotate.d", "var/log/fileroom", "var/log/nginx":
         clear_folder(places.at(folder))
 
 

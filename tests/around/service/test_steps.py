@@ -53,6 +53,14 @@ def test_one_waits(machine):
     assert (other.wait(300), text_of(names)) == (0, '{"ann": "Ann"}\n')
 
 
+@pytest.mark.parametrize("at", ["etc/nginx/fileroom", "var/log/fileroom", "var/log/nginx"])
+def test_what_a_stopped_call_had_begun_goes(machine, at):
+    """Before it said in its journal what is to happen, in each folder that has a file of ours."""
+    machine.write(f"{at}/.it.fileroom-new", "half")
+    assert machine.does("user", "list")[0] == 0
+    assert not os.path.exists(machine.at(f"{at}/.it.fileroom-new"))
+
+
 def test_kept_first(machine):
     """Each file is on the disk, whole, before it has its name, and its name before what reads it is asked."""
     words = [sys.executable, "-B", "-c", ORDER, os.path.dirname(ADMIN), "--root", machine.root, "user", "add", "plans",
