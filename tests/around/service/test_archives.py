@@ -57,7 +57,7 @@ def packed(path, its, more=b"", without=()):
     return path
 
 
-@pytest.mark.parametrize("plays", ["exec sleep 30", "exec sleep 30 2>&-", "sleep 5 & exit 0"])
+@pytest.mark.parametrize("plays", ["exec sleep 60", "exec sleep 60 2>&-", "sleep 5 & exit 0"])
 def test_who_reads_a_file_for_ever_is_not_waited_for(monkeypatch, plays):
     """What the archive's file has may do that to it."""
     monkeypatch.setattr(moving, "AS_ROOMS", ())
@@ -65,7 +65,7 @@ def test_who_reads_a_file_for_ever_is_not_waited_for(monkeypatch, plays):
     begin = time.monotonic()
     with pytest.raises(places.Fault, match="longer than 0.5 seconds"):
         moving.by_rooms("sh", "-c", plays)
-    assert time.monotonic() - begin < 25
+    assert time.monotonic() - begin < 50
 
 
 def sparse(size):
