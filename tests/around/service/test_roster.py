@@ -33,10 +33,11 @@ unique = "members"
 "cn=twice,ou=more,ou=groups,dc=school,dc=example" = "more"
 [local.plans]
 ann = ["eng"]
+lou = []
 zed = []
 """
 TABLE = ["user,rooms,groups,name", "bob,plans,inner teachers,Bob", "kim,club,members,", "lou,club,members more,lou",
-         "ann,plans,eng,", "zed,plans,,"]
+         "ann,plans,eng,", "lou,plans,,", "zed,plans,,"]
 
 
 @pytest.fixture
@@ -71,8 +72,8 @@ def serve(folder):
 
 
 def test_the_table(read, serve):
-    """Groups in groups, in a ring too, of three kinds, by name and by DN; a login in small letters; who is local stays
-    as the conf has it."""
+    """Groups in groups, in a ring too, of three kinds, by name and by DN; a login in small letters; who is local to a
+    room is there as the conf has it, and in others as the directory does."""
     status, table, faults = read(serve())
     assert (status, faults) == (0, "fileroom-roster: left out, since no room takes the name: 'a@b'\n")
     assert sorted(table.splitlines()) == sorted(TABLE)
