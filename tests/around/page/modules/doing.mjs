@@ -164,6 +164,14 @@ test("a copy goes on in its room, whichever is shown by then", async () => {
   assert.deepEqual([shelf.names("/e"), other.asked], [["a.txt", "b.txt"], []]);
 });
 
+test("two things of one name are copied into one folder", async () => {
+  const shelf = trashed();
+  for (const it of ["/e", "/f"]) shelf.put(it);
+  shelf.put("/f/a.txt", "other");
+  await copyInto(appOver(shelf), ["/d/a.txt", "/f/a.txt"], "/e");
+  assert.deepEqual(["a.txt", "a (2).txt"].map((it) => shelf.text(`/e/${it}`)), ["a", "other"]);
+});
+
 test("the latest places are one user's, in that room", () => {
   const [kim, lou] = ["kim", "lou"].map((it) => appOver(new Shelf(it)));
   const elsewhere = { ...kim, room: Object.assign(appOver(new Shelf("kim")).room, { name: "other" }) };
@@ -171,7 +179,7 @@ test("the latest places are one user's, in that room", () => {
   assert.deepEqual([kim, lou, elsewhere].map((app) => latest(app).length), [1, 0, 0]);
 });
 
-test("what was cut is pasted once, and by who has the same on the clipboard", async () => {
+test("what was cut is pasted once, in its room, and by who has the same on the clipboard", async () => {
   const shelf = trashed();
   const app = appOver(shelf);
   for (const it of ["/e", "/f"]) shelf.put(it);
@@ -188,6 +196,10 @@ test("what was cut is pasted once, and by who has the same on the clipboard", as
   happens("cut", event("cut"));
   await paste("/f", "something else");
   assert.deepEqual(shelf.names("/f"), []);
+  const { room } = app;
+  app.room = Object.assign(appOver(trashed()).room, { name: "other" });
+  await paste("/", "#it");
+  app.room = room;
   await paste(TRASH, "#it");
   await paste("/e");
   assert.deepEqual([shelf.names("/d"), shelf.names("/e"), shelf.names(TRASH)], [[], ["a.txt"], []]);
@@ -254,6 +266,15 @@ test("an upload that is given up leaves nothing, and what was there", async () =
     await refused(writeFile(room, "/l", LARGE.map(() => 8), transfer), "given up");
     assert.deepEqual(shelf.below("/").sort(), names);
   }
+});
+
+test("a document has its name again where what replaces it cannot take it", async () => {
+  const shelf = new Shelf();
+  const { room } = appOver(shelf);
+  shelf.put("/a", "before");
+  shelf.refuses = ({ cmd, path, to }) => (cmd === "RENAME" && path.startsWith("/.room-new-") && to === "/a" ? 11 : 0);
+  await refused(writeFile(room, "/a", LARGE), t.refusals[11]);
+  assert.deepEqual([shelf.names("/").includes("a"), shelf.text("/a")], [true, "before"]);
 });
 
 const onDisk = (name, text) =>

@@ -164,6 +164,18 @@ test("requests that come at once open one session", async () => {
   assert.deepEqual(front.asked.filter((it) => !it.target.includes("/slots/")).map((it) => it.body), ['{"slots":16}']);
 });
 
+test("what was given up lets others go on", async () => {
+  const [its, plain] = [await begun(), patience.begin];
+  patience.begin = () => ({ ...plain(), wait: async () => {
+    throw new Error("given up");
+  } });
+  front.faults.push(...Array(6).fill("drop"));
+  const all = await Promise.allSettled(Array.from({ length: 6 }, () => its.session.askAside(STAT)));
+  patience.begin = plain;
+  assert.deepEqual(all.map(({ reason }) => reason?.message), Array(6).fill("given up"));
+  assert.equal((await its.session.askAside(STAT)).code, 0);
+});
+
 test("a user of no roster is told so by what is asked", async () => {
   const its = await tab("nobody");
   assert.equal((await its.session.ask(STAT)).code, 42);
