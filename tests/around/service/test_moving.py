@@ -1,8 +1,10 @@
 """A room that moves: packed on one machine, brought to another, below two roots; and one that is removed, and back."""
 import json
 import os
+from unittest import mock
 
 import pytest
+from fileroom_admin import archives
 from served import bytes_of, text_of
 
 from .machines import Served
@@ -12,6 +14,15 @@ def test_an_archive(exported):
     assert os.stat(exported.path).st_mode & 0o777 == 0o600
     assert sorted(exported.its) == ["about.json", "logins", "names.json", "room.db", "room.db-wal", "roster.toml"]
     assert exported.machine.does("room", "export", "plans", exported.path)[0] == 1  # (over a file)
+
+
+def test_an_archive_is_on_the_disk(tmp_path):
+    """All of it, before what removes the room goes on."""
+    kept = []
+    with mock.patch("os.fsync", lambda handle: kept.append(os.fstat(handle).st_size)), \
+            archives.new_file(str(tmp_path / "plans.tar")) as file:
+        file.write(b"all of it")
+    assert kept == [9]
 
 
 def test_no_login_of_another_room_is_in_it(exported):
