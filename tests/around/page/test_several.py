@@ -59,6 +59,14 @@ def test_clicks_and_ticks_choose(browser, frame):
     assert browser.script(BAR) == ["Move", "Copy", "Download", "Remove", "Clear selection"]
 
 
+def test_all_rows_up_to_one_far_below_are_chosen(club, browser):
+    club.lay(*(f"/many/{at:02}.txt" for at in range(12)))
+    club.anew("/many")
+    click(browser, "02.txt")
+    click(browser, "10.txt", shiftKey=True)
+    assert browser.script(CHOSEN) == [f"{at:02}.txt" for at in range(2, 11)]
+
+
 def test_several_are_downloaded(club, browser, both):
     of_chosen(browser, "Download")
     browser.sees("frame.zip is made, of 2 items.", "#notices")

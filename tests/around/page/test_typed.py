@@ -194,7 +194,7 @@ def test_nothing_can_be_pressed_until_a_view_is_there(club, browser):
     browser.until("the other too", lambda: lossy.times('"path":"/plans"') > sent)
     lossy.go_on()
     time.sleep(1)  # (the first one comes, and is not shown)
-    assert browser.script(inert) is True
+    assert (browser.script(inert), browser.script(PLACE)) == (True, "#open/club")
     lossy.lose("")
     browser.until("the other", lambda: browser.script(PLACE) == "#open/club/plans")
     assert browser.script(inert) is False
