@@ -110,7 +110,8 @@ def test_kept_on_the_disk_under_its_name(state, tmp_path):
     does, plain = [], {it: getattr(os, it) for it in ("fsync", "replace")}
 
     def fsync(file):
-        does.append("folder" if stat.S_ISDIR(os.fstat(file).st_mode) else "file")
+        its = os.fstat(file)
+        does.append("folder" if stat.S_ISDIR(its.st_mode) else f"file of {its.st_size} bytes")
         plain["fsync"](file)
 
     def renamed(*names):
@@ -119,7 +120,8 @@ def test_kept_on_the_disk_under_its_name(state, tmp_path):
     with state() as its, mock.patch("os.fsync", fsync), mock.patch("os.replace", renamed):
         for slot in 0, 1:
             its.record("{}", slot)
-    assert does == 2 * ["file", "name", "folder"]
+    sizes = [os.path.getsize(it) for it in (tmp_path / "state", tmp_path / "state.1")]
+    assert does == [it for size in sizes for it in (f"file of {size} bytes", "name", "folder")]
     assert {stat.S_IMODE(it.stat().st_mode) for it in tmp_path.iterdir()} == {0o600}
 
 

@@ -13,6 +13,16 @@ pytestmark = pytest.mark.front
 
 
 @pytest.fixture
+def in_tokyo(monkeypatch):
+    """Whose clock is nine hours ahead."""
+    monkeypatch.setenv("TZ", "Asia/Tokyo")
+    time.tzset()
+    yield
+    monkeypatch.undo()
+    time.tzset()
+
+
+@pytest.fixture
 def in_trash(desk):
     """The names in ann's trash."""
     with desk.room() as room:
@@ -26,8 +36,8 @@ def in_trash(desk):
     return names
 
 
-def test_a_name_again_and_again(desk, in_trash):
-    """In the same second."""
+def test_a_name_again_and_again(desk, in_trash, in_tokyo):
+    """In the same second, which a name tells by the clock of no place."""
     for _ in range(3):
         desk.prints("put", "-", "/d/x", stdin=b"x", want="/d/x: 1 bytes\n")
         with mock.patch("room_client.trash.time.time", return_value=1e9):
@@ -61,14 +71,8 @@ def test_name_in_it_tells_where_it_was(path, name, its):
     assert trash.told_by(name + STAMP) == trash.Thrown(*its, 1795729387)
 
 
-def test_when_it_was_removed_is_told_by_the_clock_of_here(monkeypatch):
-    monkeypatch.setenv("TZ", "Asia/Tokyo")
-    time.tzset()
-    try:
-        assert trash.told_by(f"a~d~{STAMP}").words() == "was in /d, removed 2026-11-27 06:43"
-    finally:
-        monkeypatch.undo()
-        time.tzset()
+def test_when_it_was_removed_is_told_by_the_clock_of_here(in_tokyo):
+    assert trash.told_by(f"a~d~{STAMP}").words() == "was in /d, removed 2026-11-27 06:43"
 
 
 @pytest.mark.parametrize("name", ["odd", STAMP, f"~{STAMP}", "a~20261326214307", f"a~…b~{STAMP}"])
