@@ -264,9 +264,11 @@ def test_what_is_not_come_to_is_left(tmp_path):
 
 
 def test_the_next_version_is_later(tmp_path):
+    """In its room, whatever has its path in another one."""
     its = seen.Seen(str(tmp_path / "seen"), now=lambda: 1000.0)
     for sum_, when in ("a", 1000), ("b", 1001), ("b", 1001), ("c", 1002):
         assert its.times("plans", {"/it": sum_}) == {"/it": when}
+        assert its.times("club", {"/it": "x"}) == {"/it": 1000}
 
 
 def test_times_on_a_full_disk(tmp_path):

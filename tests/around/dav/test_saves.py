@@ -6,7 +6,7 @@ import unicodedata
 import pytest
 
 from .desk import HERS, Wire
-from .saves import ENG_EDITS, LARGE, NO_PUPILS, PROGRAMS, PUPILS_VIEW, SECRET, SIZES, SMALL, TRASH, Saves
+from .saves import ENG_CHANGES, ENG_EDITS, LARGE, NO_PUPILS, PROGRAMS, PUPILS_VIEW, SECRET, SIZES, SMALL, TRASH, Saves
 
 HOW = {"kind": Saves, "others": ("other",)}
 TWO, FOUR = [("ann", SMALL), ("bob", LARGE)], [(user, size) for user in ("ann", "bob") for size in SIZES]
@@ -189,6 +189,14 @@ def test_a_backup_of_what_has_a_list_that_is_not_told(desk):
     desk.set_list("a.odt", 2, [{"flag": 0, "mask": 0x81, "type": 0, "who": "bob"}])
     desk.play("bob COPY a.odt 201 > a.odt.bak; cat GET a.odt.bak 403")
     assert desk.get("bob", "a.odt.bak") == b"old secret"
+
+
+def test_a_backup_is_for_the_documents_owner_and_group(desk):
+    """Also where somebody else makes it, by a list that names neither."""
+    desk.made()
+    desk.set_list("a.odt", 2, [HERS | {"flag": 0}, ENG_CHANGES | {"flag": 0, "who": "GROUP@"}])
+    desk.wire("ann", "CHOWN", "a.odt", owner="cat", group="eng")
+    desk.play("bob COPY a.odt 201 > a.odt.bak; cat GET a.odt.bak 200 > old secret; ann GET a.odt.bak 200 > old secret")
 
 
 @pytest.mark.parametrize("name", ["a.odt.tmp", "5D4A1F00"])
