@@ -38,7 +38,8 @@ STRANGERS = [[], ["authorization: Basic !"], ["authorization: Bearer u01"], ["ro
 def sides(tmp_path_factory):
     """A front, and behind it a room and a gateway that say too much."""
     folder, page = tmp_path_factory.mktemp("sides"), tmp_path_factory.mktemp("page")
-    (page / "index.html").write_bytes(b"a page")
+    for name in "index.html", "sign-in.html", "login.js":
+        (page / name).write_bytes(b"a page")
     at = str(folder / "gateway.sock")
     with standing() as room, standing(at) as gateway:
         room.said = gateway.said = SAID
@@ -69,6 +70,8 @@ def gateway(sides):
 @each("user, method, target, status, fields, body", [
     ("the page", "u01", "GET", "/", 200, PAGE, b"a page"),
     ("its file", "u01", "GET", "/index.html", 200, PAGE, b"a page"),
+    ("where people log in", None, "GET", "/sign-in", 200, PAGE, b"a page"),
+    ("its script", None, "GET", "/login.js", 200, PAGE, b"a page"),
     ("the login", "u01", "GET", "/whoami", 200, PAGE, b'"u01"\n'),
     ("the rooms", "u01", "GET", "/rooms.json", 200, PAGE, b'["plans","gone"]\n'),
     ("nothing there", "u01", "GET", "/none", 404, PAGE | {"cache-control": []}, None),

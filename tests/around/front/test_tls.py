@@ -72,9 +72,10 @@ def test_who_does_not_trust_the_certificate(encrypted):
 
 @each("fields", [("no login", []), ("a login", [RIGHT])])
 def test_the_way_to_https(encrypted, fields):
-    """There is nothing else in the clear, also for who sends a password."""
-    got = in_the_clear(encrypted.http, "/whoami?a=b", *fields)
-    assert (got.status, values(got, ["location"])) == (301, {"location": [f"https://{NAME}/whoami?a=b"]})
+    """There is nothing else in the clear, also for who sends a password; and nobody is led to another name."""
+    for name in NAME, f"www.{NAME}":
+        got = in_the_clear(encrypted.http, "/whoami?a=b", *fields, name=name)
+        assert (got.status, values(got, ["location"])) == (301, {"location": [f"https://{name}/whoami?a=b"]})
     assert in_the_clear(encrypted.port, "/whoami?a=b", *fields).status == 400
 
 
