@@ -219,13 +219,24 @@ def test_passing_files_of_one_leave_room_to_others():
     assert its.get("plans", "bob", "/._x") == b"his"
 
 
-@pytest.mark.parametrize("path", [f"/dav/plans/{'n' * 65}/._x", f"/dav/plans/{'a/' * 16}._x"], ids=["long", "deep"])
-def test_passing_files_have_names_of_the_room(tmp_path, path):
+@pytest.fixture
+def passes(tmp_path):
+    """The status of what does not reach a room."""
     gate = app.Gate("/none", str(tmp_path))
     gate.need_login = lambda *_: b""
-    assert gate.answer({"REQUEST_METHOD": "PUT", "PATH_INFO": quote(path, safe="/"), "CONTENT_LENGTH": "1",
-                        "wsgi.input": io.BytesIO(b"x"),
-                        "HTTP_AUTHORIZATION": login("ann", "word").partition(": ")[2]}).status == 403
+    return lambda method, path: gate.answer({
+        "REQUEST_METHOD": method, "PATH_INFO": quote(path, safe="/"), "CONTENT_LENGTH": "1",
+        "wsgi.input": io.BytesIO(b"x"), "HTTP_AUTHORIZATION": login("ann", "word").partition(": ")[2]}).status
+
+
+@pytest.mark.parametrize("path", [f"/dav/plans/{'n' * 65}/._x", f"/dav/plans/{'a/' * 16}._x"], ids=["long", "deep"])
+def test_passing_files_have_names_of_the_room(passes, path):
+    assert passes("PUT", path) == 403
+
+
+def test_passing_files_are_of_one_room(passes):
+    asked = ("PUT", "plans"), ("GET", "club"), ("GET", "plans")
+    assert [passes(method, f"/dav/{room}/._x") for method, room in asked] == [201, 404, 200]
 
 
 @pytest.mark.parametrize("space, count", [("n" * 10_000, 900), ("n" * 60_000, 3), ("n", 900), ("&quot;" * 74, 200)],

@@ -49,6 +49,14 @@ def test_a_save_over_what_is_gone(desk):
     desk.does("ann", "DELETE", "/gone", 204)
 
 
+def test_a_listing_beside_a_save(desk):
+    """What is told before the new version is there is not told behind it."""
+    desk.play("ann MKCOL /beside 201; ann PUT /beside/it 201 > old")
+    with desk.before(asks("WRITE"), lambda: desk.told("ann", "/beside")):
+        desk.does("ann", "PUT", "/beside/it", 204, b"newer")
+    assert "<D:getcontentlength>5<" in desk.told("ann", "/beside")
+
+
 def test_a_copy_that_may_not_replace(desk):
     desk.does("ann", "PUT", "/source", 201, b"mine")
     with meanwhile(desk, "CREATE", "/target", lambda room: room.create("/target", b"theirs")):

@@ -52,7 +52,10 @@ def test_the_gateway_alone_lets_nobody_in(desk, method, field):
 
 
 def test_rooms(desk):
-    assert desk.does("bob", "PROPFIND", "/dav/", 207, raw=True, Depth="1").hrefs == ["/dav/", "/dav/plans/"]
+    """Also without the slash at the end, as file managers ask for a folder."""
+    for end in "/", "":
+        assert desk.does("bob", "PROPFIND", f"/dav{end}", 207, raw=True, Depth="1").hrefs == ["/dav/", "/dav/plans/"]
+        assert desk.does("bob", "PROPFIND", f"/dav/plans{end}", 207, raw=True, Depth="0").hrefs == ["/dav/plans/"]
     desk.does("bob", "PUT", "/dav/x", 404, b"x", raw=True)
     desk.does("bob", "MKCOL", "/dav/", 405, raw=True)
 
