@@ -166,7 +166,7 @@ def test_address_of_no_room(url):
 
 def test_setting_by_a_flag_puts_the_other_kind_of_user_aside(tmp_path):
     (tmp_path / "set").write_text(f'url = "{URL}"\nroom-user = "ann"\npatience = 5\n')
-    with mock.patch.dict(os.environ, {"ROOM_PATIENCE": "7"}, clear=True):
+    with mock.patch.dict(os.environ, {"ROOM_PATIENCE": "7", "ROOM_LOGIN": "dan"}, clear=True):
         its = find_settings({"login": "bob"}, str(tmp_path / "set"))
     assert (its.login, its.room_user, its.patience) == ("bob", None, 7.0)
     others = replace(its, login="carl"), replace(its, url=f"{URL}2")

@@ -219,6 +219,16 @@ def test_passing_files_of_one_leave_room_to_others():
     assert its.get("plans", "bob", "/._x") == b"his"
 
 
+def test_what_is_remembered_is_of_one_room_and_user():
+    its, told = memory.Memory(now=lambda: 0.0), {"it": memory.Told("file", 1, None, False, False)}
+    its.keep("plans", "ann", "/f", told, 0, 0.0)
+    its.note_plain("plans", "ann", "/f")
+    its.changed("club", "/f")
+    for room, user, is_theirs in ("club", "ann", False), ("plans", "bob", False), ("plans", "ann", True):
+        assert its.recall(room, user, "/f") == (0.0, told if is_theirs else {})
+        assert its.is_plain(room, user, "/f") == is_theirs
+
+
 @pytest.fixture
 def passes(tmp_path):
     """The status of what does not reach a room."""

@@ -45,6 +45,7 @@ def test_locks_end(locked):
     locked.take("/b", seconds=60)
     locked.now = 1029.0
     assert its.foreign("plans", "/a", "bob", set()) == lock
+    assert its.foreign("club", "/a", "bob", set()) is None
     lock = its.refresh(lock, 30)
     locked.now = 1058.0
     assert its.foreign("plans", "/a", "bob", set()) == lock

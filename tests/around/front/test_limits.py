@@ -128,10 +128,12 @@ SHORT = [b'{"cmd":"RENAME","path":"/a/b","to":"/a/c"}', b'{"cmd":"MKDIR","path":
                          ids=lambda it: ascii(it)[:60])
 def test_long_ones_under_way(front, peer, form, count):
     """Two SETLISTs or moves to another folder of a login, however they are written, and behind whatever; a new name in
-    the same folder is none of them."""
+    the same folder is none of them, and neither is another login's."""
     peer.may.clear()
     lines = [begun(front, "u01", at, f"127.2.1.{1 + at}", form) for at in range(4)]
     need_others_refused(peer, lines, count)
+    lines.append(begun(front, "u02", body=form))
+    assert until(lambda: len(peer.came) > count, SOON)
     for it in lines:
         it.close()
 
