@@ -3,9 +3,8 @@ import base64
 import hashlib
 import os
 import shutil
-import subprocess
 
-from served import end_with_parent, free_port, started_here, wait_for_port
+from served import WithWorkers, free_port, started_here, wait_for_port
 
 PROGRAM, MODULES = "/usr/sbin/apache2", "/usr/lib/apache2/modules"
 NAMES = ("mpm_event", "authn_core", "authn_file", "authz_core", "authz_user", "auth_basic", "socache_shmcb", "ssl",
@@ -50,7 +49,7 @@ class Apache:
         with open(conf, "w") as file:
             file.writelines(f"LoadModule {it}_module {MODULES}/mod_{it}.so\n" for it in NAMES)
             file.write(CONF.format(folder=folder, port=self.port, cert=cert, key=key))
-        self.server = subprocess.Popen([PROGRAM, "-f", conf, "-DFOREGROUND"], preexec_fn=end_with_parent)
+        self.server = WithWorkers([PROGRAM, "-f", conf, "-DFOREGROUND"])
         started_here.append(self.server)
         if not wait_for_port(self.port, self.server):
             raise RuntimeError(f"Apache ended with status {self.server.returncode}")

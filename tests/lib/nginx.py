@@ -1,11 +1,12 @@
 """The front of front/ before rooms: an nginx of one's own on a loopback port, with a password for each user."""
 import base64
+import functools
 import hashlib
 import os
 import shutil
 import subprocess
 
-from served import HERE, end_with_parent, free_port, message, one_answer, started_here, wait_for_port
+from served import HERE, WithWorkers, end_with_parent, free_port, message, one_answer, started_here, wait_for_port
 
 FOLDER = os.path.join(HERE, "..", "front")
 PATH = os.pathsep.join([os.environ.get("PATH", ""), "/usr/sbin"])  # (where Debian has nginx)
@@ -51,7 +52,8 @@ class Front:
             file.writelines(f"{user}:{hashed(it)}\n" for user, it in users.items())
         words = [os.path.join(FOLDER, "start"), folder, str(self.port), page, *(f"{it}={rooms[it]}" for it in rooms)]
         env = {**os.environ, "PATH": PATH, **{name.upper(): str(it) for name, it in how.items()}}
-        self.server = subprocess.Popen(words, preexec_fn=end_with_parent, env=env)
+        kind = WithWorkers if "workers" in how else functools.partial(subprocess.Popen, preexec_fn=end_with_parent)
+        self.server = kind(words, env=env)
         started_here.append(self.server)
         if not wait_for_port(self.port, self.server):
             raise RuntimeError(f"nginx ended with status {self.server.returncode}")

@@ -49,6 +49,18 @@ def end_with_parent(number=signal.SIGKILL):
     LIBC.prctl(SET_PDEATHSIG, int(number))
 
 
+class WithWorkers(subprocess.Popen):
+    """A server that has its work done by processes below it: they are killed with it, and as its parent ends it ends
+    them itself."""
+
+    def __init__(self, words, **how):
+        super().__init__(words, start_new_session=True, preexec_fn=lambda: end_with_parent(signal.SIGTERM), **how)
+
+    def kill(self):
+        with contextlib.suppress(ProcessLookupError):
+            os.killpg(self.pid, signal.SIGKILL)
+
+
 def end_servers():
     for child in started_here:
         child.kill()

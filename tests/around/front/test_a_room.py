@@ -11,7 +11,7 @@ import time
 
 import pytest
 from clients import SHARED, Beside, Caller, Client, look
-from served import Line, Room, message, until
+from served import Line, Room, listener, message, until
 
 from .conftest import started
 from .sides import ROOM
@@ -129,3 +129,11 @@ def test_a_crowd(behind, tell):
     assert got == want
     tell(f"front: {CROWD} clients at once, {counted.found[200]} answers in {time.monotonic() - begin:.0f} s, the "
          f"longest after {counted.longest:.1f} s; {counted.found[429]} times told to come again")
+
+
+def test_nothing_is_left_of_a_front_with_workers(fronted):
+    """(They serve on where their first process alone is killed.)"""
+    front = fronted(workers=2)
+    assert front.status(None, "GET", "/health") == 200
+    front.server.kill()
+    assert until(lambda: not listener(front.port))
