@@ -1,12 +1,11 @@
 """One request as it came, and one answer."""
 import base64
-import mmap
 import re
 from dataclasses import dataclass, field
 
 from .faults import Answered
 from .names import split_destination, split_target
-from .spool import MOST_IN_MEMORY, Sent, mapped
+from .spool import MOST_IN_MEMORY, Mapped, Sent, mapped
 
 USER = re.compile("[A-Za-z0-9._-]{1,32}")
 MOST_PASSWORD = 400
@@ -39,7 +38,7 @@ class Asked:
         return cls(environ["REQUEST_METHOD"], room, path, user, password, length_of(environ, most),
                    environ.get("HTTP_HOST", ""), environ)
 
-    def body(self, most: int) -> bytes | mmap.mmap:
+    def body(self, most: int) -> bytes | Mapped:
         if self.length > most:
             raise Answered(413, f"that is longer than {most} bytes")
         file = self.environ["wsgi.input"]

@@ -21,12 +21,27 @@ def disk():
         raise Busy("the gateway's disk is full") from None
 
 
-def mapped(number: int, size: int) -> mmap.mmap | bytes:
+class Mapped(mmap.mmap):
+    """Bytes that are the system's again once some of them were read. Else all of an answer that nobody takes would be
+    the gateway's for as long as that lasts, and all that somebody sends."""
+
+    def __getitem__(self, which):
+        found = super().__getitem__(which)
+        self.madvise(mmap.MADV_DONTNEED)
+        return found
+
+    def read(self, *count) -> bytes:
+        found = super().read(*count)
+        self.madvise(mmap.MADV_DONTNEED)
+        return found
+
+
+def mapped(number: int, size: int) -> Mapped | bytes:
     """The bytes of an open file, which are cut out, hashed and sent as others are."""
-    return mmap.mmap(number, size, access=mmap.ACCESS_READ) if size else b""
+    return Mapped(number, size, access=mmap.ACCESS_READ) if size else b""
 
 
-def filled(size: int, fill: Callable[[Callable[[int, bytes], None]], bool]) -> mmap.mmap | bytes | None:
+def filled(size: int, fill: Callable[[Callable[[int, bytes], None]], bool]) -> Mapped | bytes | None:
     """So many bytes, which `fill` puts in their places, in any order; None where it says that they are not all there.
     (What it leaves out takes no space.)"""
     with disk(), tempfile.TemporaryFile(buffering=0) as file:
@@ -38,7 +53,7 @@ def filled(size: int, fill: Callable[[Callable[[int, bytes], None]], bool]) -> m
 class Sent:
     """Some bytes of a body that waitress sends as fast as they are read, once the request's thread is free."""
 
-    def __init__(self, data: mmap.mmap, first: int = 0, count: int | None = None):
+    def __init__(self, data: Mapped, first: int = 0, count: int | None = None):
         self.data, self.count = data, len(data) - first if count is None else count
         self.at_end = lambda: None
         self.read, self.seek, self.tell = data.read, data.seek, data.tell
@@ -53,7 +68,7 @@ class Sent:
         ends()
 
 
-def part(data: mmap.mmap | bytes, first: int, count: int) -> Sent | bytes:
+def part(data: Mapped | bytes, first: int, count: int) -> Sent | bytes:
     return data[first:first + count] if count <= MOST_IN_MEMORY else Sent(data, first, count)
 
 

@@ -2,7 +2,6 @@
 import base64
 import contextlib
 import hashlib
-import mmap
 from collections.abc import Callable
 from dataclasses import dataclass
 
@@ -14,7 +13,7 @@ from room_client.words import FOLDER
 from .faults import Answered, NotThere, is_refused
 from .memory import Memory, Told
 from .names import below, composed, is_passing, is_possible
-from .spool import filled
+from .spool import Mapped, filled
 from .visit import Visit
 
 DIGITS = 32  # of a sum
@@ -29,7 +28,7 @@ class Thing:
     size: int | None = None
     sum: str | None = None
     large: Manifest | None = None
-    data: bytes | mmap.mmap | None = None
+    data: bytes | Mapped | None = None
 
     @property
     def etag(self) -> str | None:
@@ -120,7 +119,7 @@ def bytes_of(visit: Visit, its: Thing, wanted: Callable[[Thing], tuple[int, int]
     """All bytes of one version, or of a large file the pieces from the first to the last byte that is `wanted`. (That
     may be another version than was looked at: its size and sum are then, too.)"""
     if its.data is None:
-        def gathers(found: Manifest) -> bytes | mmap.mmap | None:
+        def gathers(found: Manifest) -> bytes | Mapped | None:
             its.size, its.sum, its.large = found.size, found.sha256[:DIGITS], found
             first, last = wanted(its) or (0, max(found.size - 1, 0))
             return pieces_of(visit, its.path, found, range(first // PIECE, last // PIECE + 1))
@@ -128,7 +127,7 @@ def bytes_of(visit: Visit, its: Thing, wanted: Callable[[Thing], tuple[int, int]
     return its.data
 
 
-def pieces_of(visit: Visit, path: str, its: Manifest, numbers: range) -> bytes | mmap.mmap | None:
+def pieces_of(visit: Visit, path: str, its: Manifest, numbers: range) -> bytes | Mapped | None:
     """A large file's bytes in their places, as far as they are in these pieces. Where that is not all, nothing tells
     whether they are of one version but that they lie in its folder."""
     data = filled(its.size, lambda put: fetch(

@@ -25,10 +25,10 @@ HOW = {"roster": shared.ROSTER + 'dan = ["eng"]\n', "passwords": {it: f"{it}-wor
 LARGE = 8 << 20
 
 
-def memory_of(pid):
-    """Bytes that a process has to itself. (Pages of files that it maps are the system's to take away.)"""
+def memory_of(pid, kind="RssAnon"):
+    """Bytes that a process has to itself. (Pages of files that it maps are the system's to take away: RssFile.)"""
     with contextlib.suppress(OSError, StopIteration), open(f"/proc/{pid}/status") as file:
-        return next(int(line.split()[1]) << 10 for line in file if line.startswith("RssAnon:"))
+        return next(int(line.split()[1]) << 10 for line in file if line.startswith(f"{kind}:"))
     return 0
 
 
@@ -91,6 +91,31 @@ def test_what_nobody_reads(desk):
         desk.does("ann", "GET", "/small", 503)
         desk.does("bob", "PROPFIND", "/dav/", 207, raw=True, Depth="0")
     assert until(lambda: desk.ask("ann", "HEAD", "/small").status == 200, pause=0.1)
+
+
+@pytest.fixture
+def mapped(desk):
+    """How much more of its files the gateway has in memory now."""
+    desk.ask("ann", "PUT", "/mapped", os.urandom(LARGE // 4))
+    desk.does("ann", "GET", "/mapped", 200)
+    before = memory_of(desk.gateway.pid, "RssFile")
+    return lambda: memory_of(desk.gateway.pid, "RssFile") - before
+
+
+def test_what_nobody_reads_is_in_no_memory(desk, mapped):
+    with contextlib.ExitStack() as lines:
+        said = [begins(lines, socket.AF_UNIX, desk.path("gate.sock"), "/mapped") for _ in range(turns.MOST_UNREAD)]
+        assert said == [b"200"] * turns.MOST_UNREAD
+        assert mapped() < LARGE // 2
+    assert until(lambda: desk.ask("ann", "HEAD", "/mapped").status == 200, 60, 0.1)
+
+
+def test_what_is_sent_is_in_no_memory(desk, mapped):
+    """While its pieces go on to the room."""
+    found = []
+    with desk.before(has('"data"', ".room-writing-"), lambda: found.append(mapped())):
+        desk.does("ann", "PUT", "/sent", 201, os.urandom(LARGE))
+    assert [it for it in found if it > LARGE // 2] == [] != found
 
 
 def test_threads_for_others(desk):
