@@ -162,7 +162,7 @@ export class Things {
   }
 
   async sortBy(by) {
-    this.sort = { by, isDown: this.sort.by === by && !this.sort.isDown };
+    this.sort = { by, isDown: this.sort.by === by ? !this.sort.isDown : by === "when" };
     localStorage.setItem(SORT, `${by}${this.sort.isDown ? " down" : ""}`);
     this.draw();
     if (by === "size") await this.lookAtAll();

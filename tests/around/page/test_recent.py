@@ -61,7 +61,6 @@ def test_each_name_tells_who_changed_it(plans):
     plans.anew("/plans")
     browser.until("who changed it", lambda: who_changed(browser) == first)
     browser.press("Changed")
-    browser.press("Changed")
     newest = [("b.txt", "bob"), ("a.txt", "ann"), ("old.txt", "")]
     assert who_changed(browser) == newest
     plans.anew("/plans")
