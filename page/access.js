@@ -118,10 +118,10 @@ class ListView {
   }
 
   taking() {
-    if (this.place.path === ROOT) return make("p", t.topList);
+    if (this.place.path === ROOT) return null;
     const its = follows(this.aclflag);
     return make("div", checkbox(t.takesOver, its, (it) => this.take(it)),
-      make("p.about", its ? t.without : this.copied.length ? t.taken : t.alone));
+      make("p.about", its ? t.without : t.alone));
   }
 
   get keepsControl() {

@@ -1,19 +1,20 @@
 /** What is offered for an object: what the lists allow, or all where the room does not say. */
-import { download, downloadFolder } from "./downloads.js";
+import { download, downloadFolder, save } from "./downloads.js";
 import { copyTo, move, putBack, remove, wayBack } from "./moving.js";
 import { ADD_FILE, ADD_FOLDER, ALL, APPEND, DELETE, DELETE_CHILD, FILE, FOLDER, LARGE, MOST_BYTES, PASS_THROUGH as PASS,
-  READ, READ_LIST, ROOT, UNFINISHED, WRITE, addressOf, area, ask, button, changesIn, clean, drawRail, faultLine,
-  filesButton, folderOf, fromBase64, fromText, hasDav, inFolder, isStarred, isTrash, keepBeside, lastName, make,
-  makeLike, nameFault, nameInput, newVersion, offered, pathFault, placeIn, say, showAddresses, shown, t, tellFault,
-  toBase64, toText, toldBy, turnStar, whenWords, wholeLink } from "./shared.js";
+  READ, READ_LIST, ROOT, UNFINISHED, WRITE, addressOf, area, ask, button, changesIn, checkbox, clean, drawRail,
+  entriesOf, faultLine, filesButton, folderOf, fromBase64, fromText, hasDav, inFolder, isStarred, isTrash, keepBeside,
+  lastName, make, makeLike, nameFault, nameInput, newVersion, offered, pathFault, placeIn, say, showAddresses, shown, t,
+  tellFault, toBase64, toText, toldBy, turnStar, whenWords, wholeLink, withFollows } from "./shared.js";
 
 export const rightsOn = async (room, path) => await room.rights(path) ?? ALL;
 
 const copyLink = (address) => navigator.clipboard.writeText(wholeLink(address))
   .then(() => say(t.linkCopied), (fault) => tellFault(t.about(t.copyLink, fault.message)));
 
-function star(app, path, kind) {
-  turnStar(app, path, kind === FOLDER);
+export function star(app, path, isFolder) {
+  turnStar(app, path, isFolder);
+  for (const { row } of document.querySelectorAll("tbody tr")) row?.showStar();
   say(t.isStar(shown(lastName(path)), isStarred(app, path)));
   drawRail(app, app.place);
 }
@@ -50,7 +51,7 @@ export function offersFor(app, path, kind, { own, above, size }) {
     [!isThrown, { words: t.copyLink, does: () => copyLink(at("open")), isView: true }],
     [isFolder && !isThrown && hasDav(app),
       { words: t.openInFiles, does: () => showAddresses(app, path), isView: true }],
-    [!isThrown && !isTop, { words: t.star(isStarred(app, path)), does: () => star(app, path, kind), isView: true }],
+    [!isThrown && !isTop, { words: t.star(isStarred(app, path)), does: () => star(app, path, isFolder), isView: true }],
   ]);
 }
 
@@ -58,7 +59,7 @@ export const asButton = ({ words, files, chosen, does }) =>
   (chosen ? filesButton(words, files, chosen) : button(words, does));
 
 export const textOffers = (app, path, own, bytes, text) => offered([
-  [text !== null && has(own, READ, WRITE), { words: t.edit, does: () => edit(app, path, bytes, text) }],
+  [text !== null && has(own, READ, WRITE), { words: t.edit, does: () => edit(app, path) }],
   [has(own, APPEND) && (bytes === null || text !== null), { words: t.append, does: () => append(app, path) }],
 ]);
 
@@ -81,8 +82,15 @@ async function makeNew(app, folder, { title, fields = [], faultOf = () => "", do
   await app.done(t.isMade(shown(clean(name.value))), to === folder ? null : { from: folder, to });
 }
 
-export const makeFolder = (app, folder) =>
-  makeNew(app, folder, { title: t.newFolder, does: (path) => app.room.run("MKDIR", path) });
+export function makeFolder(app, folder) {
+  let isMine = false;
+  const mine = checkbox(t.about(t.heads.who, t.onlyYou), false, (it) => { isMine = it; });
+  const own = { aclflag: withFollows(1, false), entries: entriesOf("all", { id: "user", name: app.user }, FOLDER) };
+  return makeNew(app, folder, { title: t.newFolder, fields: [["", mine]], does: async (path) => {
+    await app.room.run("MKDIR", path);
+    if (isMine) await app.room.run("SETLIST", path, own);
+  } });
+}
 
 export function makeDocument(app, folder) {
   const text = area();
@@ -97,7 +105,7 @@ function asLines(text, before) {
 }
 
 async function append(app, path) {
-  // (it is read before anything is typed: the request that adds it keeps what is typed)
+  // (read before anything is typed)
   const before = await app.attempt(t.appendTo(shown(path)), async () =>
     toText(fromBase64((await app.room.look("READ", path, { keep: false }))?.data ?? "")) ?? "");
   if (before === null) return;
@@ -115,10 +123,13 @@ function settle(who, theirs, mine, keep, take) {
     others: [{ words: t.takeTheirs, value: "theirs", task: take }, { words: t.goOnWithMine, value: "on" }] });
 }
 
-async function edit(app, path, bytes, text) {
+export async function edit(app, path) {
+  const title = t.doTo(t.edit, shown(lastName(path)));
+  let [seen, told] = [await app.attempt(title, async () => (await app.room.run("READ", path)).data), t.replaced];
+  const text = seen === null ? null : toText(fromBase64(seen));
+  if (text === null) return void (seen && tellFault(t.about(title, t.theirBytes)));
   const [field, lineEnd] = [area(text), text.includes("\r\n") ? "\r\n" : "\n"]; // (a text field has \n alone)
   const typed = () => fromText(field.value.replaceAll("\n", lineEnd));
-  let [seen, told] = [toBase64(bytes), t.replaced];
   const since = Date.now() / 1000;
   const keep = async () => {
     told = t.keptAs(shown(lastName(await keepBeside(app.room, path, t.copyOf(app.user), typed()))));
@@ -133,8 +144,8 @@ async function edit(app, path, bytes, text) {
     if (chosen === "on") seen = now;
     if (chosen === "on" || !chosen) throw new Error(t.notReplaced);
   };
-  const isDone = await ask({ title: t.doTo(t.edit, shown(lastName(path))), does: t.save, fields: [[t.text, field]],
-    faultOf: () => tooLong(typed()), task });
+  const isDone = await ask({ title, does: t.save, fields: [[t.text, field]], faultOf: () => tooLong(typed()), task,
+    wayOn: button(t.download, () => save(new Blob([typed()]), lastName(path)), "small") });
   if (isDone) await app.done(told);
 }
 

@@ -1,5 +1,4 @@
-/** The views of a folder, of a document, and of what lies in several folders: what was found, and what was changed of
- * late at the top, in favourites, and in the latest folders. */
+/** The views of a folder, of a document, of what was found, and of what was changed of late. */
 import { asButton, makeDocument, makeFolder, offersFor, rightsAt, textOffers } from "./actions.js";
 import { head } from "./heads.js";
 import { emptyTrash } from "./moving.js";
@@ -58,13 +57,13 @@ async function folder(app, place, stat, rights, found) {
     mayEmpty && button(t.emptyTrash, () => emptyTrash(app, path)));
   if (found instanceof Refusal) return [...top, bar, about(place, stat, t.kinds.folder),
     closedLine(found, place, rights.own & PASS_THROUGH ? t.byLink : "")];
-  if (path !== ROOT && !isInTrash(path)) note(app, path, true);
+  note(app, path, true);
   const names = listed.filter(([name]) => !isPart(name)).sort(byName);
   const changes = names.length > 0 && hasDav(app) && !isInTrash(path) ? changesIn(app, [path]) : null;
   const things = names.length ? new Things(app, place, names, rights, changes) : null;
   const words = isOwn ? t.inTrash : mayPut && t.dropHere;
   await things?.inOrder;
-  const more = words && make("p.about", words);
+  const more = words && make(isOwn ? "p.about" : "p.about.by-mouse", words);
   const area = make("div.drops", await leftWords(listed),
     things?.element ?? make(mayPut ? "div.empty.inviting" : "div.empty", icon(isOwn ? "trash" : "folder"),
       make("p", t.nothingThere), more),
@@ -90,7 +89,7 @@ async function document_(app, place, stat, rights) {
   const { path } = place;
   const found = await orShut(app.room.run("READ", path), path);
   const isShut = found instanceof Refusal;
-  if (!isShut && !isInTrash(path)) note(app, path, false);
+  if (!isShut) note(app, path, false);
   const bytes = isShut ? null : fromBase64(found.data);
   const first = textOffers(app, path, rights.own, bytes, bytes && toText(bytes));
   const words = isShut ? t.kinds.writing : t.bytes(bytes.length);
@@ -102,7 +101,7 @@ async function large(app, place, stat, rights) {
   const { path } = place;
   const its = await manifestAt(app.room, path);
   if (!its) return null;
-  if (!isInTrash(path)) note(app, path, false);
+  note(app, path, false);
   const area = make("div");
   const show = async () => {
     const told = [];

@@ -33,9 +33,10 @@ export async function untilClosed() {
 }
 
 class Dialog {
-  constructor({ title, words, fields = [], does, faultOf = () => "", task = () => {}, others = [], first,
+  constructor({ title, words, fields = [], does, faultOf = () => "", task = () => {}, others = [], wayOn,
     stays = t.cancel, isFinal = false }) {
-    Object.assign(this, { faultOf, task, first: isFinal ? stays : first, fields: fields.map(([, field]) => field) });
+    Object.assign(this, { faultOf, task, wayOn, first: isFinal && stays, fields: fields.map(([, field]) => field) });
+    this.isText = this.fields.some((it) => it.tagName === "TEXTAREA"); // (nobody misses a name)
     this.fault = make("p.fault", { role: "alert" });
     this.leaving = make("p.fault", { role: "alert", hidden: true }, t.unsaved, " ", button(t.typeOn, () => this.stay()),
       " ", button(t.discard, () => this.end(null)));
@@ -44,7 +45,7 @@ class Dialog {
     const texts = [words].flat(Infinity).map((it) => (typeof it === "string" ? make("p", it) : it));
     const head = make("h2", does ? {} : { tabIndex: -1, autofocus: true }, title);
     this.form = make("form", { method: "dialog", onsubmit: onSubmit(() => this.submit()) }, head, texts,
-      fields.map(([label, field]) => labelled(label, field)), this.fault, this.fields.length > 0 && this.leaving,
+      fields.map(([label, field]) => (label ? labelled(label, field) : field)), this.fault, this.isText && this.leaving,
       this.atWork, make("p.actions", isFinal && leave, does && make(isFinal ? "button" : "button.main", does),
         others.map((it) => button(it.words, () => this.run(it.task ?? (() => {}), it.value))), !isFinal && leave));
     this.element = make("dialog", { "aria-label": title, closedby: "none", onkeydown: (event) => this.key(event),
@@ -79,7 +80,7 @@ class Dialog {
       await task();
       this.end(value);
     } catch (fault) {
-      this.fault.textContent = fault.message;
+      this.fault.replaceChildren(fault.message, ...this.wayOn ? [" ", this.wayOn] : []);
     } finally {
       clearTimeout(slow);
       this.atWork.textContent = "";
@@ -91,7 +92,7 @@ class Dialog {
 
   leave() {
     if (this.form.inert) return;
-    if (this.now === this.start) return this.end(null);
+    if (this.now === this.start || !this.isText) return this.end(null);
     if (this.leaving.hidden) this.typedIn = this.fields.find((it) => it === document.activeElement) ?? this.fields[0];
     this.leaving.hidden = false;
     this.leaving.querySelector("button").focus();
@@ -122,8 +123,8 @@ class Dialog {
 }
 
 /** Asks for `fields`, `[LABEL, ELEMENT]`. `faultOf` tells why these will not do; `others` are buttons, `{words, value,
- * task}`; `first` is the word of the one that has the focus, `stays` of the one that closes. Gives true, or the value
- * of another button, once the task is done; null where it was closed. */
+ * task}`; `stays` is the word of the one that closes, which has the focus where the task `isFinal`; `wayOn` stands by
+ * its fault. Gives true, or the value of another button, once the task is done; null where it was closed. */
 export const ask = (how) => new Dialog(how).show();
 
 export const input = (value = "", how = {}) => make("input", { value, autocomplete: "off", spellcheck: false, ...how });

@@ -112,8 +112,8 @@ function showFocus({ currentTarget: it }) {
 }
 
 export function arrive(address) {
-  const first = heading();
   const isLoaded = seen.size === 0; // (then nobody has used the keys yet)
+  const first = !isLoaded && part("main").querySelector("[role=combobox]") || heading();
   first?.focus({ preventScroll: true, focusVisible: isLoaded ? false : undefined });
   if (isLoaded) first?.addEventListener("keydown", showFocus, { once: true });
   scrollTo({ top: seen.get(address) ?? 0, behavior: "instant" });

@@ -31,7 +31,7 @@ export class Zip {
 
   #put(...parts) {
     for (const it of parts) this.size += it.length;
-    // (a blob, so that the browser may keep it elsewhere than in memory)
+    // (which the browser may keep out of memory)
     this.parts.push(new Blob(parts));
     if (this.size > 0xfffff000 || this.count > 0xfff0) throw new Error(t.zipFull);
   }
@@ -57,7 +57,7 @@ export class Zip {
   }
 }
 
-function save(blob, name) {
+export function save(blob, name) {
   const href = URL.createObjectURL(blob);
   make("a", { href, download: forDisk(name) }).click();
   setTimeout(() => URL.revokeObjectURL(href), 60_000);

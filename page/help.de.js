@@ -18,6 +18,4 @@ Jede Anfrage wird gesendet, bis eine Antwort kommt, auch nach einem Neuladen, un
 Jeder Ordner und jedes Dokument hat eine Liste von Einträgen. Ein Eintrag erlaubt oder verbietet einige Rechte: dem
   Eigentümer, der Gruppe, allen, einem Benutzer oder einer Gruppe. **Freigeben** zeigt sie, und wie sie gelesen wird,
   unter **Genaue Einträge**.
-Ein Eintrag eines Ordners kann **weitergegeben** werden: an die Dokumente darin, an die Ordner darin oder an beide, und
-  weiter nach unten.
 `;

@@ -16,5 +16,4 @@ Each request is sent again until it is answered, also after a reload, and is don
 # Who may do what
 Each folder and document has a list of entries. An entry allows or denies some rights to its owner, its group, everyone,
   one user, or one group. **Share** shows it, with how it is read, under **Exact entries**.
-A folder's entry can be **handed down** to the documents in it, to the folders in it, or to both, and further down.
 `;

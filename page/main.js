@@ -143,7 +143,7 @@ function tellLeft(command, reply, fault) {
   (isDone ? say : tellFault)(t.sentBefore(cmd, shown(path), how));
 }
 
-const mayLose = () => ask({ title: t.leave, words: t.unsaved, does: t.discard, stays: t.typeOn, first: t.typeOn });
+const mayLose = () => ask({ title: t.leave, words: t.unsaved, does: t.discard, stays: t.typeOn, isFinal: true });
 
 const fail = (words) => part("main").replaceChildren(faultLine(words));
 
@@ -153,9 +153,9 @@ async function leaveAll() {
   const isOut = await logOut();
   document.title = "fileroom"; // (the next one may be somebody else)
   history.replaceState(null, "", "/");
-  const words = isOut ? [make("h1", t.loggedOut), make("p", t.forgotten)] :
-    [make("h1", t.notLoggedOut), make("p", t.notForgotten)];
-  document.body.replaceChildren(make("main", words, make("p", button(t.logIn, () => location.assign("/sign-in")))));
+  const [title, words] = isOut ? [t.loggedOut, t.forgotten] : [t.notLoggedOut, t.notForgotten];
+  document.body.replaceChildren(make("main", make("h1", title), make("p", words),
+    make("p", button(t.logIn, () => location.assign("/sign-in")))));
 }
 
 function userMenu(user) {
@@ -221,7 +221,7 @@ async function start() {
   });
   watch(() => part("main").querySelector(".typed")?.isUnsaved());
   addEventListener("hashchange", () => app.come());
-  addEventListener("pageshow", ({ persisted }) => persisted && stayAs(user)); // (by Back)
+  addEventListener("pageshow", ({ persisted }) => persisted && stayAs(user));
   addEventListener("focus", () => look(app));
   setInterval(() => look(app), MINUTE);
   addEventListener("keydown", go);

@@ -28,17 +28,19 @@ class Cells {
     const places = object && groups && deciding(object, user, groups, how);
     if (!places) return "";
     const entries = places.map((at) => `${at + 1}. ${ruling(object.entries[at], kind, object)}`).join(" ");
-    return (entries ? t.whyEntries(entries) : t.noEntry(user)) + (user === object.owner ? t.ownersAlways : "");
+    const why = entries ? t.whyEntries(entries) : t.noEntry(personText(user));
+    return why + (user === object.owner ? t.ownersAlways : "");
   }
 
   async told(object, user, groups, { allowed, barrier, isPassKnown }) {
     const [name, above] = [object.path, barrier ?? ""].map((it) => shown(calledIn(this.room, it)));
-    if (allowed === null && !barrier) return t.mayUnknown(user, name, NOT_KNOWN.tells);
+    const who = personText(user);
+    if (allowed === null && !barrier) return t.mayUnknown(who, name, NOT_KNOWN.tells);
     const rights = rightsIn(askedOf(allowed, object.kind), object.kind);
     const may = allowed === null ? "" :
-      t.mayDo(name, user, rights.length ? rights : t.doNothing, await this.why(object, user, groups));
-    if (barrier) return t.barred(user, above, name, may);
-    return isPassKnown ? may : t.barUnknown(may, user);
+      t.mayDo(name, who, rights.length ? rights : t.doNothing, await this.why(object, user, groups));
+    if (barrier) return t.barred(who, above, name, may);
+    return isPassKnown ? may : t.barUnknown(may, who);
   }
 
   cell(level, word, title, words = title) {
@@ -56,7 +58,8 @@ class Cells {
       ({ user, level: (await this.levelAt(object, user, groups)).level })));
     const found = [...Map.groupBy(all, ({ level }) => level.word).values()].sort((a, b) => b.length - a.length);
     const both = found.slice(0, 2).map(([it]) => it.level.word).join(" / ") + (found.length > 2 ? " …" : "");
-    const some = (its) => [...its.slice(0, MOST_TOLD).map(({ user }) => user), ...its.length > MOST_TOLD ? ["…"] : []];
+    const some = (its) =>
+      [...its.slice(0, MOST_TOLD).map(({ user }) => personText(user)), ...its.length > MOST_TOLD ? ["…"] : []];
     const words = found.map((its) => t.about(its[0].level.word, `${its.length} (${some(its).join(", ")}).`)).join(" ");
     const level = found.length === 1 ? found[0][0].level : SEVERAL;
     return this.cell(level, both, words, t.about(shown(object.path), words));
@@ -71,7 +74,7 @@ class Cells {
   }
 
   async table(objects, columns, open) {
-    const named = Map.groupBy(columns, (it) => it.isGroup || displayName(it.title)); // (several may have one name)
+    const named = Map.groupBy(columns, (it) => it.isGroup || displayName(it.title));
     const called = (user) => (named.get(displayName(user)).length > 1 ? personText(user) : displayName(user) || user);
     const titles = columns.map((it) => make("th", { scope: "col", title: it.isGroup ? "" : personText(it.title) },
       it.isGroup ? button([nameText(it.title), ` (${it.users.length})`], () => open(it),

@@ -1,6 +1,6 @@
 /** Files and folders are moved, copied, removed to the trash or for good, and put back. */
 import { ACCESS, ADD_FILE, ADD_FOLDER, EXIST, FILE, FOLDER, MAX_NAMES, NOBODY, NOENT, NOTDIR, ROOT, TOO_DEEP, GaveUp,
-  Refusal, ask, calledAt, checkbox, clean, faultLine, folderOf, follow, forEach, freePath, freePaths, inFolder,
+  Refusal, ask, calledAt, clean, faultLine, folderOf, follow, forEach, freePath, freePaths, inFolder,
   isInTrash, isRefused, isWithin, lastName, nameAt, nameFault, nameInput, namesOf, note, offered, orFault, readFile,
   removeAll, shown, t, tellFaults, toTrash, toldBy, transferring, trashOf, whole, withoutPool,
   writeFile } from "./shared.js";
@@ -133,28 +133,25 @@ async function contentsWords({ room }, paths) {
   return faultLine(t.goesWith(counts, found.length), shut > 0 && t.shutIn(t.folders(shut)));
 }
 
-async function trashWords(app, path) {
-  const { path: trash, fault } = isInTrash(path) ? { fault: "" } : await trashOf(app);
-  const more = fault === "" ? "" : ` ${t.askTrash(fault ?? t.noTrash)}`;
-  return { trash, words: trash ? t.goesToTrash(trash) : t.forGood + more };
-}
-
+/** To the trash at once, since there is a way back; for good after a question. */
 export async function remove(app, paths, does = t.doTo(t.remove, shortNamed(paths)), inside = paths) {
-  const asked = await app.attempt(does, () => Promise.all([trashWords(app, paths[0]), contentsWords(app, inside)]));
-  if (!asked) return;
-  const [{ trash, words }, what] = asked;
-  let [isForGood, gone] = [!trash, paths];
   const places = new Map(); // in the trash
-  const task = async () => {
-    gone = await withEach(t.remove, paths, async (it) => (isForGood ? removeAll(app.room, it) :
-      places.set(it, await toTrash(app.room, it, trash))));
-  };
-  const done = await ask({ title: does, does: inside === paths ? t.remove : does, first: t.remove, task,
-    isFinal: isForGood,
-    words: [words, trash && checkbox(t.notToTrash, false, (it) => { isForGood = it; }), what] });
-  if (!done) return;
-  await app.done(gone.length ? (isForGood ? t.isRemoved : t.isInTrash)(named(gone), gone.length) : "",
-    only(paths, { from: paths[0], to: folderOf(paths[0]) }), isForGood ? null : wayBack(app, places));
+  const asked = await app.attempt(does, async () => {
+    const { path: trash, fault } = isInTrash(paths[0]) ? { fault: "" } : await trashOf(app);
+    if (trash) {
+      const toIt = async (it) => places.set(it, await toTrash(app.room, it, trash));
+      return { gone: await withEach(t.remove, paths, toIt) };
+    }
+    const why = fault === "" ? "" : ` ${t.askTrash(fault ?? t.noTrash)}`;
+    return { words: [t.forGood + why, await contentsWords(app, inside)] };
+  });
+  if (!asked) return;
+  let { words, gone } = asked;
+  const task = async () => { gone = await withEach(t.remove, paths, (it) => removeAll(app.room, it)); };
+  const how = { title: does, does: inside === paths ? t.remove : does, isFinal: true, words, task };
+  if (words && !await ask(how)) return;
+  await app.done(gone.length ? (words ? t.isRemoved : t.isInTrash)(named(gone), gone.length) : "",
+    only(paths, { from: paths[0], to: folderOf(paths[0]) }), words ? null : wayBack(app, places));
 }
 
 export async function emptyTrash(app, path) {

@@ -15,7 +15,7 @@ new ResizeObserver(() => { document.documentElement.style.scrollPaddingBottom = 
 function put(name, how, ...children) {
   const it = make(name, how, ...children);
   (it.querySelector("p") ?? it).append(" ", button(t.close, () => it.remove(), "small"));
-  section.prepend(it); // (the newest is seen first)
+  section.prepend(it);
   return it;
 }
 

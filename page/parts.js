@@ -1,7 +1,5 @@
-/** What a large file is made of (docs/FILES.md). What uploads made is removed; whatever else has such a name stays.
- * What is left for later goes on behind an answer, until the next save or removal of the file. The manifest has its
- * owner and group, and no list: else who may write it now could go on later. Spares are documents of an earlier
- * version that take the bytes of the next one, which so takes no numbers. */
+/** What a large file is made of, its manifest and spares (docs/FILES.md). What uploads made is removed; whatever else
+ * has such a name stays. What is left for later goes on behind an answer, until the file is saved or removed. */
 import { EXIST, FOLDER, ISDIR, NOENT, NOTDIR, GaveUp, Refusal, folderOf, forEach, fromBase64, fromText, inFolder,
   isRefused, isWithin, lastName, once, orElse, orFault, ownList, part, passersRead, shown, t } from "./common.js";
 import * as form from "./manifest.js";

@@ -27,7 +27,8 @@ export function forgetOthers(user) {
 export const latest = (app) => mineOf(app).latest;
 export const stars = (app) => mineOf(app).stars;
 export const isStarred = (app, path) => stars(app).some(([it]) => it === path);
-export const note = (app, path, isFolder) => keep(app, "latest", [[path, isFolder], ...without(latest(app), path)]);
+export const note = (app, path, isFolder) =>
+  path === ROOT || isInTrash(path) || keep(app, "latest", [[path, isFolder], ...without(latest(app), path)]);
 
 export function turnStar(app, path, isFolder) {
   const others = without(stars(app), path);

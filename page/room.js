@@ -58,7 +58,7 @@ export const BEHIND = "behind"; // of a step that goes on behind an answer
 export function once(map, key, task) {
   if (!map.has(key)) {
     map.set(key, task());
-    map.get(key)?.catch?.(() => map.delete(key)); // (it is asked anew)
+    map.get(key)?.catch?.(() => map.delete(key));
   }
   return map.get(key);
 }

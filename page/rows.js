@@ -1,12 +1,13 @@
 /** A row. Its size is asked for once it is seen, its rights as its menu opens. Until then a folder of the room stands
  * among folders or documents by what it was before, or by its name: no row moves below a click. */
-import { offersFor, rightsOn } from "./actions.js";
+import { edit, offersFor, rightsOn, star } from "./actions.js";
 import { download } from "./downloads.js";
 import { dragRow, takeFiles, takeRows } from "./drag.js";
 import { putBack } from "./moving.js";
-import { FILE, FOLDER, LARGE, UNFINISHED, addressOf, beforeWords, button, calledIn, canShow, icon, inFolder, isForDisk,
-  isOwnTrash, isPdf, isPicture, kindByName, link, lookInto, make, menuButton, nameAt, nameText, ownedWords, preview,
-  readFile, shown, sizeWords, t, tellFault, tellIt, toldBy, whenWords, whileSo } from "./shared.js";
+import { FILE, FOLDER, LARGE, READ, UNFINISHED, WRITE, addressOf, beforeWords, button, calledIn, canShow, icon,
+  inFolder, isForDisk, isInTrash, isOwnTrash, isPdf, isPicture, isStarred, kindByName, link, lookInto, make, menuButton,
+  nameAt, nameText, ownedWords, preview, readFile, shown, sizeWords, t, tellFault, tellIt, toldBy, whenWords,
+  whileSo } from "./shared.js";
 
 const PAUSE_ON = 200; // milliseconds on a row before its details are shown
 const MOST_BYTES_OF = 2 ** 22; // of a picture among them
@@ -40,22 +41,28 @@ export class Row {
       { tabIndex, "aria-label": `${t.putBack} ${words}` });
     this.more = menuButton("⋯", { tabIndex, "aria-label": t.moreFor(words), className: "small" },
       () => this.menu(), words);
+    this.pen = button("", () => edit(app, path), { tabIndex, hidden: true, className: "pen",
+      title: t.doTo(t.edit, words) });
+    this.star = button("", () => star(app, path, this.isFolder), { tabIndex, hidden: isInTrash(path) });
     this.where = things.isFound && link(addressOf({ room: place.room, path: folder }), nameText(above), { tabIndex });
     this.cells = { where: make("td.where", this.where),
       ...Object.fromEntries(["who", "when", "kind", "size"].map((it) => [it, make(`td.${it}`)])) };
     const below = [beforeWords(path), things.isFound && make("span.place", nameText(above))].filter(Boolean);
     this.element = make("tr", { "aria-selected": "false" }, make("td.tick", this.tick),
       make("th", { scope: "row" }, make("div", this.picture,
-        below.length ? make("div", this.link, make("div.about", below)) : this.link)),
+        below.length ? make("div", this.link, make("div.about", below)) : this.link,
+        make("span.quick", this.pen, this.star))),
       things.columns.slice(1).map((it) => this.cells[it]), make("td.own", this.back, this.more));
     this.element.row = this;
     this.showKind();
+    this.showStar();
     dragRow(this);
     for (const take of [takeRows, takeFiles]) take(this.element, app, path, () => this.its?.kind === FOLDER);
   }
 
   get stops() {
-    return [this.tick, this.link, this.where, this.cells.who.firstChild, this.back, this.more].filter(Boolean);
+    return [this.tick, this.link, this.pen, this.star, this.where, this.cells.who.firstChild, this.back, this.more]
+      .filter(Boolean);
   }
 
   showKind() {
@@ -68,6 +75,11 @@ export class Row {
     this.link.onclick = isDocument && isForDisk(this.called) ? (event) => this.give(event) : null;
   }
 
+  showStar() {
+    const [isOn, { name }] = [isStarred(this.app, this.path), this];
+    Object.assign(this.star, { className: isOn ? "star on" : "star", title: t.about(t.star(isOn), shown(name)) });
+  }
+
   give(event) {
     if (event.ctrlKey || event.metaKey || event.shiftKey || event.defaultPrevented) return;
     event.preventDefault();
@@ -76,7 +88,7 @@ export class Row {
 
   look() {
     this.looked ??= this.#look().catch((fault) => {
-      this.looked = null; // (it is asked anew)
+      this.looked = null;
       throw fault;
     });
     return this.looked;
@@ -98,6 +110,10 @@ export class Row {
     if (!found) return;
     const href = addressOf({ view: "access", room: this.things.place.room, path: this.path });
     this.cells.who.replaceChildren(link(href, found.words, { tabIndex: -1, title: found.told }));
+    const { user, room } = this.app;
+    const own = kind === FILE && this.kindName === "text" &&
+      await this.things.seers.questions.allowed(this.path, user, (await room.users())[user]);
+    this.pen.hidden = !(own & READ && own & WRITE);
   }
 
   tellWhen(change) {

@@ -79,7 +79,7 @@ export class SharePanel {
     const ofOthers = shares.filter((it) => !this.isOwners(it));
     const isAlone = !ofOthers.length && !others.length && !above.length;
     this.isAll = ofOthers.length < shares.length;
-    this.element = make("section.share", make("h2", t.sharedWith),
+    this.element = make("section.share", { "aria-label": t.share }, make("h2", t.sharedWith),
       make("ul.given", owner && make("li", make("span", personText(owner)), this.isAll ? t.isOwnerOfAll : t.isOwner)),
       ofOthers.length > 0 && make("ul.shares", ofOthers.map((it) => this.row(it))),
       make("ul.given", others.filter(({ entries }) => !entries.every(isDeny)).map((it) => this.custom(it)),

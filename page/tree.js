@@ -61,7 +61,7 @@ export class FolderTree {
     this.value = path;
     for (const folder of foldersAbove(path)) await this.open(this.items.get(folder));
     const it = this.items.get(path) ?? this.items.get(ROOT);
-    if (this.value !== path) return; // (the user was quicker)
+    if (this.value !== path) return;
     this.choose(it);
     await this.open(it);
     it.scrollIntoView({ block: "nearest" });
@@ -82,7 +82,7 @@ export class FolderTree {
     } catch (fault) {
       it.ariaExpanded = "false";
       this.told.textContent = fault.message;
-      if (fault instanceof GaveUp) tellIt(fault); // (its button is out of reach till then)
+      if (fault instanceof GaveUp) tellIt(fault);
     }
     it.ariaBusy = null;
   }

@@ -1,7 +1,8 @@
 /** Files and folders of the user's disk go into the room; what a folder has no room for, into another beside it. */
-import { EXIST, FOLDER, MAX_NAMES, MOST_BYTES, MOST_THINGS, ROOT, TOO_DEEP, ask, besideIt, button, calledIn, clean,
-  folderOf, foldersAbove, forEach, inFolder, isTooLong, isWithin, lastName, listOf, make, nameFault, namesOf, numbered,
-  offered, once, orElse, ownList, pathOf, pickFiles, settle, shortened, shown, t, tellFault } from "./common.js";
+import { EXIST, FOLDER, FOLDER_FULL, MAX_NAMES, MOST_BYTES, MOST_THINGS, ROOT, TOO_DEEP, ask, besideIt, button,
+  calledIn, clean, folderOf, foldersAbove, forEach, inFolder, isTooLong, isWithin, lastName, listOf, make, nameFault,
+  namesOf, numbered, offered, once, orElse, ownList, pathOf, pickFiles, settle, shortened, shown, t,
+  tellFault } from "./common.js";
 import { writeCopy, writeFile } from "./files.js";
 import { DEEPEST, sizeFault } from "./manifest.js";
 import { readFile } from "./reading.js";
@@ -21,7 +22,7 @@ async function within(entry, above = []) {
   if (entry.isFile) return [{ names, file: await new Promise((tell, fail) => entry.file(tell, fail)) }];
   const [reader, found] = [entry.createReader(), [{ names, file: null }]];
   for (;;) {
-    const some = await new Promise((tell, fail) => reader.readEntries(tell, fail)); // (by hundreds)
+    const some = await new Promise((tell, fail) => reader.readEntries(tell, fail));
     if (!some.length) return found;
     for (const it of some) found.push(...await within(it, names));
   }
@@ -105,7 +106,7 @@ export async function placeIn(room, path) {
   if (namesOf(path).length === MAX_NAMES) throw new Error(t.refusals[TOO_DEEP]);
   const namesIn = async (it) => await room.names(it) ?? [];
   if ((await namesIn(path)).length < MOST_THINGS) return path;
-  if (path === ROOT) throw new Error(t.topFull);
+  if (path === ROOT) throw new Error(t.refusals[FOLDER_FULL]);
   const there = new Map(await namesIn(folderOf(path)));
   for (let count = 2; ; count += 1) {
     const goal = besideIt(path, count);

@@ -1,8 +1,7 @@
-/** The words of the page in German. */
+/** The words of the page in German, in the order of words.en.js. */
 
 export const t = {
   and: "und", bytes: "{0} {0|Byte|Bytes}", allThings: "{0} {0|Element|Elemente}", ofAll: "{0} von {1}",
-  // the frame
   rooms: "Räume", places: "Orte", favourites: "Favoriten", latest: "Zuletzt geöffnet", skip: "Zur Liste", help: "Hilfe",
   logOut: "Abmelden", logIn: "Anmelden", close: "Schließen",
   refreshing: "{0|Nicht automatisch|Automatisch} aktualisieren", cancel: "Abbrechen", doneLabel: "Was getan wurde",
@@ -13,12 +12,10 @@ export const t = {
   insecure: "Diese Seite braucht https oder die Adresse 127.0.0.1.", loggedOut: "Sie sind abgemeldet",
   forgotten: "Was Sie heruntergeladen haben, ist noch auf diesem Rechner.", notLoggedOut: "Nicht abgemeldet",
   notForgotten: "Der Server nimmt Ihre Anmeldung noch an: schließen Sie alle Fenster dieses Browsers.",
-  // where people log in
   loginName: "Name", password: "Passwort", asking: "Anfrage läuft …", wrongLogin: "Name oder Passwort ist falsch.",
   manyLogins: "Zu viele Versuche: warten Sie eine Minute.", byBox: "Anmelden im Fenster des Browsers",
   noDirectory: "Der Anmeldedienst antwortet nicht. Versuchen Sie es in einer Minute wieder.",
   loggedIn: "Sie sind angemeldet: gehen Sie zurück zum Fenster von vorher.",
-  // requests
   gaveUp: "Aufgegeben.", unknown: "{0} Ob es getan wurde, ist nicht bekannt: sehen Sie nach, bevor Sie es wiederholen.",
   loginGone: "Die Anmeldung gilt nicht mehr. Melden Sie sich wieder an: was Sie getippt haben, bleibt hier.",
   noSpace: "Dieser Browser kann nicht mehr Anfragen aufbewahren: schließen Sie andere Tabs. ({0})",
@@ -31,7 +28,6 @@ export const t = {
   status: "Der Server antwortet mit {0}.", sentBefore: "Eine Anfrage von vorher, {0} von {1}: {2}", about: "{0}: {1}",
   leftAt: "{0} ist nicht fertig hochgeladen, kopiert oder entfernt, da die Seite endete: tun Sie es noch einmal.",
   doneOnce: "sie ist ausgeführt, einmal.", sessionGone: "Die Sitzung einer Anfrage gibt es nicht mehr.",
-  // refusals of the room, by their codes
   refusals: {
     1: "Unter diesem Pfad ist nichts: es wurde vielleicht umbenannt oder entfernt.",
     2: "Dies ist ein Dokument, kein Ordner. Wählen Sie einen anderen Pfad.",
@@ -42,7 +38,7 @@ export const t = {
     8: "Ein Eintrag gilt hier nirgends. Wählen Sie, wofür er gilt.",
     9: "Das Dokument hätte mehr als 65.536 Bytes. Teilen Sie es in zwei.",
     10: "Etwas hätte mehr als 16 Namen in seinem Pfad. Legen Sie es weiter oben ab.",
-    11: "Der Ordner ist voll: 256 Elemente. Machen Sie in einem anderen daneben weiter.",
+    11: "Der Ordner ist voll: 256 Elemente. Machen Sie in einem anderen weiter.",
     12: "Der Raum ist voll: eine Million Dateien und Ordner. Bitten Sie Ihre IT, ihn zu erneuern.",
     41: "Der Raum kennt diese Anfrage nicht: die Seite passt wohl nicht dazu. Fragen Sie Ihre IT.",
     42: "Sie sind kein Benutzer dieses Raums. Bitten Sie Ihre IT, Sie einzutragen.",
@@ -54,7 +50,6 @@ export const t = {
   askFor: "An {0} schreiben", accessTo: "Zugriff auf {0}", pleaseLet: "Bitte geben Sie mir hierauf Zugriff:",
   askAbove: "Bitten Sie den Eigentümer, oder {0}, dem der Ordner darüber gehört.",
   askAnyOwner: "Bitten Sie den Eigentümer darum.", byLink: "Was darin für Sie freigegeben ist, öffnet dessen Link.",
-  // warnings
   memoryEnds: "Dieser Raum passt {0} lang in den Speicher seiner Maschine, und startet danach nicht mehr. Bitten " +
     "Sie Ihre IT um Platz.", someDays: "noch etwa {0} {0|Tag|Tage}", untilTomorrow: "Bis morgen ausblenden",
   numbersEnd: "Dieser Raum kann {0} lang neue Dateien aufnehmen. Bitten Sie Ihre IT, ihn zu erneuern.",
@@ -62,15 +57,12 @@ export const t = {
   areHeld: "{0} {1|hat|haben} so viel von diesem Raum verlangt, dass {1|diese Anmeldung|diese Anmeldungen} bis " +
     "morgen nur lesen {1|kann|können}, wenn niemand sie vorher freischaltet.", lessThanADay: "weniger als einen Tag",
   isUnproved: "Dies ist der Schnellbau zum Ausprobieren: nichts ist darin bewiesen.",
-  // names
   blank: "leer", notComposed: "nicht zusammengesetzt", nameWanted: "Es fehlt ein Name; . und .. sind keine.",
   nameLetters: "Ein Name hat kein / und kein Steuerzeichen.", shorten: "Kürzen zu {0}",
   pathLong: "Ein Pfad hat höchstens {0} Namen.", copyOf: "Kopie von {0}", before: "vor {0}",
   tooLong: "Das zählt als {0} Buchstaben, höchstens {1} sind möglich: Umlaute und Akzente zählen doppelt oder mehr.",
-  // dialogs
   unsaved: "Was Sie geschrieben haben, ist nicht gespeichert.", typeOn: "Weiterschreiben", discard: "Verwerfen",
   leave: "Seite verlassen?", working: "Läuft …", changed: "Jemand hat dies inzwischen geändert",
-  // rights: with a document, with a folder, with a large file
   rights: {
     0x1: ["lesen", "sehen, was darin ist"],
     0x2: ["den Text ersetzen", "Dokumente darin anlegen"],
@@ -97,14 +89,12 @@ export const t = {
     unknown: ["?", "Sie dürfen nicht sehen, wer Zugriff hat"],
   },
   sets: { view: "ansehen", edit: "bearbeiten", change: "ändern", all: "alles tun" },
-  // lists in words
   reach: ["diesen Ordner selbst", "die Dokumente darin", "die Ordner darin", "was weiter unten ist"],
   whom: { "": "noch niemand", "EVERYONE@": "alle", "OWNER@": "Eigentümer", "GROUP@": "seine Gruppe",
     user: "Benutzer", group: "Gruppe" }, noWhom: "Wählen Sie, für wen er gilt.", countsNowhere: "Gilt nirgends.",
   notInRoster: "{0} ist {1|kein Benutzer|keine Gruppe} dieses Raums.", ruling: "{0|Verboten|Erlaubt} für {1}: {2}.",
   handsDown: "{0|Gilt hier und|Gilt hier nicht, aber} für {1} darin{2| und weiter unten|, weiter unten nicht}.",
   doNothing: "nichts tun", children: ["Dokumente", "Ordner"], countsHere: "Gilt nur hier.",
-  // sharing
   sharedWith: "Wer Zugriff hat", may: "Zugriff", groupInstead: "Für {0} freigeben, statt für {1} ihrer Mitglieder",
   groupMark: "Gruppe ", mayWhat: "Was {0} darf", severalAre: "{0} heißen mehrere. Wählen Sie den Anmeldenamen: {1}.",
   who: "Wer (Benutzer, Gruppe oder alle)", listFull: "Das wären {0} Einträge, höchstens {1} sind möglich.",
@@ -122,15 +112,13 @@ export const t = {
   passWords: "Sonst wird in diesen Ordnern nichts sichtbar.", letPass: "Erlauben", others: "{0} {0|anderen|andere}",
   stillShut: "Ein Verbot steht davor: für {0} gibt es noch keinen Weg.", allCan: "Geprüft: der Weg ist frei für {0}.",
   cannot: "Diese kommen nicht hin oder dürfen es nicht: {0}.",
-  // the editor of lists
   allow: "Erlaubt", deny: "Verboten", whomLabel: "Für wen", rightsLabel: "Rechte", chosenBelow: "was unten gewählt ist",
   to: ":", unaskedRights: "Rechte, die kein Befehl braucht", countsFor: "Gilt für", up: "Nach oben", down: "Nach unten",
   remove: "Entfernen", handedTitle: "Vom Ordner darüber weitergegeben", addEntry: "Eintrag hinzufügen",
   ownEntries: "Eigene Einträge", takesOver: "Übernimmt, was der Ordner darüber weitergibt", saveList: "Liste speichern",
-  topList: "Das ist der oberste Ordner: an ihn gibt keiner etwas weiter.", isShared: "{0} ist für Sie freigegeben",
+  isShared: "{0} ist für Sie freigegeben",
   without: "Ohne den Haken bleibt, was jetzt weitergegeben wird, als eigene Einträge; was später kommt, nicht.",
-  taken: "Das Weitergegebene steht jetzt bei den eigenen Einträgen: entfernen Sie dort, was nicht gelten soll.",
-  alone: "Was der Ordner darüber weitergibt, gilt hier nicht. Mit dem Haken steht es hinter den eigenen Einträgen.",
+  alone: "Was der Ordner darüber weitergibt, gilt hier nicht.",
   handedBehind: "Diese stehen hinter den eigenen. Geändert werden sie dort: ", listBack: "Die Freigabe ist wie zuvor.",
   tellThem: "Link per Mail senden", noControl: "Danach können Sie den Zugriff nicht mehr ändern.",
   listSet: "Freigabe geändert.", listOf: "Die Liste von {0}", theirs: "Andere Fassung",
@@ -138,7 +126,6 @@ export const t = {
   aboutList: "Für jedes Recht entscheidet der erste Eintrag, der es und die Person nennt; sonst ist es verboten. Man " +
     "muss auch durch jeden Ordner darüber dürfen.", yours: "Ihre Fassung",
   takeTheirs: "Andere Fassung nehmen", countsForNobody: "{0} Der Eintrag gilt erst, wenn es diesen Namen hier gibt.",
-  // the matrix
   whyEntries: " Durch die Einträge: {0}", ownersAlways: " Ein Eigentümer darf die Liste immer sehen und ändern.",
   noEntry: " Kein Eintrag ist für {0}.", mayUnknown: "Was {0} mit {1} darf: {2}.", shownOf: "gezeigt {0} von ",
   mayDo: "Die Liste von {0} erlaubt {1}: {2}.{3}", barred: "{0} darf nicht durch {1} und kommt nicht an {2}. {3}",
@@ -146,7 +133,6 @@ export const t = {
   chooseCell: "Wählen Sie ein Feld, um es in Worten zu lesen.", showMore: "Mehr zeigen ({0} sind übrig)",
   narrow: "Benutzer und Gruppen, deren Name diese Buchstaben hat (Benutzer: {0}{1}, Gruppen: {2})",
   noGroup: "in keiner Gruppe", barUnknown: "{0} Ob {1} durch jeden Ordner darüber darf, ist Ihnen nicht bekannt.",
-  // what is shown of an object
   inShort: "Einzelheiten", noRow: "Wählen Sie ein Element, um es hier zu sehen.",
   owned: "Eigentümer {0}, Gruppe {1}", failedOf: "{0} von {1} fehlgeschlagen", unfinished: "unfertig hochgeladen",
   heads: { name: "Name", who: "Wer es sieht", when: "Geändert", kind: "Art", size: "Größe", where: "Ordner" },
@@ -164,7 +150,6 @@ export const t = {
   noText: "Das lässt sich hier nicht zeigen. Laden Sie es herunter.", next: "Nächstes Bild ›", play: "Abspielen",
   stop: "Anhalten", beginning: "Das ist der Anfang. Laden Sie es herunter, um alles zu lesen.",
   someDocument: "einem Dokument", show: "Zeigen", nothingThere: "Dieser Ordner ist leer.", isEmpty: "Darin ist nichts.",
-  // what is done with an object
   new: "Neu", upload: "Hochladen", share: "Freigeben", undo: "Rückgängig", downloadZip: "Als zip herunterladen",
   newFolder: "Neuer Ordner", newDocument: "Neues Dokument", uploadFolder: "Ordner hochladen", download: "Herunterladen",
   newVersion: "Neue Fassung hochladen", linkCopied: "Der Link ist kopiert: wer dies sehen darf, kann es damit öffnen.",
@@ -181,32 +166,29 @@ export const t = {
   isMade: "{0} ist angelegt.", isNow: "{0} {2|ist|sind} jetzt {1}.", goOnWithMine: "Mit meiner Fassung weitermachen",
   yoursThen: "Alle mit Zugriff auf diesen Ordner haben auch darauf Zugriff.",
   isHeld: "{0} {1|ist|sind} {2|ausgeschnitten|kopiert}: Strg V legt {1|es|sie} in den gezeigten Ordner.",
-  // move, copy, remove
   toFolder: "In den Ordner ", isHere: "Dort ist es schon: wählen Sie einen anderen Ordner oder Namen.",
   recent: "Zuletzt:", moveWords: "Der Zugriff ist dann wie im neuen Ordner; eigene Freigaben bleiben.",
   copyWords: "Eigene Freigaben des Originals kommen nicht mit.", forGood: "Es lässt sich nicht zurückholen.",
   intoItself: "Nichts kommt in sich selbst: wählen Sie einen anderen Ordner.", documents: "{0} {0|Dokument|Dokumente}",
   isCopied: "{0} {2|ist|sind} kopiert nach {1}.", goesWith: "Mit entfernt {1|wird|werden}: {0} darin.",
-  folders: "{0} Ordner", goesToTrash: "Es kommt in den Papierkorb, {0}, und lässt sich wiederherstellen.",
+  folders: "{0} Ordner",
   foreignTrash: "Der Papierkorb {0} gehört {1}; dort wäre zu lesen, was Sie entfernen",
   noTrash: "Sie haben keinen Papierkorb", isRemoved: "{0} {1|ist|sind} entfernt.",
   openTrash: "Der Papierkorb {0} ist offen für andere, die dort lesen könnten, was Sie entfernen",
-  notToTrash: "endgültig, nicht in den Papierkorb", isInTrash: "{0} {1|ist|sind} im Papierkorb.", trash: "Papierkorb",
+  isInTrash: "{0} {1|ist|sind} im Papierkorb.", trash: "Papierkorb",
   emptyTrash: "Papierkorb leeren", trashOf: "Papierkorb von {0}", removedAt: "entfernt {0}", wasIn: "war in {0}",
   trashDeep: "Im Papierkorb hätte etwas davon mehr als 16 Namen im Pfad. Verschieben Sie es nach oben.",
   inTrash: "Entferntes liegt hier, bis Sie es auch hier entfernen.", noPlace: "Sein Name sagt nicht, wo es war.",
-  trashFull: "Der Papierkorb ist voll: 256 Elemente. Leeren Sie ihn, oder entfernen Sie dies endgültig.",
+  trashFull: "Der Papierkorb ist voll: 256 Elemente. Leeren Sie ihn vorher.",
   placeTaken: "Etwas anderes heißt jetzt {0}.", placeGone: "Den Ordner, in dem es war, {0}, gibt es nicht mehr.",
   isBack: "{0} {1|ist|sind} wieder da.", downloaded: "{0}: {1} in {2} Sekunden.", notInZip: "{0} ist nicht darin. {1}",
   zipMade: "{0}.zip ist gemacht, aus {1} {2|Element|Elementen}.", zipFull: "Das ist mehr, als ein zip fasst.",
   askTrash: "{0}: Ihre IT kann einen anlegen.", isShut: "{0} ist darin leer: Sie dürfen nicht hineinsehen.",
-  // uploads and large files
   tooLarge: "hat {0} MiB, höchstens {1} MiB sind möglich",
   cannotUpload: "{0} von {1} {0|lässt|lassen} sich nicht hochladen", nothingSent: "{0} Nichts wurde gesendet.",
   uploadShorter: "Unter {0|einem kürzeren|kürzeren} Namen hochladen", couldBe: "{0} Ein kürzerer Name ist {1}.",
   uploadOthers: "Die anderen {0} hochladen", andMore: "und {0} mehr.", thereAlready: "{0|Das ist|Diese sind} schon da",
   replaceAndKeep: "Ersetzen, alte Fassung in den Papierkorb", keepBoth: "Beide behalten",
-  topFull: "Der oberste Ordner ist voll: 256 Elemente. Machen Sie in einem anderen weiter.",
   tooMany: "Zu viele für einen Ordner", isFull: "{0} ist voll: 256 Elemente. Was Sie anlegen, kommt in {1}, daneben.",
   leaveOut: "Diese auslassen", wouldHave: "In {0} wären {1} Elemente; höchstens {2} sind möglich.",
   uploadFits: "Hochladen, was hineinpasst", restInto: "Den Rest in {0} legen", keptUnder: "aufbewahrt als {0}",
@@ -227,7 +209,6 @@ export const t = {
   otherStands: "Eine andere Fassung von {0} bleibt.", otherCame: "Inzwischen kam eine andere Fassung: sehen Sie nach.",
   ownListed: "mit eigenem Zugriff", noPart: "{0} ist trotz des Namens kein Teil einer Datei: sehen Sie nach.",
   mayDamage: "Jemand kann {0} vielleicht trotz der Liste beschädigen:", isLeft: "Vom Hochladen nach {0} blieb ein Rest",
-  // search
   search: "Suchen", resultsFor: "Ergebnisse für „{0}“", stopped: "Angehalten.", onlyIn: "Nur in {0}",
   found: "{0} {0|Ergebnis|Ergebnisse} unter {1} Namen.", shutIn: " In {0} dürfen Sie nicht hineinsehen.",
   firstShown: "Die ersten {0} sind zu sehen.", looking: "Wird gesucht: {0} von {1} bisher bekannten Ordnern …",

@@ -129,8 +129,8 @@ class Page:
 
     def remove(self, path, how=None):
         by_menu(self.browser, self.at(path), "Remove")
-        sign = "cannot be brought back" if how else "It goes to the trash"
-        return self.told([(sign, "Remove")], " is removed|is in the trash")
+        yes = [("cannot be brought back", "Remove")] if how else []
+        return self.told(yes, " is removed|is in the trash")
 
     def restore(self, name):
         self.see(cases.TRASH)

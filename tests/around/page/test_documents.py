@@ -2,12 +2,13 @@
 that by keyboard alone."""
 import pytest
 
-from .club import (ADD, BUTTONS, DIALOG, PLACE, TYPED, VIEW, append, appended, edit, make_document, make_new, of_user,
-                   remove)
+from .club import (ADD, ALL, BUTTONS, DIALOG, EDIT, PLACE, TYPED, VIEW, append, appended, edit, entry, make_document,
+                   make_new, of_user, remove)
 from .conftest import complaints
 
 MARKUP = "<img src=x onerror=\"window.ran=1\">&amp;'\"`"
 SCRIPT = f"<script>window.ran=1</script>{MARKUP}"
+PEN = "return document.querySelector('.things .pen').checkVisibility()"
 RAN = "return [window.ran ?? null, document.images.length]"
 
 
@@ -23,6 +24,48 @@ def test_new_folder_and_new_document(club, browser):
     browser.follow("may.txt")
     browser.sees("first", "pre")
     assert club.text("/plans/may.txt") == "first"
+
+
+def test_a_new_folder_is_private_by_one_tick(club, browser):
+    """From the start: nobody else sees anything of it."""
+    club.open()
+    make_new(browser, "New folder")
+    browser.fill("Name", "mine")
+    browser.act(f"{DIALOG}//label[normalize-space()='Who can see it: Only you']", "click")
+    browser.press("Create")
+    browser.sees("mine created.")
+    assert (club.holds({"cmd": "GETLIST", "path": "/mine"})["aclflag"], club.own("/mine")) == (2, [(0, 3, ALL, "ann")])
+
+
+def test_a_text_is_edited_from_its_row(club, browser):
+    """By two clicks, where one may write it."""
+    club.lay(("/plans/june.txt", b"before"))
+    club.lets("eve", "/plans", VIEW)
+    club.open("/plans")
+    browser.act("//main//button[@title='Edit june.txt']", "click")
+    browser.until("the text", lambda: browser.script(TYPED) == "before")
+    browser.fill("Text", "after")
+    browser.press("Save")
+    browser.sees("Saved.", "#notices")
+    assert club.text("/plans/june.txt") == "after"
+    club.log_in("eve")
+    club.open("/plans")
+    browser.until("who can see it", lambda: browser.text_of(".things .who a"))
+    assert not browser.script(PEN)
+
+
+def test_what_a_refused_save_has_is_downloaded(club, browser):
+    """It stays in the dialog, and has a way to the user's disk."""
+    club.lay(("/plans/june.txt", b"before"))
+    club.lets("eve", "/plans", EDIT)
+    club.log_in("eve")
+    club.open("/plans/june.txt")
+    edit(browser, "mine")
+    club.sets("/plans", entry("eve", VIEW))
+    browser.press("Save")
+    browser.sees("You may not replace its text", "dialog .fault")
+    browser.press("Download", DIALOG)
+    assert club.saved("june.txt") == b"mine"
 
 
 @pytest.mark.parametrize("before, after", [

@@ -147,7 +147,8 @@ def test_keys_move_in_the_list(browser, frame):
     """Arrows, Home, End and letters."""
     browser.keys(*TO_ROW)
     for keys, at in (["down"], "cellar"), (["end"], "notes.txt"), (["home"], "attic"), (["l"], "letter.docx"), \
-            (["up"], "bill.pdf"), (["li"], "list.xlsx"), (["right"], "eng"), (["right"], "More for list.xlsx"):
+            (["up"], "bill.pdf"), (["li"], "list.xlsx"), (["right", "right"], "eng"), \
+            (["right"], "More for list.xlsx"):
         browser.keys(*keys)
         assert (keys, browser.script(FOCUS)) == (keys, at)
         browser.script("return new Promise((go) => setTimeout(go, 750))")  # (letters begin anew)
@@ -284,6 +285,14 @@ def test_menu_on_a_phone(club, browser, frame):
     browser.press("More for attic")
     offers(browser)
     assert browser.script(BOX) == [0, 740]
+
+
+def test_a_phone_is_told_of_no_drops(club, browser, frame):
+    """Which a mouse makes."""
+    drops = "Files can be dropped anywhere on this page."
+    browser.sees(drops, "main")
+    browser.size(360, 740)
+    assert drops not in browser.text_of("main .about")
 
 
 def test_menu_of_the_ground(club, browser, frame):

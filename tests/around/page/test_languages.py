@@ -88,7 +88,6 @@ def test_german_words_have_room(club, browser):
     assert browser.script(SMALL) == []
     browser.press("Mehr zu a.txt")
     browser.press("Entfernen", MENU)
-    browser.press("Entfernen", DIALOG)
     browser.sees("ist im Papierkorb.", "#notices")
     browser.press("Orte")
     browser.act("//*[@id='rail']//a[.='Papierkorb']", "click")

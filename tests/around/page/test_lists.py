@@ -47,7 +47,7 @@ def test_a_list_of_its_own(club, browser):
     browser.sees("Handed down from the folder above")
     browser.sees("Without the tick, what is handed down now stays, as entries of its own", "main")
     browser.act(TAKES_OVER, "click")
-    browser.sees("What was handed down stands among its own entries now", "main")
+    browser.sees("What the folder above hands down does not count.", "main")
     browser.act(TAKES_OVER, "click")
     browser.sees("Nothing is in it.", "main")
     browser.act(TAKES_OVER, "click")

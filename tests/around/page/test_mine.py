@@ -1,7 +1,7 @@
 """What the browser keeps of a user's places: favourites, the latest ones, and none of another login's."""
 import pytest
 
-from .club import DIALOG, TEXTS, by_menu, by_rail, rename
+from .club import DIALOG, TEXTS, by_menu, by_rail, rename, to_folder
 
 KEPT = "return Object.keys(localStorage).filter((it) => /^fileroom.(mine|recent)/.test(it))"
 
@@ -38,6 +38,17 @@ def test_favourite_is_at_hand(club, browser, plans):
     browser.until("nothing is there", lambda: in_rail(browser, "Favourites") == [])
 
 
+def test_favourite_by_one_press_in_its_row(club, browser, plans):
+    """Whose star tells whether it is one, also where that was chosen in the menu."""
+    star = "return document.querySelector('.things .star').className"
+    club.open("/plans")
+    browser.act("//main//button[@title='Add to favourites: 2026']", "click")
+    browser.until("it is in the rail", lambda: in_rail(browser, "Favourites") == ["2026"])
+    assert browser.script(star) == "star on"
+    by_menu(browser, "2026", "Remove from favourites")
+    browser.until("it is none", lambda: browser.script(star) == "star")
+
+
 def test_latest_places_are_at_hand(club, browser, plans):
     """The last one first; not where one is, and not what is not there. As goals of a move, folders alone."""
     for path in "/plans", "/plans/notes.txt", "/minutes", "/nowhere":
@@ -48,6 +59,17 @@ def test_latest_places_are_at_hand(club, browser, plans):
     by_menu(browser, "2026", "Move")
     browser.until("the tree", lambda: browser.find(f"{DIALOG}//*[@role='tree']"))
     assert browser.script(TEXTS, "dialog .chooser p button.small") == ["minutes", "New folder"]
+
+
+def test_the_top_is_no_latest_place(club, browser, plans):
+    """Also where something was moved to it: the room stands above."""
+    club.open("/plans")
+    by_menu(browser, "2026", "Move")
+    to_folder(browser, "club")
+    browser.press("Move", DIALOG)
+    browser.sees("/plans/2026 is now /2026.", "#notices")
+    club.open("/minutes")
+    browser.until("the one before", lambda: in_rail(browser, "Opened last") == ["plans"])
 
 
 def test_next_login_finds_nothing_of_the_one_before(club, browser, plans):

@@ -109,7 +109,6 @@ def test_several_go_where_something_went_lately(club, browser, both):
 def test_several_are_removed_and_back(club, browser, both):
     club.make_trash()
     browser.keys("delete")
-    browser.press("Remove", DIALOG)
     browser.sees("2 items are in the trash.", "#notices")
     assert (len(club.names(TOP)), len(club.names("/trash/ann"))) == (4, 2)
     browser.press("Undo")

@@ -329,6 +329,17 @@ def test_share_shows_names_as_people_write_them(club, browser, passed, tells):
     heads = browser.script("return [...document.querySelectorAll('.matrix thead th')].map((it) => "
                            "[it.textContent, it.title])")
     assert heads[1:3] == [["Ann <b>Lee", "Ann <b>Lee (ann)"], ["Bob Ray", "Bob Ray (bob)"]]
+    browser.act("//main//table//tbody/tr[1]/td[2]/button", "click")
+    browser.sees("The list of /board/plans lets Bob Ray (bob) see what is in it", ".detail")
+
+
+def test_share_is_one_click_and_a_name_away(club, browser, passed):
+    """Who comes there from a list types at once."""
+    club.open(PATH)
+    browser.act("//main//p[contains(@class, 'tools')]/a", "click")
+    browser.until("Share", lambda: browser.script("return document.activeElement.role") == "combobox")
+    browser.keys("bob", "enter")
+    browser.until("it is shared", lambda: (0, 3, VIEW, "bob") in club.own(PATH))
 
 
 def test_who_has_the_name_of_another_is_told_apart(club, browser, tells):

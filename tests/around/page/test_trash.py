@@ -5,7 +5,7 @@ from urllib.parse import quote
 import pytest
 from room_client import trash
 
-from .club import (ALL, DIALOG, MENU, TEXTS, TYPED, USERS, by_menu, by_rail, entry, of_folder, offers, remove, row,
+from .club import (ALL, DIALOG, MENU, TEXTS, TYPED, USERS, by_menu, by_rail, entry, of_folder, offers, row,
                    to_folder)
 
 OLD, (TRASH, *_) = "/trash/ann", trash.places_of("ann")  # (the first is that of rooms of before)
@@ -49,8 +49,6 @@ def test_remove_to_the_trash_and_put_back(club, browser, thrown):
     club.make_trash()
     club.open("/other")
     by_menu(browser, "t", "Remove")
-    browser.sees("It goes to the trash, /trash/ann, and can be restored from there.", "dialog")
-    browser.press("Remove", DIALOG)
     browser.sees("/other/t is in the trash.", "#notices")
     name, = club.names(OLD)
     assert re.fullmatch(r"t~other~[0-9]{14}", name)
@@ -82,8 +80,6 @@ def test_trash_is_emptied(club, browser, thrown, trashes):
     """It asks first, and once."""
     club.open("/other/thrown.txt")
     browser.press("Remove", "//main")
-    browser.sees(f"It goes to the trash, {TRASH},", "dialog")
-    browser.press("Remove", DIALOG)
     browser.sees("/other/thrown.txt is in the trash.", "#notices")
     club.lay(f"{TRASH}/more.txt~other~{STAMP}")
     club.open()
@@ -106,7 +102,6 @@ def test_trash_is_at_hand_everywhere(club, browser, thrown, trashes):
     """And what is in it comes back by one press."""
     club.open("/other/t")
     of_folder(browser, "Remove")
-    browser.press("Remove", DIALOG)
     browser.sees("/other/t is in the trash.", "#notices")
     by_rail(browser, "Trash")
     browser.press("Restore t", "//main")
@@ -187,9 +182,10 @@ def test_trash_that_is_full(club, browser, thrown, trashes):
     """It is said what to do, and nothing is lost."""
     club.lay(*(f"{TRASH}/{count}" for count in range(256)))
     club.open("/other/thrown.txt")
-    remove(browser)
-    browser.sees("The trash is full: it has 256 items. Empty it, or remove this for good.", "dialog")
+    browser.press("Remove", "//main")
+    browser.sees("The trash is full: it has 256 items. Empty it first.", "#notices")
     assert "thrown.txt" in club.names("/other")
-    browser.act(f"{DIALOG}//label[contains(., 'for good')]", "click")
-    browser.press("Remove", DIALOG)
-    browser.sees("/other/thrown.txt is removed.", "#notices")
+    club.does({"cmd": "REMOVE", "path": f"{TRASH}/7"})
+    browser.press("Remove", "//main")
+    browser.sees("/other/thrown.txt is in the trash.", "#notices")
+    assert club.names("/other") == ["t"]

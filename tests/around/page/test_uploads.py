@@ -181,7 +181,7 @@ def test_upload_that_is_stopped(club, browser, big):
     browser.go("about:blank")
     club.lossy.lose("")
     club.open("/big")
-    browser.sees("of /big/stopped was under way as the page ended, and is not whole", "#notices")
+    browser.sees("/big/stopped was not wholly uploaded, copied or removed as the page ended", "#notices")
     browser.until("it is shown", lambda: "unfinished upload" in row(browser, "stopped"))
     browser.follow("stopped")
     browser.sees("was stopped, or is under way", "main")

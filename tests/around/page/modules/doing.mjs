@@ -48,9 +48,7 @@ const refused = (task, words) => assert.rejects(task, (fault) => assert.equal(fa
 test("what is removed goes to the trash, and back by one press", async () => {
   const [shelf, its] = [trashed(), ["/d/a.txt"]];
   const app = appOver(shelf);
-  const done = remove(app, its);
-  await press(t.remove);
-  await done;
+  await remove(app, its); // (and nothing is asked)
   const [name] = shelf.names(TRASH);
   assert.match(name, /^a\.txt~d~\d{14}$/);
   assert.deepEqual([shelf.names("/d"), toldBy(`${TRASH}/${name}`).place], [[], "/d/a.txt"]);

@@ -5,7 +5,7 @@ import { test } from "node:test";
 import { buttonOf, happens, kept, page, shown } from "./browser.mjs";
 
 const { t } = await page("words");
-const { ask, closeAll, input, isUnsaved } = await page("dialogs");
+const { area, ask, closeAll, input, isUnsaved } = await page("dialogs");
 const { openMenu } = await page("dialogs");
 const notices = await page("notices");
 const { GaveUp, begin } = await page("busy");
@@ -139,12 +139,12 @@ test("who waits is told from the second time on, and may give up; a login is wai
 });
 
 test("what is typed is not lost by a key, nor with the page", async () => {
-  const [field, leaves] = [input("a"), () => {
+  const [field, leaves] = [area("a"), () => {
     let isAsked = false;
     happens("beforeunload", { preventDefault: () => { isAsked = true; } });
     return isAsked;
   }];
-  const asked = ask({ title: "it", does: "Do", fields: [["Name", field]] });
+  const asked = ask({ title: "it", does: "Do", fields: [["Text", field]] });
   const [dialog] = shown("dialog");
   assert.deepEqual([isUnsaved(), leaves()], [false, false]);
   field.value = "b";
@@ -153,6 +153,14 @@ test("what is typed is not lost by a key, nor with the page", async () => {
   assert.equal(shown("dialog").length, 1);
   buttonOf(t.discard).click();
   assert.deepEqual([await asked, shown("dialog").length, isUnsaved()], [null, 0, false]);
+});
+
+test("a name that is typed goes with Escape, and nothing is asked", async () => {
+  const field = input("a");
+  const asked = ask({ title: "it", does: "Do", fields: [["Name", field]] });
+  field.value = "b";
+  shown("dialog")[0].onkeydown(key("Escape"));
+  assert.deepEqual([await asked, shown("dialog").length], [null, 0]);
 });
 
 test("a dialog stays until its task is done, and does it once", async () => {
