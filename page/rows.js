@@ -49,7 +49,7 @@ export class Row {
       ...Object.fromEntries(["who", "when", "kind", "size"].map((it) => [it, make(`td.${it}`)])) };
     const below = [beforeWords(path), things.isFound && make("span.place", nameText(above))].filter(Boolean);
     this.element = make("tr", { "aria-selected": "false" }, make("td.tick", this.tick),
-      make("th", { scope: "row" }, make("div", this.picture,
+      make("th", { scope: "row", ariaLabel: words }, make("div", this.picture,
         below.length ? make("div", this.link, make("div.about", below)) : this.link,
         make("span.quick", this.pen, this.star))),
       things.columns.slice(1).map((it) => this.cells[it]), make("td.own", this.back, this.more));

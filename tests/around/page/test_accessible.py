@@ -138,9 +138,12 @@ def test_what_is_too_pale_is_found(club, browser, text):
 
 
 def test_a_screen_reader_is_told(club, browser, text):
-    """The table is a grid whose heads tell the order; what was done is told aloud; the page has a language."""
+    """The table is a grid whose heads tell the order, and a row its name alone; what was done is told aloud; the page
+    has a language."""
     club.open(TOP)
     assert {"grid", "columnheader", "rowheader", "gridcell"} <= {*nameless(browser)[1]}
+    nodes = browser.devtools("Accessibility.getFullAXTree")["nodes"]
+    assert [it["name"]["value"] for it in nodes if it["role"]["value"] == "rowheader"] == ["a.txt"]
     assert browser.script("return document.querySelectorAll('.things th[aria-sort=ascending]').length") == 1
     live = "return ['notices', 'busy-text'].map((it) => document.getElementById(it).role)"
     assert browser.script(live) == ["status", "status"]
