@@ -74,7 +74,7 @@ class App {
   }
 
   async come() {
-    if (!part("main")) return; // (logged out)
+    if (!part("main")) return;
     if (isUnsaved() && location.hash !== this.here && !this.isLosing) return this.askToLeave();
     this.isLosing = false;
     closeAll();

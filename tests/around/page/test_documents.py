@@ -188,7 +188,7 @@ def test_a_refused_dialog(club, browser):
     browser.keys(" 2")
     assert browser.script(TYPED) == "june.txt 2"
     browser.keys("escape")
-    browser.sees("What you typed is not saved.", "dialog")
+    browser.until("its end", lambda: not browser.script("return document.querySelector('dialog[open]') !== null"))
 
 
 def test_a_name_is_marked_but_for_its_ending(club, browser):

@@ -49,6 +49,13 @@ def test_favourite_by_one_press_in_its_row(club, browser, plans):
     browser.until("it is none", lambda: browser.script(star) == "star")
 
 
+def test_favourite_of_who_touches_has_its_star_in_sight(club, browser, plans):
+    """Nobody hits what they do not see: it is shown by the mouse alone where there is one (and here is none)."""
+    club.open("/plans")
+    assert browser.script("return [matchMedia('(hover)').matches, getComputedStyle(document.querySelector('.star'))"
+                          ".opacity]") == [False, "1"]
+
+
 def test_latest_places_are_at_hand(club, browser, plans):
     """The last one first; not where one is, and not what is not there. As goals of a move, folders alone."""
     for path in "/plans", "/plans/notes.txt", "/minutes", "/nowhere":
