@@ -159,6 +159,8 @@ def test_print(club, browser):
     assert [browser.script(shown, it) for it in ("h1, .about, pre", "button, select, .views a")] == [3, 0]
     club.open("/lost.txt", "who")
     assert browser.script("return getComputedStyle(document.querySelector('.matrix')).printColorAdjust") == "exact"
+    club.open()
+    assert [browser.script(shown, it) for it in (".things a.name", ".things button:not(thead *)")] == [1, 0]
 
 
 # In its dialogs
