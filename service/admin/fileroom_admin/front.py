@@ -23,10 +23,17 @@ def room_names(places):
 
 def address(places):
     """Where people find it, in a line; or nothing, where there is no room."""
-    if " ssl" in read(places.at(LISTEN), ""):
-        cert = places.front("tls/cert.pem")
-        return f"front  {' '.join(f'https://{it}/' for it in names_of(cert))}  until {end_of(cert)}"
+    listens = read(places.at(LISTEN), "")
+    if " ssl" in listens:
+        cert, port = places.front("tls/cert.pem"), other_port(listens)
+        return f"front  {' '.join(f'https://{it}{port}/' for it in names_of(cert))}  until {end_of(cert)}"
     return "front  http://127.0.0.1:8080/  for this machine alone" if places.rooms() else ""
+
+
+def other_port(listens):
+    """Than that of https, as it stands in an address."""
+    port = re.search(r"(?m)^ *listen +(?:\S+:)?(\d+) ", listens)
+    return f":{port[1]}" if port and port[1] != "443" else ""
 
 
 def put_room(change, room):

@@ -174,6 +174,16 @@ def test_a_certificate(machine, certificates):
         "front  https://room.example/ https://www.room.example/ https://127.0.0.1/ https://[2001:db8::1]/")
 
 
+@pytest.mark.parametrize("other", ["listen 8443 ssl", "listen 192.168.1.5:8443 ssl"])
+def test_another_port_is_told(machine, certificates, other):
+    """As RUNNING has it written."""
+    assert machine.does("tls", certificates["CERT"], certificates["KEY"])[0] == 0
+    listen = "etc/nginx/fileroom/listen.conf"
+    machine.write(listen, text_of(machine.at(listen)).replace("listen 443 ssl", other))
+    front = machine.does("room", "list")[1].splitlines()[-1]
+    assert front.startswith("front  https://room.example:8443/ ") and " https://[2001:db8::1]:8443/ " in front
+
+
 def test_a_key_in_the_certificates_file(machine, certificates, folder):
     """It does not come into the file that every user of the machine may read."""
     both = os.path.join(folder, "both.pem")
