@@ -4,13 +4,12 @@ import os
 import time
 
 from given import each
-from served import WAIT
 
 from .desk import asks
 from .saves import Saves
 
-HOW = {"kind": Saves, "patience": WAIT}
-SOON = WAIT / 2  # seconds: the gateway waits longer for the room
+HOW = {"kind": Saves, "patience": 60}
+SOON = 40  # seconds: the gateway waits longer for the room
 
 
 def put_as_held(desk, name, data, is_it):

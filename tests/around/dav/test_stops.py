@@ -6,13 +6,12 @@ import re
 import time
 
 import pytest
-from served import WAIT
 
 from .desk import asks, makes_changes, stop
 from .saves import LARGE, SMALL, TRASH, Saves
 
-HOW = {"kind": Saves, "patience": WAIT}
-SOON = WAIT / 2  # seconds: the gateway waits longer for the room
+HOW = {"kind": Saves, "patience": 60}
+SOON = 40  # seconds: the gateway waits longer for the room
 
 
 class Stop:

@@ -141,11 +141,13 @@ def waiting(service, *logins):
     threads = [threading.Thread(target=lambda its=its: got.append(service.ask(*its))) for its in logins]
     for it in threads:
         it.start()
-    assert until(lambda: all(map(waits_or_ended, threads)))
-    yield got
-    service.directory.may.set()
-    for it in threads:
-        it.join(WAIT)
+    try:
+        assert until(lambda: all(map(waits_or_ended, threads)))
+        yield got
+    finally:
+        service.directory.may.set()
+        for it in threads:
+            it.join(WAIT)
 
 
 def test_many_at_once(service):

@@ -199,7 +199,7 @@ def test_the_last_of_many_addresses(serve, named, asks, monkeypatch):
 def test_many_servers(deaf, asks, monkeypatch):
     monkeypatch.setattr(directory, "IN_ALL", PATIENCE)
     urls = [f"ldaps://127.0.0.1:{deaf('127.0.0.1')}" for _ in range(6)]
-    is_down(*asks(*urls), False, PATIENCE)
+    is_down(*asks(*urls, seconds=4 * WAIT), False, PATIENCE)
 
 
 @each("answer", [
