@@ -90,13 +90,14 @@ def backups_are_tried():
 
 def watched(told):
     """The timer's look at the room club finds it so, and the numbers say so: the fault, or nothing."""
+    before = which_look()
     until(lambda: state("fileroom-watch") != "activating", "the look before ends")
     with drop_ins({"fileroom-watch.timer": SOON_BY_TIMER}):
-        before = which_look()
         must("systemctl", "restart", "fileroom-watch.timer")
         until(lambda: which_look() != before, "the timer has the watch look")
-        until(lambda: state("fileroom-watch") != "activating", "it ends")
-    tally.differs("what the watch found", looked(), told)
+        its = which_look()
+        until(lambda: which_look() != its or state("fileroom-watch") != "activating", "it ends")
+    tally.differs("what the watch found", told_by(its), told)
     must("systemctl", "restart", "fileroom-watch.timer")
     numbers, found = (said("fileroom-admin", "check", *it)[1] for it in (["--prometheus"], []))
     tally.differs(f"fileroom_up: {told}", f'fileroom_up{{room="club"}} {int(not told)}' in numbers.splitlines(), True)
@@ -107,10 +108,10 @@ def which_look():
     return must("systemctl", "show", "--value", "--property=InvocationID", "fileroom-watch")
 
 
-def looked():
-    """What the last look said of the room club in the journal."""
+def told_by(look):
+    """What it said of the room club in the journal."""
     must("journalctl", "--sync")
-    told = must("journalctl", "--no-pager", "--output=cat", f"_SYSTEMD_INVOCATION_ID={which_look()}")
+    told = must("journalctl", "--no-pager", "--output=cat", f"_SYSTEMD_INVOCATION_ID={look}")
     return "".join(it for it in told.splitlines() if it.startswith("club "))
 
 

@@ -125,6 +125,7 @@ def monitor_is_told():
     with drop_ins({"fileroom-metrics.timer": SOON_BY_TIMER}):
         must("systemctl", "enable", "--now", "fileroom-metrics.timer")
         until(lambda: os.path.exists(numbers), "the timer has them written", 4 * SOON)  # (its unit gives way)
+        until(lambda: state("fileroom-metrics") != "activating", "its unit ends")
     must("systemctl", "disable", "--now", "fileroom-metrics.timer")
     told, by_hand = text_of(numbers), must("fileroom-admin", "check", "--prometheus")
     tally.differs("what root has by hand", samples(told), samples(by_hand))
@@ -139,8 +140,8 @@ def monitor_is_told():
 
 
 def samples(told):
-    """The names of its numbers, and how many things `check` finds."""
-    return [it.rpartition(" ")[0] for it in told.splitlines()], found(told)
+    """The names of its numbers, and how many things `check` finds. (What was answered is of the last ten minutes.)"""
+    return [it.rpartition(" ")[0] for it in told.splitlines() if "fileroom_answer" not in it], found(told)
 
 
 def found(told):

@@ -36,21 +36,26 @@ def must(*words):
     return told
 
 
-@contextlib.contextmanager
-def drop_ins(texts):
-    """While it lasts units have these lines too. (A timer has ended before: by a reload it would begin at once.)"""
-    timers = [it for it in texts if it.endswith(".timer")]
+def reload(units):
+    """(A timer ends before, which by a reload would fire at once.)"""
+    timers = [it for it in units if it.endswith(".timer")]
     if timers:
         must("systemctl", "stop", *timers)
+    must("systemctl", "daemon-reload")
+
+
+@contextlib.contextmanager
+def drop_ins(texts):
+    """While it lasts units have these lines too."""
     for unit, text in texts.items():
         os.makedirs(f"/etc/systemd/system/{unit}.d")
         write(f"/etc/systemd/system/{unit}.d/scene.conf", text)
-    must("systemctl", "daemon-reload")
+    reload(texts)
     yield
     for unit in texts:
         os.remove(f"/etc/systemd/system/{unit}.d/scene.conf")
         os.rmdir(f"/etc/systemd/system/{unit}.d")
-    must("systemctl", "daemon-reload")
+    reload(texts)
 
 
 def until(task, what, most=SOON):
