@@ -2,17 +2,23 @@
 import base64
 import contextlib
 import fcntl
+import os
+import shlex
 import sqlite3
+import subprocess
+import sys
 
 import pytest
+from served import text_of
 
-from .contents import large
+from .contents import SERVICE, large
 from .machines import Served
 
 ALL = {"type": 0, "flag": 3, "mask": 0x1F07FF}
 FOR_ALL = [ALL | {"who": "OWNER@"}, ALL | {"who": "EVERYONE@"}]
 WORDS = "room", "copy", "plans", "/w", "club", "/new"
 ACCESS = 5
+TOP = os.path.join(SERVICE, "..")
 
 
 @pytest.fixture
@@ -105,6 +111,19 @@ def test_others_change_something_meanwhile(made, club):
     club.meanwhile = takes_the_lock
     assert made.does(*WORDS)[0] == 0
     assert len(taken) > 10
+
+
+def test_the_lines_of_running_let_the_others_in(made, club):
+    """Where so far nobody passes the room's top but its owner."""
+    assert club.holds("ann", "SETLIST", "/", aclflag=0, entries=FOR_ALL[:1])["code"] == 0
+    assert made.does("group", "add", "club", "club", "bob")[0] == 0
+    assert made.does("room", "copy", "plans", "/w", "club", "/club")[0] == 0
+    lines = [it for it in text_of(f"{TOP}/docs/RUNNING.md").splitlines() if it.startswith("    room acl /")]
+    asks = ["--url", f"http://127.0.0.1:{club.room.port}", "--room-user", "ann", "--state", made.at("../state")]
+    for it in (shlex.split(line)[1:] for line in lines if "group:club" in line):
+        done = subprocess.run([sys.executable, "-B", f"{TOP}/client/room", *asks, *it], env=made.env, timeout=300)
+        assert done.returncode == 0
+    assert club.holds("bob", "READ", "/club/doc")["code"] == 0
 
 
 def test_of_a_whole_room_the_trashes_stay_behind(made, club):
