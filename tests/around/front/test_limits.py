@@ -138,19 +138,38 @@ def test_long_ones_under_way(front, peer, form, count):
         it.close()
 
 
+def seconds_of(front, peer, form, pause):
+    """Until an answer is there that the room gave after a while."""
+    peer.may.clear()
+    before, line = len(peer.came), begun(front, "u01", body=form)
+    assert until(lambda: len(peer.came) > before, SOON)
+    time.sleep(pause)
+    begin = time.monotonic()
+    peer.may.set()
+    got = line.answer()
+    assert (got.status, values(got, ["room-much"])) == (200, {"room-much": []})
+    return time.monotonic() - begin
+
+
 @each("form, is_held", [("SETLIST", FORMS[0], True), ("RENAME in its folder", SHORT[0], False)])
 def test_the_answer_to_a_long_one_is_held_back(front, peer, form, is_held):
     """Where it took long."""
+    assert (least(lambda: seconds_of(front, peer, form, 1), 3, 1 if is_held else 9) > 3) == is_held
+
+
+@each("form, much, is_held", [
+    ("SETLIST of who had many", FORMS[0], b"room-much: 1\r\n", True), ("SETLIST of who had few", FORMS[0], b"", False),
+    ("RENAME in its folder", SHORT[0], b"room-much: 1\r\n", False)])
+def test_the_answer_to_one_that_took_less(front, peer, form, much, is_held):
+    """It is held back for a second where its login had many of late, as haproxy tells."""
+    peer.said = peer.said.replace(b"\r\n", b"\r\n" + much, 1)
+
     def seconds():
-        peer.may.clear()
-        before, line = len(peer.came), begun(front, "u01", body=form)
-        assert until(lambda: len(peer.came) > before, SOON)
-        time.sleep(1)
-        begin = time.monotonic()
-        peer.may.set()
-        assert line.answer().status == 200
-        return time.monotonic() - begin
-    assert (least(seconds, 3, 1 if is_held else 9) > 3) == is_held
+        assert until(lambda: 0.1 < time.time() % 1 < 0.4)  # (nginx counts whole ones)
+        return seconds_of(front, peer, form, 0.03)
+    found = least(seconds, 0.9, 4 if is_held else 9)
+    assert (0.9 < found < 5) if is_held else (found < 0.9)
+    assert ("room-long: u01" in peer.got[-1][0]) == (form == FORMS[0])
 
 
 def all_by_the_gateway(front, user, count):

@@ -16,7 +16,7 @@ class Asked:
     """A room that answers one request after another, once it may. `heard` has each one's target and body."""
 
     def __init__(self):
-        self.heard, self.may_answer, self.answer, self.pause = [], threading.Event(), ANSWER, 0
+        self.heard, self.heads, self.may_answer, self.answer, self.pause = [], [], threading.Event(), ANSWER, 0
         self.begin(free_port())  # (which nobody else has while it is down)
 
     def begin(self, port):
@@ -34,6 +34,7 @@ class Asked:
     def hear(self, line, file):
         head = [*iter(file.readline, b"\r\n")]
         length, = (int(it.split(b":")[1]) for it in head if it.lower().startswith(b"content-length:"))
+        self.heads += head
         self.heard.append((head[0].split(b" ")[1], file.read(length)))
         self.may_answer.wait()
         threading.Event().wait(self.pause)
@@ -63,12 +64,13 @@ def path(turns, tmp_path):
     return str(tmp_path / "room.sock")
 
 
-def sends(path, user, target, body=b""):
+def sends(path, user, target, body=b"", more=b""):
     line = socket.socket(socket.AF_UNIX)
     line.settimeout(WAIT)
     line.connect(path)
-    head = b"POST %b HTTP/1.1\r\nhost: localhost\r\nconnection: close\r\ncontent-length: %d\r\nroom-user: %b\r\n\r\n"
-    line.sendall(head % (target, len(body), user) + body)
+    head = (b"POST %b HTTP/1.1\r\nhost: localhost\r\nconnection: close\r\ncontent-length: %d\r\nroom-user: %b\r\n"
+            b"%b\r\n")
+    line.sendall(head % (target, len(body), user, more) + body)
     return line
 
 
@@ -183,6 +185,26 @@ def test_of_many_at_once_each_is_answered(path, room, turns):
     assert until(takes_no_more)
     room.may_answer.set()
     assert [answered(it) for it in lines] == [ANSWER] * 600
+
+
+def has_much(path, user, is_long=True):
+    """Whether the front is told that this login's lists and moves took much of the room's time, by such an answer."""
+    got = answered(sends(path, user, b"/", more=b"room-long: %b\r\n" % user if is_long else b""))
+    return b"room-much: 1\r\n" in got
+
+
+@pytest.mark.parametrize("pause, most", [(0.011, 1000), (0.042, 100)])
+def test_who_has_a_room_do_what_takes_long(path, room, pause, most):
+    """So often in ten seconds, and sooner if it took longer. (On a busy machine all does.) Nothing is told of others,
+    nor with an answer to what is not of that kind, and nothing to the room."""
+    room.may_answer.set()
+    room.pause = pause
+    assert not any(has_much(path, b"cat", False) for _ in range(30))
+    asked = len(room.heard)
+    assert until(lambda: has_much(path, b"ann"), pause=0)
+    assert 25 < len(room.heard) - asked <= most
+    assert [has_much(path, b"ann", False), has_much(path, b"bob")] == [False, False]
+    assert b"room-long" not in b"".join(room.heads)
 
 
 def test_who_does_not_wait_is_not_asked_for(path, room, turns):
