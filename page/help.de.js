@@ -1,10 +1,10 @@
 /** The help in German (dialogs.js). */
 export const help = `
 # Ordner und Dokumente
-Wählen Sie einen Namen, um ihn zu öffnen; der Knopf ⋯ einer Zeile zeigt, was Sie damit tun dürfen.
+Ein Klick auf den Namen öffnet es; der Knopf ⋯ einer Zeile zeigt, was Sie damit tun dürfen.
 **Text hinzufügen** setzt am Ende eines Dokuments Zeilen an, auch wo es jemand anderes gleichzeitig tut. **Bearbeiten**
   ersetzt alles und zeigt beide Texte, wenn es jemand inzwischen geändert hat. **Neue Fassung hochladen** ersetzt es
-  durch eine Datei und behält auf Wunsch die alte daneben: von selbst bewahrt der Raum keine alten Fassungen auf.
+  durch eine Datei und behält auf Wunsch die alte daneben: sonst bleibt keine alte Fassung.
 Was Sie anlegen, auch eine Kopie, gehört Ihnen. **Entfernen** legt Dinge in Ihren Papierkorb, wo Sie einen haben: der
   Weg dorthin steht neben der Liste (in einem schmalen Fenster hinter ☰). Ein neues Passwort gibt Ihre IT.
 Tasten: **Strg /** führt zur Suche, **Alt ↑** zum Ordner darüber, **Strg Z** macht rückgängig; in der Liste sucht **/**,

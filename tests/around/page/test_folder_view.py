@@ -31,6 +31,17 @@ def test_the_first_row_is_near_the_top(club, browser, frame, width, height, most
     assert browser.script(WIDTH) == width
 
 
+def test_the_way_above_has_room_on_a_phone(club, browser):
+    """Where the name is long too, no folder's lies over another's."""
+    path = "/Team/Annual general meeting 2026/Invitation and agenda.txt"
+    club.lay(path)
+    browser.size(390, 844)
+    club.open(path)
+    boxes = browser.script("return [...document.querySelectorAll('.way a')].map((it) => it.getBoundingClientRect())"
+                           ".map((it) => [it.left, it.right])")
+    assert [one[1] < other[0] for one, other in zip(boxes, boxes[1:])] == [True, True]
+
+
 def test_the_first_row_is_four_tabs_away(browser, frame):
     """And a button skips to it."""
     browser.sees("notes.txt", ".things")
