@@ -2,7 +2,7 @@
  * words with the remedy (docs/CODES.md). */
 import { faultLine, letterLink } from "./dom.js";
 import { ALL, FILE, FOLDER, PASS_THROUGH, READ, rightsIn } from "./lists.js";
-import { ROOT, addressOf, calledIn, displayName, folderOf, personText, shown } from "./names.js";
+import { addressOf, calledIn, displayName, foldersAbove, personText, shown } from "./names.js";
 import { toldAt, untilAnswered } from "./wire.js";
 import { t } from "./words.js";
 
@@ -96,7 +96,8 @@ export class Room {
     if (reply.code !== ACCESS) return new Refusal(reply, command);
     const ask = async (it) => (await this.look("STAT", it).catch(() => null))?.owner;
     const [{ path }, owner] = [reply, await ask(reply.path)];
-    const above = owner || path === ROOT ? null : await ask(folderOf(path));
+    let above = null;
+    for (const it of owner ? [] : foldersAbove(path).toReversed()) above ??= await ask(it);
     return new Refusal(reply, command, { room: this.name, user: this.user, owner, above });
   }
 

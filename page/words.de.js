@@ -47,7 +47,7 @@ export const t = {
   noAccess: "Sie haben keinen Zugriff auf {0}.", lacksRight: "Sie dürfen nicht: {1} ({0}).",
   isYours: "Es gehört Ihnen: Sie können ändern, wer Zugriff hat.", askOwner: "Bitten Sie {0} darum.",
   askFor: "An {0} schreiben", accessTo: "Zugriff auf {0}", pleaseLet: "Bitte geben Sie mir hierauf Zugriff:",
-  askAbove: "Bitten Sie den Eigentümer, oder {0}, dem der Ordner darüber gehört.",
+  askAbove: "Bitten Sie den Eigentümer, oder {0}, dem ein Ordner darüber gehört.",
   askAnyOwner: "Bitten Sie den Eigentümer darum.", byLink: "Was darin für Sie freigegeben ist, öffnet dessen Link.",
   memoryEnds: "Dieser Raum passt {0} lang in den Speicher seiner Maschine, und startet danach nicht mehr. Bitten " +
     "Sie Ihre IT um Platz.", someDays: "noch etwa {0} {0|Tag|Tage}", untilTomorrow: "Bis morgen ausblenden",

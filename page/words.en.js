@@ -47,7 +47,7 @@ export const t = {
   refused: "The room refuses this ({0} {1}). Ask who runs the room.", noAccess: "You don't have access to {0}.",
   lacksRight: "You may not {1} ({0}).", isYours: "It is yours: you can change who has access.", askOwner: "Ask {0}.",
   askFor: "Write to {0}", accessTo: "Access to {0}", pleaseLet: "Please give me access to this:",
-  askAbove: "Ask its owner, or {0}, who owns the folder above.", askAnyOwner: "Ask its owner.",
+  askAbove: "Ask its owner, or {0}, who owns a folder above.", askAnyOwner: "Ask its owner.",
   byLink: "What is shared with you in it opens by its link.",
   // warnings
   memoryEnds: "This room fits into the memory of its machine for {0}, and will not start again then. Ask your " +

@@ -115,7 +115,7 @@ def test_fault_of_a_zip_tells_what_it_lacks(club, browser, closed):
     browser.sees("told.zip is made, of 10 of 11 items.", "#notices")
     assert told(browser) == sorted([
         f"{TOP}/closed is empty in it: you may not look into it.",
-        f"{TOP}/{SHUT[0]} is not in it. You don't have access to {TOP}/{SHUT[0]}. Ask its owner, or ann, who owns the "
+        f"{TOP}/{SHUT[0]} is not in it. You don't have access to {TOP}/{SHUT[0]}. Ask its owner, or ann, who owns a "
         "folder above."])
     with zipfile.ZipFile(io.BytesIO(club.saved("told.zip"))) as file:
         assert sorted(file.namelist()) == sorted(["told/closed/", *(f"told/{it}" for it in NAMES if it != SHUT[0])])
@@ -160,12 +160,25 @@ def test_fault_of_a_closed_door_says_whom_to_ask(club, browser, tells):
     tells("names.json", {"ann": "Ann Lee"})
     club.log_in("eve")
     club.open("/closed/in.txt")
-    browser.sees("You don't have access to /closed/in.txt. Ask its owner, or Ann Lee (ann), who owns the "
+    browser.sees("You don't have access to /closed/in.txt. Ask its owner, or Ann Lee (ann), who owns a "
                  "folder above.", "main")
     assert browser.script("return document.querySelector('.views')") is None
     link = club.address("#open/club/closed/in.txt")
     assert letters(browser, "main") == [
         ("Write to Ann Lee", ["Access to /closed/in.txt"], [f"Please give me access to this:\n\n{link}"])]
+
+
+def test_fault_of_a_closed_door_names_who_owns_what_is_further_above(club, browser):
+    """Where of the folders on the way one may be passed alone."""
+    club.lay("/class/letters/in.txt")
+    club.lets("eve", "/", VIEW, 0)
+    club.sets("/class", entry("OWNER@", ALL), entry("eve", PASS, 0), flags=2)
+    club.sets("/class/letters", entry("OWNER@", ALL), entry("eve", PASS, 0), flags=2)
+    club.log_in("eve")
+    club.open("/class/letters/in.txt")
+    browser.sees("You don't have access to /class/letters/in.txt. Ask its owner, or ann, who owns a folder above.",
+                 "main")
+    assert [words for words, *_ in letters(browser, "main")] == ["Write to ann"]
 
 
 def test_fault_of_a_closed_door_knows_nobody(club, browser):
