@@ -73,8 +73,10 @@ async function folder(app, place, stat, rights, found) {
     event.preventDefault();
     adder.show(pointOf(event));
   };
-  if (share) tellWho(share, things?.seers ?? new Seers(app), path);
-  area.watched = { path, listing: JSON.stringify(found.names), things, put: mayPut };
+  const seers = things?.seers ?? new Seers(app);
+  if (share) tellWho(share, seers, path);
+  const list = share && seers.questions.object(path).catch(() => null);
+  area.watched = { path, names: found.names, list, things, put: mayPut };
   return [...top, bar, ...things ? [things.bar.element] : [], area];
 }
 

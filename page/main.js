@@ -181,11 +181,15 @@ const turnLooking = () => localStorage.setItem(STILL, looksAgain() ? "still" : "
 const isAtWork = () => document.hidden || isMenuOpen() || isUnsaved() ||
   document.querySelector("dialog[open], main[aria-busy], .chosen:not([hidden])") !== null;
 
+const textOf = (names, list) => JSON.stringify([names, list?.entries]);
+
+/** (Who can see it is shown too.) */
 async function look(app) {
   const its = app.watched;
   if (!its || !looksAgain() || isAtWork()) return;
-  const found = await app.room.look("LIST", its.path, { keep: false }).catch(() => its);
-  const isOther = found !== its && JSON.stringify(found?.names) !== its.listing;
+  const [had, found, list] = await Promise.all([its.list, app.room.look("LIST", its.path, { keep: false }),
+    its.list && app.room.look("GETLIST", its.path)]).catch(() => [null, its]);
+  const isOther = textOf(its.names, had) !== textOf(found?.names, had && list);
   if (isOther && app.watched === its && !isAtWork()) await app.show(standing());
 }
 

@@ -118,6 +118,20 @@ def test_the_shown_folder_tells_with_whom_it_is_shared(club, browser, names):
     browser.until("Share", lambda: browser.script(PLACE) == f"#access/club{TOP}/bob")
 
 
+def test_who_comes_back_is_told_who_sees_it_now(club, browser):
+    """Nothing that somebody shared meanwhile is said to be one's own alone."""
+    def comes_back():
+        browser.script("dispatchEvent(new Event('focus'))")  # (once more where the page was at work)
+        return browser.script(SEERS) == {"a.txt": "You, bob"} and browser.script(OF_FOLDER) == "You, bob"
+    club.lay("/own/a.txt")
+    club.sets("/", OWNER, EVERYONE, flags=2)
+    club.sets("/own", OWNER, flags=2)
+    club.open("/own")
+    told(browser, {"a.txt": "Only you"})
+    club.sets("/own", OWNER, BOB, flags=2)
+    browser.until("that bob sees it", comes_back)
+
+
 def test_on_a_phone_it_stands_below_the_name(club, browser, frame):
     """Beside the size, and nothing scrolls sideways."""
     browser.size(360, 740)
