@@ -91,12 +91,12 @@ def backups_are_tried():
 def watched(told):
     """The timer's look at the room club finds it so, and the numbers say so: the fault, or nothing."""
     before = which_look()
-    until(lambda: state("fileroom-watch") != "activating", "the look before ends")
+    until(lambda: is_over(before), "the look before ends")
     with drop_ins({"fileroom-watch.timer": SOON_BY_TIMER}):
         must("systemctl", "restart", "fileroom-watch.timer")
         until(lambda: which_look() != before, "the timer has the watch look")
         its = which_look()
-        until(lambda: which_look() != its or state("fileroom-watch") != "activating", "it ends")
+        until(lambda: is_over(its), "it ends")
     tally.differs("what the watch found", told_by(its), told)
     must("systemctl", "restart", "fileroom-watch.timer")
     numbers, found = (said("fileroom-admin", "check", *it)[1] for it in (["--prometheus"], []))
@@ -106,6 +106,10 @@ def watched(told):
 
 def which_look():
     return must("systemctl", "show", "--value", "--property=InvocationID", "fileroom-watch")
+
+
+def is_over(look):
+    return which_look() != look or state("fileroom-watch") != "activating"
 
 
 def told_by(look):
