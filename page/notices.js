@@ -70,7 +70,7 @@ const asked = new Map(); // by the day on which it was asked
 const inDays = (words) => (days) => Number.isInteger(days) && words(days < 1 ? t.lessThanADay : t.someDays(days));
 const WORDS = { numbers_days: inDays(t.numbersEnd), memory_days: inDays(t.memoryEnds), disk_days: inDays(t.diskEnds),
   unproved: (is) => is === true && t.isUnproved,
-  held: (users) => Array.isArray(users) && users.length > 0 && t.areHeld(users.map(String), users.length) };
+  held: (users) => Array.isArray(users) && users.length > 0 && t.areHeld(users.map(String)) };
 
 function line(words, key) {
   const it = make("p.fault", words, " ", button(t.untilTomorrow, () => {

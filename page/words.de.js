@@ -53,8 +53,8 @@ export const t = {
     "Sie Ihre IT um Platz.", someDays: "noch etwa {0} {0|Tag|Tage}", untilTomorrow: "Bis morgen ausblenden",
   numbersEnd: "Dieser Raum kann {0} lang neue Dateien aufnehmen. Bitten Sie Ihre IT, ihn zu erneuern.",
   diskEnds: "Dieser Raum hat {0} lang Platz auf seinem Datenträger. Bitten Sie Ihre IT um mehr.",
-  areHeld: "{0} {1|hat|haben} das Tageslimit erreicht und {1|kann|können} bis morgen nur lesen, wenn niemand " +
-    "vorher freischaltet.", lessThanADay: "weniger als einen Tag",
+  areHeld: "Tageslimit erreicht: {0}. Bis morgen geht nur Lesen, wenn niemand vorher freischaltet.",
+  lessThanADay: "weniger als einen Tag",
   isUnproved: "Dies ist der Schnellbau zum Ausprobieren: nichts ist darin bewiesen.",
   blank: "leer", notComposed: "nicht zusammengesetzt", nameWanted: "Es fehlt ein Name; . und .. sind keine.",
   nameLetters: "Ein Name hat kein / und kein Steuerzeichen.", shorten: "Kürzen zu {0}",

@@ -43,7 +43,7 @@ test("all that the service writes is told, each till it is closed", async () => 
   front.answer = readFileSync(process.env.WARNINGS, "utf8");
   const warned = await warnings();
   const all = [t.numbersEnd(t.someDays(7)), t.memoryEnds(t.someDays(3)), t.diskEnds(t.lessThanADay),
-    t.areHeld(["bob", "eve"], 2)];
+    t.areHeld(["bob", "eve"])];
   assert.deepEqual(await warned("ann", "club"), all);
   buttonOf(t.untilTomorrow).click(); // (the first of them)
   assert.deepEqual(await warned("ann", "club"), all.slice(1));
