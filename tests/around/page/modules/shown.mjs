@@ -45,7 +45,7 @@ test("a text of several blanks has each of them in its place, in German too", as
     ["tooLarge", [17, 16], "hat 17 MiB, höchstens 16 MiB sind möglich"],
     ["listFull", [33, 32], "Das wären 33 Einträge, höchstens 32 sind möglich."],
     ["barred", ["bob", "/a", "/a/b", ""], "bob darf nicht durch /a und kommt nicht an /a/b."],
-    ["shutOutAt", ["bob", "/a"], "bob kommt nicht durch /a."],
+    ["shutOutAt", [["bob", "eve"], "/a"], "Kein Weg durch /a für bob und eve."],
     ["isFull", ["/a", "/b"], "/a ist voll: 256 Elemente. Was Sie anlegen, kommt in /b"],
     ["takesPlace", ["a.txt", "2 KiB"], "a.txt (2 KiB) ersetzt, was da ist"],
     ["isNow", ["/a", "/b", 1], "/a ist jetzt /b."], ["isNow", ["/a", "/b", 2], "/a sind jetzt /b."],
