@@ -44,7 +44,7 @@ wrong:
 	@RT='$(RT)' tests/wrong/rounds $(CRATE)
 
 # Tries the wrong edits of what no prover looks at, of every part or of PART: the tests that they name must refuse each.
-# `make test` tries a dozen.
+# `make test` tries twenty.
 wrong-around: $(BUILT)
 	tests/wrong/around/run $(PART)
 
