@@ -122,7 +122,8 @@ class Part:
         self.log, self.begin = log, time.monotonic()
         env = {**os.environ, **self.env}
         if self.own_folder:
-            self.folder = env["TMPDIR"] = tempfile.mkdtemp(prefix=f"gate-{self.name.replace(' ', '-')}-")
+            # (its path is short: Chromium has a socket far below it)
+            self.folder = env["TMPDIR"] = tempfile.mkdtemp(prefix="gate-")
             os.chmod(self.folder, 0o711)  # (a part may have another user at work below it)
         how = {"stdin": subprocess.DEVNULL, "stdout": subprocess.PIPE, "stderr": subprocess.STDOUT}
         how |= {"start_new_session": True, "preexec_fn": lambda: end_with_parent(signal.SIGTERM)}

@@ -12,10 +12,12 @@ import re
 import signal
 import socket
 import subprocess
+import tempfile
 
 import need
 import pytest
 from nginx import login
+from parts import Log, Part, play
 from parts import processes as every_process
 from served import (HERE, PROGRAM, WAIT, bytes_of, end_with_parent, listener, message, one_answer, started_here,
                     text_of, until)
@@ -104,6 +106,14 @@ def test_processes_whose_names_are_no_text(work):
     os.symlink("/bin/sh", path)
     with subprocess.Popen([path, "-c", "read line", "sh", path], stdin=subprocess.PIPE):
         assert processes(work)
+
+
+def test_a_part_of_the_gate_has_a_folder_with_a_short_path(work):
+    """A socket's path has at most 107 bytes, and Chromium's lies this far below it."""
+    part = Part("a part with a name", ["sh", "-c", "echo $TMPDIR"], 60)
+    play([[part]], Log(os.path.join(work, "log")))
+    below = "/fileroom-01234567/tests/elsewhere1/org.chromium.Chromium.012345/SingletonSocket"
+    assert len(part.lines[0].replace(tempfile.gettempdir(), "/tmp") + below) <= 107
 
 
 def test_once(work):
