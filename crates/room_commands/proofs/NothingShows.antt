@@ -7,7 +7,7 @@ use Rattle.room_commands.proofs.Common.{read_attributes, delete_object, read_acl
 use Rattle.room_commands.proofs.Common.{allowed_mask, own_entries_fault, max_names, Name, Path, path_eq, Room, IsRoom}
 use Rattle.room_commands.proofs.Common.{object_at, children, list_of, standing_of, parent_of, some_is, none_is_some}
 use Rattle.room_commands.proofs.Common.{parent_of_end, Ends, CommandModel, paths_of, Refusal, NotDone, About, Names}
-use Rattle.room_commands.proofs.Common.{Size, Bytes, Entries, Allowed, Done, RefusalCode, NotEmpty, TooDeep, Inval}
+use Rattle.room_commands.proofs.Common.{Size, Bytes, Entries, Allowed, RefusalCode, NotEmpty, TooDeep, Inval}
 use Rattle.room_commands.proofs.Common.{Exist, IsLawful, own_entries_of_setlist, first_refusal, checks, refuse_if}
 use Rattle.room_commands.proofs.Common.{check_right, check_removal, may_delete, walk, check_exists, check_absent}
 use Rattle.room_commands.proofs.Common.{check_folder, check_file, is_kind, is_file, is_root, right_to_add}
@@ -22,7 +22,7 @@ use Rattle.room_commands.proofs.DepthTells.{depth_tells_empty}
 use Rattle.room_commands.proofs.Looks.{BothThere, both_there, way_alike, exists_alike, absent_alike, folder_alike}
 use Rattle.room_commands.proofs.Looks.{file_alike, right_alike, kind_of_alike, in_folder_alike}
 use Rattle.room_commands.proofs.Looks.{folder_full_alike, room_full_alike, shown_same}
-use Rattle.room_commands.proofs.Shorthands.{bytes_of, kind_of, or_no_object, removal_refusal}
+use Rattle.room_commands.proofs.Shorthands.{also, bytes_of, or_no_object, removal_refusal}
 
 -- two lists of checks refuse alike: each pair is alike where those before it pass. Where all pass, so is the rest
 abbrev pub AlikeInTurn : Type 0 → List (Option Refusal) → List (Option Refusal) → Type 0
@@ -231,178 +231,76 @@ module _ (a b : Room) (caller : SubjectModel) (room_a : IsRoom a) (room_b : IsRo
   ends_of : (path : Path) (code : RefusalCode) → refuse_if (is_root path) code ≡ None → Ends path
   ends_of path code passed = not_root_ends path (not_refused (is_root path) code passed)
 
-  -- an object on a way that passes, and a right on it
-  reached : (path : Path) → AlikeAt a b caller path → (wanted : ℕ) (Rest : Type 0)
-      (others others' : List (Option Refusal))
-      → (walk a caller path ≡ None → check_exists a path ≡ None → check_right a caller path wanted ≡ None
-      → AlikeInTurn Rest others others')
-      → AlikeInTurn Rest (walk a caller path ∷ check_exists a path ∷ check_right a caller path wanted ∷ others)
-      (walk b caller path ∷ check_exists b path ∷ check_right b caller path wanted ∷ others')
-  reached path near wanted Rest others others' then = (
-    way path near,
-    λ walked. (
-      exists path near walked,
-      λ there.
-          (right path near walked wanted, λ may. then walked there may),
-    ),
-  )
-
-  -- the same of a file
-  reached_file : (path : Path) → AlikeAt a b caller path → (wanted : ℕ) (Rest : Type 0)
-      (others others' : List (Option Refusal))
-      → (walk a caller path ≡ None → check_exists a path ≡ None → check_file a path ≡ None
-      → check_right a caller path wanted ≡ None → AlikeInTurn Rest others others')
-      → AlikeInTurn Rest
-      (walk a caller path ∷ check_exists a path ∷ check_file a path ∷ check_right a caller path wanted ∷ others)
-      (walk b caller path ∷ check_exists b path ∷ check_file b path ∷ check_right b caller path wanted ∷ others')
-  reached_file path near wanted Rest others others' then = (
-    way path near,
-    λ walked. (
-      exists path near walked,
-      λ there.
-          (file path near walked, λ is. (right path near walked wanted, λ may. then walked there is may)),
-    ),
-  )
-
   in_turn_at : (command : CommandModel) → IsLawful command → AlikeAt a b caller (paths_of command).0
       → AlikeAt a b caller (paths_of command).1 → AlikeInTurn
       (reply a caller command ≡ reply b caller command) (checks a caller command) (checks b caller command)
-  in_turn_at (C.Stat path) lawful near near_to = reached path near read_attributes
-      (reply a caller (C.Stat path) ≡ reply b caller (C.Stat path)) [] [] (attributes_alike path near)
-  in_turn_at (C.ListNames path) lawful near near_to = (
-    way path near,
-    λ walked. (
-      exists path near walked,
-      λ there. (
-        folder_alike a b caller path near.here walked,
-        λ folder. (
-          right path near walked list_directory,
-          λ may.
-              names_alike path near walked there folder may,
-        ),
-      ),
-    ),
-  )
-  in_turn_at (C.Mkdir path) lawful near near_to = (
-    refl,
-    λ not_root. (
-      way path near,
-      λ walked. (
-        absent path near walked,
-        λ free.
-            let end = ends_of path Exist not_root in (
-              right_above path near end walked add_subdirectory,
-              λ may.
-                  let adds = or_right _ _ (may_above path near end walked add_subdirectory may) in (
-                    full_above path near end walked adds,
-                    λ not_full. (room_full path near end walked adds, λ left. refl),
-                  ),
-            ),
-      ),
-    ),
-  )
-  in_turn_at (C.Create bytes path) lawful near near_to = (
-    refl,
-    λ not_root. (
-      way path near,
-      λ walked. (
-        absent path near walked,
-        λ free.
-            let end = ends_of path Exist not_root in (
-              right_above path near end walked add_file,
-              λ may. (
-                refl,
-                λ small.
-                    let adds = or_left _ _ (may_above path near end walked add_file may) in (
-                      full_above path near end walked adds,
-                      λ not_full. (room_full path near end walked adds, λ left. refl),
-                    ),
-              ),
-            ),
-      ),
-    ),
-  )
-  in_turn_at (C.Read path) lawful near near_to = reached_file path near read_data
-      (reply a caller (C.Read path) ≡ reply b caller (C.Read path)) [] [] (bytes_shown path near)
+  in_turn_at (C.Stat path) lawful near near_to =
+      also (way path near) (λ walked. also (exists path near walked) (λ there.
+      also (right path near walked read_attributes) (attributes_alike path near walked there)))
+  in_turn_at (C.ListNames path) lawful near near_to =
+      also (way path near) (λ walked. also (exists path near walked) (λ there.
+      also (folder_alike a b caller path near.here walked) (λ folder.
+      also (right path near walked list_directory) (names_alike path near walked there folder))))
+  in_turn_at (C.Mkdir path) lawful near near_to =
+      also refl (λ not_root. also (way path near) (λ walked. also (absent path near walked) (λ free.
+      let end = ends_of path Exist not_root in
+      also (right_above path near end walked add_subdirectory) (λ may.
+      let adds = or_right _ _ (may_above path near end walked add_subdirectory may) in
+      also (full_above path near end walked adds) (λ not_full.
+      also (room_full path near end walked adds) (λ left. refl))))))
+  in_turn_at (C.Create bytes path) lawful near near_to =
+      also refl (λ not_root. also (way path near) (λ walked. also (absent path near walked) (λ free.
+      let end = ends_of path Exist not_root in
+      also (right_above path near end walked add_file) (λ may. also refl (λ small.
+      let adds = or_left _ _ (may_above path near end walked add_file may) in
+      also (full_above path near end walked adds) (λ not_full.
+      also (room_full path near end walked adds) (λ left. refl)))))))
+  in_turn_at (C.Read path) lawful near near_to =
+      also (way path near) (λ walked. also (exists path near walked) (λ there. also (file path near walked) (λ is.
+      also (right path near walked read_data) (bytes_shown path near walked there is))))
   in_turn_at (C.Write bytes path) lawful near near_to =
-      reached_file path near write_data (Size (length bytes) ≡ Size (length bytes)) (check_size (length bytes) ∷ [])
-      (check_size (length bytes) ∷ []) (λ walked there is may. (refl, λ small. refl))
-  in_turn_at (C.Append bytes path) lawful near near_to = reached_file path near append_data
-      (Size (length (bytes_at a path) + length bytes) ≡ Size (length (bytes_at b path) + length bytes))
-      (check_size (length (bytes_at a path) + length bytes) ∷ [])
-      (check_size (length (bytes_at b path) + length bytes) ∷ []) (λ walked there is may.
+      also (way path near) (λ walked. also (exists path near walked) (λ there. also (file path near walked) (λ is.
+      also (right path near walked write_data) (λ may. also refl (λ small. refl)))))
+  in_turn_at (C.Append bytes path) lawful near near_to =
+      also (way path near) (λ walked. also (exists path near walked) (λ there. also (file path near walked) (λ is.
+      also (right path near walked append_data) (λ may.
       let size = size_shown path near walked there is may in
-      (ap (λ n. check_size (n + length bytes)) size, λ small. ap (λ n. Size (n + length bytes)) size))
-  in_turn_at (C.Remove path) lawful near near_to = (
-    refl,
-    λ not_root. (
-      way path near,
-      λ walked. (
-        exists path near walked,
-        λ there.
-            let end = ends_of path Inval not_root in
-            (removal_alike path near end walked, λ may. (empty_alike path near end walked there may, λ empty. refl)),
-      ),
-    ),
-  )
-  in_turn_at (C.Rename path to) lawful near near_to = (
-    refl,
-    λ outside. (
-      way path near,
-      λ walked. (
-        exists path near walked,
-        λ there. (
-          way to near_to,
-          λ walked_to. (
-            absent to near_to walked_to,
-            λ free.
-                let apart = or_parts (is_root path || is_root to) (is_at_or_below to path) (not_refused _ _ outside) in
-                let roots = or_parts (is_root path) (is_root to) apart.0 in
-                let end = not_root_ends path roots.0 in
-                let end_to = not_root_ends to roots.1 in (
-                  removal_alike path near end walked,
-                  λ removal. (
-                    right_above to near_to end_to walked_to (right_to_add (object_or_default a path).kind)
-                        ∙ ap (λ kind. check_right b caller (parent_of to) (right_to_add kind))
-                        (kind_of_alike a b caller path near.here walked),
-                    λ adds. (
-                      too_deep_alike path near end walked to there removal,
-                      λ fits. (
-                        ap (cond (path_eq (parent_of path) (parent_of to)) None)
-                            (full_above to near_to end_to walked_to (adds_either (object_or_default a path).kind
-                            (may a caller end_to.folder) (may_above to near_to end_to walked_to
-                            (right_to_add (object_or_default a path).kind) adds))),
-                        λ not_full.
-                            refl,
-                      ),
-                    ),
-                  ),
-                ),
-          ),
-        ),
-      ),
-    ),
-  )
-  in_turn_at (C.GetList path) lawful near near_to = reached path near read_acl
-      (reply a caller (C.GetList path) ≡ reply b caller (C.GetList path)) [] [] (list_shown path near)
-  in_turn_at (C.SetList aclflag entries path) lawful near near_to = reached path near write_acl (Done ≡ Done)
-      (check_lawful (own_entries_fault (own_entries_of_setlist path aclflag entries) (kind_of (object_at a path))) ∷ [])
-      (check_lawful (own_entries_fault (own_entries_of_setlist path aclflag entries) (kind_of (object_at b path))) ∷ [])
-      (λ walked there may. (
-        ap (λ kind. check_lawful (own_entries_fault (own_entries_of_setlist path aclflag entries) kind))
-            (kind_of_alike a b caller path near.here walked),
-        λ fits. refl,
-      ))
-  in_turn_at (C.Chown group owner path) lawful near near_to = reached path near write_owner (Done ≡ Done) [] []
-      (λ walked there may. refl)
-  in_turn_at (C.Access mask path) lawful near near_to = (
-    way path near,
-    λ walked. (
-      exists path near walked,
-      λ there.
-          rights_shown path near walked there mask,
-    ),
-  )
+      also (ap (λ n. check_size (n + length bytes)) size) (λ small. ap (λ n. Size (n + length bytes)) size)))))
+  in_turn_at (C.Remove path) lawful near near_to =
+      also refl (λ not_root. also (way path near) (λ walked. also (exists path near walked) (λ there.
+      let end = ends_of path Inval not_root in
+      also (removal_alike path near end walked) (λ may.
+      also (empty_alike path near end walked there may) (λ empty. refl)))))
+  in_turn_at (C.Rename path to) lawful near near_to =
+      also refl (λ outside. also (way path near) (λ walked. also (exists path near walked) (λ there.
+      also (way to near_to) (λ walked_to. also (absent to near_to walked_to) (λ free.
+      let apart = or_parts (is_root path || is_root to) (is_at_or_below to path) (not_refused _ _ outside) in
+      let roots = or_parts (is_root path) (is_root to) apart.0 in
+      let end = not_root_ends path roots.0 in
+      let end_to = not_root_ends to roots.1 in
+      let kind = (object_or_default a path).kind in
+      also (removal_alike path near end walked) (λ removal.
+      also (right_above to near_to end_to walked_to (right_to_add kind)
+      ∙ ap (λ kind. check_right b caller (parent_of to) (right_to_add kind))
+      (kind_of_alike a b caller path near.here walked)) (λ adds.
+      also (too_deep_alike path near end walked to there removal) (λ fits.
+      also (ap (cond (path_eq (parent_of path) (parent_of to)) None) (full_above to near_to end_to walked_to
+      (adds_either kind (may a caller end_to.folder) (may_above to near_to end_to walked_to (right_to_add kind) adds))))
+      (λ not_full. refl)))))))))
+  in_turn_at (C.GetList path) lawful near near_to =
+      also (way path near) (λ walked. also (exists path near walked) (λ there.
+      also (right path near walked read_acl) (list_shown path near walked there)))
+  in_turn_at (C.SetList aclflag entries path) lawful near near_to =
+      also (way path near) (λ walked. also (exists path near walked) (λ there.
+      also (right path near walked write_acl) (λ may.
+      also (ap (λ kind. check_lawful (own_entries_fault (own_entries_of_setlist path aclflag entries) kind))
+      (kind_of_alike a b caller path near.here walked)) (λ fits. refl))))
+  in_turn_at (C.Chown group owner path) lawful near near_to =
+      also (way path near) (λ walked. also (exists path near walked) (λ there.
+      also (right path near walked write_owner) (λ may. refl)))
+  in_turn_at (C.Access mask path) lawful near near_to =
+      also (way path near) (λ walked. also (exists path near walked) (λ there.
+      rights_shown path near walked there mask))
 
   pub reply_at : (command : CommandModel) → IsLawful command → AlikeAt a b caller (paths_of command).0
       → AlikeAt a b caller (paths_of command).1

@@ -4,7 +4,7 @@ use Rattle.room_commands.proofs.Common.{Option, None, Some, inl, inr, is_none, i
 use Rattle.room_commands.proofs.Common.{SubjectModel, Decision, Denied, read_data, list_directory, write_data, add_file}
 use Rattle.room_commands.proofs.Common.{append_data, add_subdirectory, execute, delete_child, read_attributes}
 use Rattle.room_commands.proofs.Common.{delete_object, read_acl, write_acl, write_owner, IsMask, Name, Path, Object}
-use Rattle.room_commands.proofs.Common.{Room, object_at, list_of, standing_of, parent_of, CommandModel, paths_of}
+use Rattle.room_commands.proofs.Common.{Room, object_at, list_of, standing_of, parent_of, CommandModel}
 use Rattle.room_commands.proofs.Common.{Refusal, first_refusal, checks, check_right, check_removal, denied_at, walk}
 use Rattle.room_commands.proofs.Common.{prefix_refusal, proper_prefixes, check_exists, check_folder, right_to_add}
 use Rattle.room_commands.proofs.Common.{object_or_default, HasRight, HasRemoval, HasWay, NeedsAllowed}

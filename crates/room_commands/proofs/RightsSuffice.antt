@@ -17,7 +17,7 @@ use Rattle.room_acl.proofs.Decisions.{decision-allowed}
 use Rattle.room_commands.specs.CommandModel as C
 use Rattle.room_commands.proofs.ChecksTell.{exists_there}
 use Rattle.room_commands.proofs.RoomLaws.{reply_is_no_refusal}
-use Rattle.room_commands.proofs.Shorthands.{right_on, or_no_object}
+use Rattle.room_commands.proofs.Shorthands.{also, right_on, or_no_object}
 
 -- a check passes, or refuses for something else than a right
 abbrev pub IsNoDenial : Option Refusal → Type 0
@@ -97,16 +97,9 @@ module _ (room : Room) (caller : SubjectModel) where
   way_plain path way = first_plain _ (all_mapped IsNoDenial (prefix_refusal room caller) (proper_prefixes path)
       (each_front (λ front. IsNoDenial (prefix_refusal room caller front)) path
       (λ front rest name is. first_plain
-      (check_exists room front ∷ check_folder room front ∷ check_right room caller front execute ∷ []) (
-        plain _ _ (λ e. cc),
-        (
-          plain _ _ (λ e. cc),
-          (
-            passes _ (granted front execute refl (way front rest name is)),
-            tt,
-          ),
-        ),
-      ))))
+      (check_exists room front ∷ check_folder room front ∷ check_right room caller front execute ∷ [])
+      (also (plain _ _ (λ e. cc)) (also (plain _ _ (λ e. cc))
+      (also (passes _ (granted front execute refl (way front rest name is))) tt))))))
 
   right_plain : (path : Path) (right : ℕ) → IsMask right → HasRight room caller path right
       → IsNoDenial (check_right room caller path right)
@@ -132,89 +125,30 @@ module _ (room : Room) (caller : SubjectModel) where
   no_denial : (command : CommandModel) → NeedsAllowed room caller command
       → IsNoDenial (first_refusal (checks room caller command))
   no_denial (C.Stat path) (right, way, _) = first_plain (checks room caller (C.Stat path))
-      (way_plain path way, (plain _ _ (λ e. cc), (right_plain path read_attributes refl right, tt)))
-  no_denial (C.ListNames path) (right, way, _) = first_plain (checks room caller (C.ListNames path)) (
-    way_plain path way,
-    (
-      plain _ _ (λ e. cc),
-      (
-        plain _ _ (λ e. cc),
-        (
-          right_plain path list_directory refl right,
-          tt,
-        ),
-      ),
-    ),
-  )
-  no_denial (C.Mkdir path) (right, way, _) = first_plain (checks room caller (C.Mkdir path)) (
-    plain _ _ (λ e. cc),
-    (
-      way_plain path way,
-      (
-        plain _ _ (λ e. cc),
-        (
-          right_plain
-              (parent_of path) add_subdirectory refl right,
-          (plain _ _ (λ e. cc), (plain _ _ (λ e. cc), tt)),
-        ),
-      ),
-    ),
-  )
-  no_denial (C.Create bytes path) (right, way, _) = first_plain (checks room caller (C.Create bytes path)) (
-    plain _ _ (λ e. cc),
-    (
-      way_plain path way,
-      (
-        plain _ _ (λ e. cc),
-        (
-          right_plain
-              (parent_of path) add_file refl right,
-          (plain _ _ (λ e. cc), (plain _ _ (λ e. cc), (plain _ _ (λ e. cc), tt))),
-        ),
-      ),
-    ),
-  )
+      (also (way_plain path way) (also (plain _ _ (λ e. cc)) (also (right_plain path read_attributes refl right) tt)))
+  no_denial (C.ListNames path) (right, way, _) = first_plain (checks room caller (C.ListNames path))
+      (also (way_plain path way) (also (plain _ _ (λ e. cc)) (also (plain _ _ (λ e. cc))
+      (also (right_plain path list_directory refl right) tt))))
+  no_denial (C.Mkdir path) (right, way, _) = first_plain (checks room caller (C.Mkdir path))
+      (also (plain _ _ (λ e. cc)) (also (way_plain path way) (also (plain _ _ (λ e. cc))
+      (also (right_plain (parent_of path) add_subdirectory refl right)
+      (also (plain _ _ (λ e. cc)) (also (plain _ _ (λ e. cc)) tt))))))
+  no_denial (C.Create bytes path) (right, way, _) = first_plain (checks room caller (C.Create bytes path))
+      (also (plain _ _ (λ e. cc)) (also (way_plain path way) (also (plain _ _ (λ e. cc))
+      (also (right_plain (parent_of path) add_file refl right)
+      (also (plain _ _ (λ e. cc)) (also (plain _ _ (λ e. cc)) (also (plain _ _ (λ e. cc)) tt)))))))
   no_denial (C.Read path) (right, way, _) = first_plain (checks room caller (C.Read path))
-      (way_plain path way, (plain _ _ (λ e. cc), (plain _ _ (λ e. cc), (right_plain path read_data refl right, tt))))
-  no_denial (C.Write bytes path) (right, way, _) = first_plain (checks room caller (C.Write bytes path)) (
-    way_plain path way,
-    (
-      plain _ _ (λ e. cc),
-      (
-        plain _ _ (λ e. cc),
-        (
-          right_plain path write_data refl right,
-          (plain _ _ (λ e. cc), tt),
-        ),
-      ),
-    ),
-  )
-  no_denial (C.Append bytes path) (right, way, _) = first_plain (checks room caller (C.Append bytes path)) (
-    way_plain path way,
-    (
-      plain _ _ (λ e. cc),
-      (
-        plain _ _ (λ e. cc),
-        (
-          right_plain path append_data refl right,
-          (plain _ _ (λ e. cc), tt),
-        ),
-      ),
-    ),
-  )
-  no_denial (C.Remove path) (removal, way, _) = first_plain (checks room caller (C.Remove path)) (
-    plain _ _ (λ e. cc),
-    (
-      way_plain path way,
-      (
-        plain _ _ (λ e. cc),
-        (
-          passes _ (removal_granted path removal),
-          (plain _ _ (λ e. cc), tt),
-        ),
-      ),
-    ),
-  )
+      (also (way_plain path way) (also (plain _ _ (λ e. cc)) (also (plain _ _ (λ e. cc))
+      (also (right_plain path read_data refl right) tt))))
+  no_denial (C.Write bytes path) (right, way, _) = first_plain (checks room caller (C.Write bytes path))
+      (also (way_plain path way) (also (plain _ _ (λ e. cc)) (also (plain _ _ (λ e. cc))
+      (also (right_plain path write_data refl right) (also (plain _ _ (λ e. cc)) tt)))))
+  no_denial (C.Append bytes path) (right, way, _) = first_plain (checks room caller (C.Append bytes path))
+      (also (way_plain path way) (also (plain _ _ (λ e. cc)) (also (plain _ _ (λ e. cc))
+      (also (right_plain path append_data refl right) (also (plain _ _ (λ e. cc)) tt)))))
+  no_denial (C.Remove path) (removal, way, _) = first_plain (checks room caller (C.Remove path))
+      (also (plain _ _ (λ e. cc)) (also (way_plain path way) (also (plain _ _ (λ e. cc))
+      (also (passes _ (removal_granted path removal)) (also (plain _ _ (λ e. cc)) tt)))))
   no_denial (C.Rename path to) ((removal, adds), way, way_to) =
       first_by (refuse_if (is_root path || is_root to || is_at_or_below to path) Inval) _
       (plain _ Inval (λ e. let no : Inval ≡ Access = e in cc))
@@ -225,26 +159,20 @@ module _ (room : Room) (caller : SubjectModel) where
       walk room caller to ∷ check_absent room to ∷ check_removal room caller path
       ∷ check_right room caller (parent_of to) (right_to_add (object_or_default room path).kind)
       ∷ check_depth room path to
-      ∷ (if path_eq (parent_of path) (parent_of to) then None else check_folder_full room (parent_of to)) ∷ []
-      ) (
-        way_plain to way_to,
-        (
-          plain _ _ (λ e. cc),
-          (
-            passes _ (removal_granted path removal),
-            (added_plain path to o is (adds o is), (plain _ _ (λ e. cc), (full_plain _ (parent_of to), tt))),
-          ),
-        ),
-      ))))
+      ∷ (if path_eq (parent_of path) (parent_of to) then None else check_folder_full room (parent_of to)) ∷ [])
+      (also (way_plain to way_to) (also (plain _ _ (λ e. cc)) (also (passes _ (removal_granted path removal))
+      (also (added_plain path to o is (adds o is)) (also (plain _ _ (λ e. cc))
+      (also (full_plain _ (parent_of to)) tt)))))))))
   no_denial (C.GetList path) (right, way, _) = first_plain (checks room caller (C.GetList path))
-      (way_plain path way, (plain _ _ (λ e. cc), (right_plain path read_acl refl right, tt)))
+      (also (way_plain path way) (also (plain _ _ (λ e. cc)) (also (right_plain path read_acl refl right) tt)))
   no_denial (C.SetList aclflag entries path) (right, way, _) = first_plain (checks room caller
       (C.SetList aclflag entries path))
-      (way_plain path way, (plain _ _ (λ e. cc), (right_plain path write_acl refl right, (lawful_plain _, tt))))
+      (also (way_plain path way) (also (plain _ _ (λ e. cc)) (also (right_plain path write_acl refl right)
+      (also (lawful_plain _) tt))))
   no_denial (C.Chown group owner path) (right, way, _) = first_plain (checks room caller (C.Chown group owner path))
-      (way_plain path way, (plain _ _ (λ e. cc), (right_plain path write_owner refl right, tt)))
+      (also (way_plain path way) (also (plain _ _ (λ e. cc)) (also (right_plain path write_owner refl right) tt)))
   no_denial (C.Access mask path) (_, way, _) = first_plain (checks room caller (C.Access mask path))
-      (way_plain path way, (plain _ _ (λ e. cc), tt))
+      (also (way_plain path way) (also (plain _ _ (λ e. cc)) tt))
 
   code_of : ReplyModel → RefusalCode
   code_of (NotDone r) = r.code

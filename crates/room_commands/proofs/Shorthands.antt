@@ -46,3 +46,7 @@ object_with new o = record o { bytes = map new o.bytes }
 -- the answers to commands of one caller, one after another
 abbrev pub replies : Room → SubjectModel → List CommandModel → List ReplyModel
 replies room caller commands = replies_among room caller (map Own commands)
+
+-- both of two facts: a chain of many reads as a list, where pairs in pairs would step in
+abbrev pub also : {A B : Type 0} → A → B → A × B
+also a b = (a, b)
