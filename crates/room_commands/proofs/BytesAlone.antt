@@ -216,12 +216,7 @@ module _ (a b : Room) (caller : SubjectModel) (room_a : IsRoom a) (room_b : IsRo
       let (_, (there_b, (file_b, _))) = all_none (checks b caller (C.Append bytes path)) passed_b in
       written_alike path (λ old. old ++ bytes) (λ n. n + length bytes) (λ old. length-append old bytes)
       there file there_b file_b
-  change_alike (C.Mkdir path) alone passed passed_b = let no : false ≡ true = alone in cc
-  change_alike (C.Create bytes path) alone passed passed_b = let no : false ≡ true = alone in cc
-  change_alike (C.Remove path) alone passed passed_b = let no : false ≡ true = alone in cc
-  change_alike (C.Rename path to) alone passed passed_b = let no : false ≡ true = alone in cc
-  change_alike (C.SetList aclflag entries path) alone passed passed_b = let no : false ≡ true = alone in cc
-  change_alike (C.Chown group owner path) alone passed passed_b = let no : false ≡ true = alone in cc
+  change_alike command alone passed passed_b = let no : false ≡ true = alone in cc
 
   pub stay_alike : (command : CommandModel) → IsLawful command → changes_bytes_alone command ≡ true
       → LooksAlike caller (effect a caller command).room (effect b caller command).room

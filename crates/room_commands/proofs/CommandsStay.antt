@@ -349,11 +349,6 @@ module _ (a b : Room) (caller : SubjectModel) (room_a : IsRoom a) (room_b : IsRo
       → first_refusal (checks b caller command) ≡ None
       → IsRoom (changed a caller command) → IsRoom (changed b caller command)
       → StayAlike caller (changed a caller command) (changed b caller command)
-  change_stays (C.Stat path) passed passed_b later_a later_b = before
-  change_stays (C.ListNames path) passed passed_b later_a later_b = before
-  change_stays (C.Read path) passed passed_b later_a later_b = before
-  change_stays (C.GetList path) passed passed_b later_a later_b = before
-  change_stays (C.Access mask path) passed passed_b later_a later_b = before
   change_stays (C.Write bytes path) passed passed_b later_a later_b = bytes_set path (λ old. bytes)
       (change_alike a b caller room_a room_b before.now (C.Write bytes path) refl passed passed_b)
   change_stays (C.Append bytes path) passed passed_b later_a later_b = bytes_set path (λ old. old ++ bytes)
@@ -392,6 +387,7 @@ module _ (a b : Room) (caller : SubjectModel) (room_a : IsRoom a) (room_b : IsRo
       let found = exists_there a path there in
       object_set path (λ o. record o { owner = owner; group = group })
       (λ o. refl) walked (or_right _ _ (ap is_none right)) found.0 found.1 later_a later_b
+  change_stays command passed passed_b later_a later_b = before
 
   rooms_stay : (command : CommandModel) (x y : Option Refusal) → x ≡ y
       → (x ≡ None → y ≡ None → StayAlike caller (changed a caller command) (changed b caller command))

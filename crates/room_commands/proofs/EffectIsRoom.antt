@@ -148,11 +148,6 @@ chown_is_room room caller group owner path lawful passed =
 -- what a command changes where no check fails is a room
 pub changed_is_room : (room : Room) (caller : SubjectModel) (command : CommandModel) → IsLawful command → IsRoom room
     → first_refusal (checks room caller command) ≡ None → IsRoom (changed room caller command)
-changed_is_room room caller (C.Stat path) is_lawful lawful passed = lawful
-changed_is_room room caller (C.ListNames path) is_lawful lawful passed = lawful
-changed_is_room room caller (C.Read path) is_lawful lawful passed = lawful
-changed_is_room room caller (C.GetList path) is_lawful lawful passed = lawful
-changed_is_room room caller (C.Access mask path) is_lawful lawful passed = lawful
 changed_is_room room caller (C.Mkdir path) is_lawful lawful passed =
     let (not_root, (walked, (free, (_, (not_full, _))))) = all_none (checks room caller (C.Mkdir path)) passed in
     new_is_room room caller lawful path (new_object room caller path Folder [])
@@ -175,6 +170,7 @@ changed_is_room room caller (C.SetList aclflag sent path) is_lawful lawful passe
     setlist_is_room room caller aclflag sent path lawful passed
 changed_is_room room caller (C.Chown group owner path) is_lawful lawful passed =
     chown_is_room room caller group owner path lawful passed
+changed_is_room room caller command is_lawful lawful passed = lawful
 
 -- every command leaves a room
 pub effect_is_room : (room : Room) (caller : SubjectModel) (command : CommandModel)

@@ -46,11 +46,6 @@ module _ (room : Room) (other : SubjectModel) (lawful_room : IsRoom room) where
   left : (command : CommandModel) → first_refusal (checks room other command) ≡ None
       → IsRoom (changed room other command)
       → Leaves room (changed room other command) (paths_of command).0 (paths_of command).1
-  left (C.Stat path) passed later = at_one path room later (λ q off. refl)
-  left (C.ListNames path) passed later = at_one path room later (λ q off. refl)
-  left (C.Read path) passed later = at_one path room later (λ q off. refl)
-  left (C.GetList path) passed later = at_one path room later (λ q off. refl)
-  left (C.Access mask path) passed later = at_one path room later (λ q off. refl)
   left (C.Mkdir path) passed later =
       at_one path _ later (λ q off. elsewhere_as_before room path _ q (apart_from q path off))
   left (C.Create bytes path) passed later =
@@ -76,6 +71,7 @@ module _ (room : Room) (other : SubjectModel) (lawful_room : IsRoom room) where
         out = λ q off. away room lawful_room path to found.0 apart.1 found.1 (absent_there room to free) q off.0 off.1;
         fronts = moved_fronts path to apart.1 apart_too;
       }
+  left command passed later = at_one (paths_of command).0 _ later (λ q off. refl)
 
   -- what holds of the room, and of what the command leaves where it passes, holds after it
   pub by_result : (command : CommandModel) → IsLawful command → (P : Room → Type 0) → P room

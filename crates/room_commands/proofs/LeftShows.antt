@@ -108,17 +108,7 @@ module _ (a : Room) (n : ℕ) (caller : SubjectModel) where
   replies (C.GetList path) = ap (Entries (object_or_default a path).aclflag) (lists path)
   replies (C.Access mask path) =
       ap (λ list. Allowed (allowed_of list caller (standing_of (object_or_default a path)) mask)) (lists path)
-  replies (C.Stat path) = refl
-  replies (C.ListNames path) = refl
-  replies (C.Mkdir path) = refl
-  replies (C.Create bytes path) = refl
-  replies (C.Read path) = refl
-  replies (C.Write bytes path) = refl
-  replies (C.Append bytes path) = refl
-  replies (C.Remove path) = refl
-  replies (C.Rename path to) = refl
-  replies (C.SetList aclflag entries path) = refl
-  replies (C.Chown group owner path) = refl
+  replies command = refl
 
   leaves : (command : CommandModel) → first_refusal (checks a caller command) ≡ None
       → changed b caller command ≡ with_more n (changed a caller command)
@@ -130,17 +120,7 @@ module _ (a : Room) (n : ℕ) (caller : SubjectModel) where
       let (_, (_, (_, (_, (_, (_, (some, _))))))) = all_none (checks a caller (C.Create bytes path)) passed in
       ap (λ left. record (changed a caller (C.Create bytes path)) { left = left })
       (one_less a.left n (not_refused (a.left == 0) RoomFull some))
-  leaves (C.Stat path) passed = refl
-  leaves (C.ListNames path) passed = refl
-  leaves (C.Read path) passed = refl
-  leaves (C.Write bytes path) passed = refl
-  leaves (C.Append bytes path) passed = refl
-  leaves (C.Remove path) passed = refl
-  leaves (C.Rename path to) passed = refl
-  leaves (C.GetList path) passed = refl
-  leaves (C.SetList aclflag entries path) passed = refl
-  leaves (C.Chown group owner path) passed = refl
-  leaves (C.Access mask path) passed = refl
+  leaves command passed = refl
 
   abbrev GoesOnAlike : CommandModel → Option Refusal → Option Refusal → Type 0
   GoesOnAlike command x y = ((effect_by b caller command y).reply ≡ (effect_by a caller command x).reply)

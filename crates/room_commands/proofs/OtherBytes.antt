@@ -179,18 +179,14 @@ module _ (new : ℕ → ℕ) where
         ap (λ found. About (attributes_of other path found)) (default_there path)
         ∙ ap (λ (n : ℕ). About (record (attributes_of room path o) { size = n })) (size_with path o.kind)
     replies_with (C.ListNames path) = ap Names (names path)
-    replies_with (C.Mkdir path) = refl
     replies_with (C.Create bytes path) = ap Size (length-map bytes new)
     replies_with (C.Read path) = ap Bytes (bytes_there path)
     replies_with (C.Write bytes path) = ap Size (length-map bytes new)
     replies_with (C.Append bytes path) = (λ i. Size (size_there path i + length-map bytes new i))
-    replies_with (C.Remove path) = refl
-    replies_with (C.Rename path to) = refl
     replies_with (C.GetList path) = (λ i. Entries (default_there path i).aclflag (lists path i))
-    replies_with (C.SetList aclflag entries path) = refl
-    replies_with (C.Chown group owner path) = refl
     replies_with (C.Access mask path) =
         (λ i. Allowed (bit_and mask (allowed_mask (lists path i) caller (standing_of (default_there path i)))))
+    replies_with command = refl
 
     abbrev of_objects : List (Path × Object) → Room
     of_objects objects = record room { objects = objects }
@@ -220,11 +216,7 @@ module _ (new : ℕ → ℕ) where
     rooms_with (C.Chown group owner path) =
         let set = (λ (o : Object). record o { owner = owner; group = group }) in
         ap of_objects (changed_with path set set (λ o. refl) room.objects)
-    rooms_with (C.Stat path) = refl
-    rooms_with (C.ListNames path) = refl
-    rooms_with (C.Read path) = refl
-    rooms_with (C.GetList path) = refl
-    rooms_with (C.Access mask path) = refl
+    rooms_with command = refl
 
     module _ (command : CommandModel) where
       room_by : (r : Option Refusal) → (effect_by other caller (command_with new command) r).room
@@ -264,18 +256,7 @@ module _ (room : Room) (caller : SubjectModel) where
       → (bytes : List ℕ) → (effect_by room caller command r).reply ≡ Bytes bytes → IsRead command
   read_by command (Some refusal) passed bytes is = cc
   read_by (C.Read path) None passed bytes is = (path, refl, read_right path passed)
-  read_by (C.Stat path) None passed bytes is = cc
-  read_by (C.ListNames path) None passed bytes is = cc
-  read_by (C.Mkdir path) None passed bytes is = cc
-  read_by (C.Create new path) None passed bytes is = cc
-  read_by (C.Write new path) None passed bytes is = cc
-  read_by (C.Append new path) None passed bytes is = cc
-  read_by (C.Remove path) None passed bytes is = cc
-  read_by (C.Rename path to) None passed bytes is = cc
-  read_by (C.GetList path) None passed bytes is = cc
-  read_by (C.SetList aclflag entries path) None passed bytes is = cc
-  read_by (C.Chown group owner path) None passed bytes is = cc
-  read_by (C.Access mask path) None passed bytes is = cc
+  read_by command None passed bytes is = cc
 
   pub read_alone : (command : CommandModel) (bytes : List ℕ) → (effect room caller command).reply ≡ Bytes bytes
       → IsRead command
