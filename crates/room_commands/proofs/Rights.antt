@@ -40,6 +40,23 @@ at_front P [] rest name h = h.0
 at_front P (first ∷ front) rest name h = at_front (λ path. P (first ∷ path)) front rest name
     (all_unmapped P (λ path. first ∷ path) (proper_prefixes (front ++ name ∷ rest)) h.1)
 
+pub all_mapped : {X Y : Type 0} (P : Y → Type 0) (g : X → Y) (xs : List X)
+    → AllByRecursion (λ x. P (g x)) xs → AllByRecursion P (map g xs)
+all_mapped P g [] h = tt
+all_mapped P g (x ∷ xs) h = (h.0, all_mapped P g xs h.1)
+
+-- what holds of each front of a path with a name behind it holds of its proper prefixes
+pub all_prefixes : (P : Path → Type 0) (path : Path)
+    → ((front : Path) (name : Name) (rest : Path) → path ≡ front ++ name ∷ rest → P front)
+    → AllByRecursion P (proper_prefixes path)
+all_prefixes P [] each = tt
+all_prefixes P (first ∷ path) each = (
+  each [] first path refl,
+  all_mapped P (λ front. first ∷ front)
+      (proper_prefixes path) (all_prefixes (λ front. P (first ∷ front)) path
+      (λ front name rest is. each (first ∷ front) name rest (ap (λ p. first ∷ p) is))),
+)
+
 -- what is no refusal
 pub none_of : {X : Type 0} (x : Option X) → is_none x ≡ true → x ≡ None
 none_of None h = refl

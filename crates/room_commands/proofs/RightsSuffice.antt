@@ -1,9 +1,9 @@
 -- Where the lists allow all that a command needs, no check refuses it for a right.
-use Rattle.room_commands.proofs.Common.{◌≡◌, ℕ, refl, ap, sym, subst, ◌∙◌, Bool, true, false, List, [], ◌∷◌, ◌++◌, map}
+use Rattle.room_commands.proofs.Common.{◌≡◌, ℕ, refl, ap, sym, subst, ◌∙◌, Bool, true, false, List, [], ◌∷◌}
 use Rattle.room_commands.proofs.Common.{Option, None, Some, inl, inr, is_none, ◌||◌, ◌⊎◌, if◌then◌else◌, AllByRecursion}
 use Rattle.room_commands.proofs.Common.{SubjectModel, Kind, File, Folder, Denied, read_data, list_directory, write_data}
 use Rattle.room_commands.proofs.Common.{add_file, append_data, add_subdirectory, execute, delete_child, read_attributes}
-use Rattle.room_commands.proofs.Common.{delete_object, read_acl, write_acl, write_owner, IsMask, Name, Path, path_eq}
+use Rattle.room_commands.proofs.Common.{delete_object, read_acl, write_acl, write_owner, IsMask, Path, path_eq}
 use Rattle.room_commands.proofs.Common.{Object, Room, object_at, list_of, standing_of, parent_of, RefusalCode, Access}
 use Rattle.room_commands.proofs.Common.{NoEnt, Inval, CommandModel, ReplyModel, Refusal, NotDone, IsNotDone}
 use Rattle.room_commands.proofs.Common.{first_refusal, checks, check_right, check_removal, denied_at, walk, refuse_if}
@@ -15,6 +15,7 @@ use Rattle.room_acl.specs.declared.inheritance.ListFault.{ListFault}
 use Rattle.room_acl.specs.declared.inheritance.ListFault.TheVariants as L
 use Rattle.room_acl.proofs.Decisions.{decision-allowed}
 use Rattle.room_commands.specs.CommandModel as C
+use Rattle.room_commands.proofs.Rights.{all_mapped, all_prefixes}
 use Rattle.room_commands.proofs.ChecksTell.{exists_there}
 use Rattle.room_commands.proofs.RoomLaws.{reply_is_no_refusal}
 use Rattle.room_commands.proofs.Shorthands.{also, right_on, or_no_object}
@@ -48,23 +49,6 @@ first_by : (a : Option Refusal) (others : List (Option Refusal)) → IsNoDenial 
 first_by None others plain rest = rest refl
 first_by (Some r) others plain rest = plain
 
-all_mapped : {X Y : Type 0} (P : Y → Type 0) (g : X → Y) (xs : List X)
-    → AllByRecursion (λ x. P (g x)) xs → AllByRecursion P (map g xs)
-all_mapped P g [] h = tt
-all_mapped P g (x ∷ xs) h = (h.0, all_mapped P g xs h.1)
-
--- what holds of each folder on the way
-each_front : (P : Path → Type 0) (path : Path)
-    → ((front rest : Path) (name : Name) → path ≡ front ++ name ∷ rest → P front)
-    → AllByRecursion P (proper_prefixes path)
-each_front P [] h = tt
-each_front P (first ∷ path) h = (
-  h [] path first refl,
-  all_mapped P (λ front. first ∷ front) (proper_prefixes path)
-      (each_front (λ front. P (first ∷ front)) path
-      (λ front rest name is. h (first ∷ front) rest name (ap (λ p. first ∷ p) is))),
-)
-
 pub if_true : (path : Path) (may : Bool) → may ≡ true → (if may then None else denied_at path
     (Denied delete_object)) ≡ None
 if_true path true is = refl
@@ -95,8 +79,8 @@ module _ (room : Room) (caller : SubjectModel) where
 
   way_plain : (path : Path) → HasWay room caller path → IsNoDenial (walk room caller path)
   way_plain path way = first_plain _ (all_mapped IsNoDenial (prefix_refusal room caller) (proper_prefixes path)
-      (each_front (λ front. IsNoDenial (prefix_refusal room caller front)) path
-      (λ front rest name is. first_plain
+      (all_prefixes (λ front. IsNoDenial (prefix_refusal room caller front)) path
+      (λ front name rest is. first_plain
       (check_exists room front ∷ check_folder room front ∷ check_right room caller front execute ∷ [])
       (also (plain _ _ (λ e. cc)) (also (plain _ _ (λ e. cc))
       (also (passes _ (granted front execute refl (way front rest name is))) tt))))))

@@ -1,10 +1,10 @@
 -- What the definitions of rooms and commands mean: refusals, successes, a READ after a WRITE, a RENAME.
 use Rattle.room_commands.proofs.Common.{◌≡◌, ℕ, refl, ap, sym, ◌∙◌, Bool, true, false, not, cond, ◌||◌, List, [], ◌∷◌}
 use Rattle.room_commands.proofs.Common.{◌++◌, map, Option, None, Some, is_some, option_map, arith, or_parts, Kind, File}
-use Rattle.room_commands.proofs.Common.{Folder, SubjectModel, EntryModel, decision, read_data, execute, Path, path_eq}
-use Rattle.room_commands.proofs.Common.{Object, Room, IsRoom, object_at, list_of, standing_of, without_bytes}
-use Rattle.room_commands.proofs.Common.{lists_without_bytes, CommandModel, Bytes, Refusal, IsNotDone, first_refusal}
-use Rattle.room_commands.proofs.Common.{checks, is_kind, check_exists, check_file, check_folder, check_right, denied_at}
+use Rattle.room_commands.proofs.Common.{Folder, SubjectModel, read_data, execute, Path, path_eq}
+use Rattle.room_commands.proofs.Common.{Object, Room, IsRoom, object_at, list_of, without_bytes}
+use Rattle.room_commands.proofs.Common.{lists_without_bytes, CommandModel, Bytes, IsNotDone, first_refusal}
+use Rattle.room_commands.proofs.Common.{checks, is_kind, check_exists, check_file, check_folder, check_right}
 use Rattle.room_commands.proofs.Common.{refuse_if, prefix_refusal, proper_prefixes, walk, bytes_at, is_root}
 use Rattle.room_commands.proofs.Common.{is_at_or_below, NoEnt, NotDir, IsDir, effect, effect_by, changed, reply}
 use Rattle.room_commands.proofs.Common.{with_object, renamed, NeedsAllowed}
@@ -14,7 +14,7 @@ use Rattle.room_commands.proofs.Rights.{AllNone, all_none, rights_of_success}
 use Rattle.room_commands.proofs.ChecksTell.{not_refused, exists_there, absent_there}
 use Rattle.room_commands.proofs.RoomsObject.{at_changed, after_change}
 use Rattle.room_commands.proofs.RoomsRenamed.{at_new_place, at_old_place, away}
-use Rattle.room_commands.proofs.Shorthands.{bytes_of, right_on}
+use Rattle.room_commands.proofs.Shorthands.{bytes_of, right_by}
 
 -- the reply of what no check refuses is no refusal
 pub reply_is_no_refusal : (room : Room) (caller : SubjectModel) (command : CommandModel)
@@ -64,29 +64,16 @@ module _ (room other : Room) (caller : SubjectModel)
   pub file_alike : (path : Path) → check_file room path ≡ check_file other path
   file_alike path = ap (λ b. refuse_if b IsDir) (kind_alike Folder path)
 
-  abbrev right_by : Path → ℕ → List EntryModel → Option Object → Option Refusal
-  right_by path wanted entries None = right_on room caller path wanted None
-  right_by path wanted entries (Some o) = denied_at path (decision entries caller (standing_of o) wanted)
-
   pub right_alike : (path : Path) (wanted : ℕ)
       → check_right room caller path wanted ≡ check_right other caller path wanted
   right_alike path wanted =
-      here (object_at room path)
-      ∙ ap (λ entries. right_by path wanted entries (object_at room path)) (lists_without_bytes room other alike path)
-      ∙ bare (object_at room path) ∙ ap (right_by path wanted (list_of other path)) (alike path)
+      ap (λ entries. right_by caller path wanted entries (object_at room path))
+      (lists_without_bytes room other alike path)
+      ∙ bare (object_at room path) ∙ ap (right_by caller path wanted (list_of other path)) (alike path)
       ∙ sym (bare (object_at other path))
-      ∙ sym (there (object_at other path))
     where
-      here : (o : Option Object) → right_on room caller path wanted o ≡ right_by path wanted (list_of room path) o
-      here None = refl
-      here (Some o) = refl
-
-      there : (o : Option Object) → right_on other caller path wanted o ≡ right_by path wanted (list_of other path) o
-      there None = refl
-      there (Some o) = refl
-
-      bare : (o : Option Object)
-          → right_by path wanted (list_of other path) o ≡ right_by path wanted (list_of other path) (without_bytes o)
+      bare : (o : Option Object) → right_by caller path wanted (list_of other path) o
+          ≡ right_by caller path wanted (list_of other path) (without_bytes o)
       bare None = refl
       bare (Some o) = refl
 

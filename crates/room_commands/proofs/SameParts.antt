@@ -3,35 +3,19 @@ use Rattle.room_commands.proofs.Common.{◌≡◌, ℕ, ◌≤◌, refl, ap, sym
 use Rattle.room_commands.proofs.Common.{◌++◌, map, length, drop, Option, None, Some, is_some, ◌==◌, option_map}
 use Rattle.room_commands.proofs.Common.{append-nil, append_assoc, is_none, if◌then◌else◌, AllByRecursion, Kind, File}
 use Rattle.room_commands.proofs.Common.{Folder, execute, delete_object, delete_child, add_file, add_subdirectory}
-use Rattle.room_commands.proofs.Common.{SubjectModel, EntryModel, decision, Name, Path, Object, Room, IsRoom, object_at}
-use Rattle.room_commands.proofs.Common.{children, list_of, standing_of, parent_of, list_under, root_list, follows}
+use Rattle.room_commands.proofs.Common.{SubjectModel, EntryModel, Name, Path, Object, Room, IsRoom, object_at}
+use Rattle.room_commands.proofs.Common.{children, list_of, parent_of, list_under, root_list, follows}
 use Rattle.room_commands.proofs.Common.{found_stands, standing_found, ends, Ends, parent_of_end, lists_below}
 use Rattle.room_commands.proofs.Common.{list_in_folder, children_rise, same_entries, kind_of_child, NoEnt, NotDir}
-use Rattle.room_commands.proofs.Common.{Refusal, first_refusal, refuse_if, denied_at, check_right, is_file, is_kind}
+use Rattle.room_commands.proofs.Common.{Refusal, first_refusal, refuse_if, check_right, is_file, is_kind}
 use Rattle.room_commands.proofs.Common.{is_root, proper_prefixes, prefix_refusal, walk, depth_in, view, may, SameBelow}
 use Rattle.room_commands.proofs.Common.{handed_to, then_some}
+use Rattle.room_commands.proofs.Rights.{all_prefixes}
 use Rattle.room_commands.proofs.RoomsRenamed.{rest_below}
 use Rattle.room_commands.proofs.DepthTells.{within_depth, no_deeper}
 use Rattle.room_commands.proofs.Looks.{walk_end}
 use Rattle.room_commands.proofs.BytesAlone.{facts_at, sight_with, view_with, view_by_facts}
-use Rattle.room_commands.proofs.Shorthands.{handed_by, if_reached, right_on}
-
-all_mapped : {X Y : Type 0} (P : Y → Type 0) (g : X → Y) (xs : List X)
-    → AllByRecursion (λ x. P (g x)) xs → AllByRecursion P (map g xs)
-all_mapped P g [] h = tt
-all_mapped P g (x ∷ xs) h = (h.0, all_mapped P g xs h.1)
-
--- what holds of each front of a path with a name behind it holds of its proper prefixes
-pub all_prefixes : (P : Path → Type 0) (path : Path)
-    → ((front : Path) (name : Name) (rest : Path) → path ≡ front ++ name ∷ rest → P front)
-    → AllByRecursion P (proper_prefixes path)
-all_prefixes P [] each = tt
-all_prefixes P (first ∷ path) each = (
-  each [] first path refl,
-  all_mapped P (λ front. first ∷ front)
-      (proper_prefixes path) (all_prefixes (λ front. P (first ∷ front)) path
-      (λ front name rest is. each (first ∷ front) name rest (ap (λ p. first ∷ p) is))),
-)
+use Rattle.room_commands.proofs.Shorthands.{handed_by, if_reached, right_by}
 
 mapped_same : (f g : Path → Option Refusal) (paths : List Path) → AllByRecursion (λ path. f path ≡ g path) paths
     → map f paths ≡ map g paths
@@ -39,26 +23,10 @@ mapped_same f g [] same = refl
 mapped_same f g (path ∷ paths) same = (λ i. same.0 i ∷ mapped_same f g paths same.1 i)
 
 module _ (x y : Room) (caller : SubjectModel) where
-  abbrev right_by : Path → ℕ → List EntryModel → Option Object → Option Refusal
-  right_by path wanted entries None = right_on x caller path wanted None
-  right_by path wanted entries (Some o) = denied_at path (decision entries caller (standing_of o) wanted)
-
-  by_list_x : (path : Path) (wanted : ℕ) (o : Option Object)
-      → right_on x caller path wanted o ≡ right_by path wanted (list_of x path) o
-  by_list_x path wanted None = refl
-  by_list_x path wanted (Some o) = refl
-
-  by_list_y : (path : Path) (wanted : ℕ) (o : Option Object)
-      → right_on y caller path wanted o ≡ right_by path wanted (list_of y path) o
-  by_list_y path wanted None = refl
-  by_list_y path wanted (Some o) = refl
-
   -- rights by the same list on the same object
   pub right_same : (path : Path) (wanted : ℕ) → list_of x path ≡ list_of y path → object_at x path ≡ object_at y path
       → check_right x caller path wanted ≡ check_right y caller path wanted
-  right_same path wanted list object =
-      by_list_x path wanted (object_at x path)
-      ∙ (λ i. right_by path wanted (list i) (object i)) ∙ sym (by_list_y path wanted (object_at y path))
+  right_same path wanted list object = (λ i. right_by caller path wanted (list i) (object i))
 
   pub prefix_same : (path : Path) → list_of x path ≡ list_of y path → object_at x path ≡ object_at y path
       → prefix_refusal x caller path ≡ prefix_refusal y caller path

@@ -20,10 +20,14 @@ kind_of o = (or_no_object o).kind
 abbrev pub handed_by : Option Object → List EntryModel → List EntryModel
 handed_by found above = option_map_or (λ (o : Object). handed_down above o.kind) found []
 
-abbrev pub right_on : Room → SubjectModel → Path → ℕ → Option Object → Option Refusal
-right_on room caller path wanted found =
-    option_map_or (λ (o : Object). denied_at path (decision (list_of room path) caller (standing_of o) wanted))
+-- a right by these entries
+abbrev pub right_by : SubjectModel → Path → ℕ → List EntryModel → Option Object → Option Refusal
+right_by caller path wanted entries found =
+    option_map_or (λ (o : Object). denied_at path (decision entries caller (standing_of o) wanted))
     found (Some (refusal_without_place NoEnt))
+
+abbrev pub right_on : Room → SubjectModel → Path → ℕ → Option Object → Option Refusal
+right_on room caller path wanted found = right_by caller path wanted (list_of room path) found
 
 abbrev pub removal_refusal : Path → Option Refusal → Option Refusal → Option Refusal
 removal_refusal path own by_folder =
