@@ -43,7 +43,7 @@ pub use Rattle.room_commands.specs.Checks.{check_folder_full, check_lawful, chec
 pub use Rattle.room_commands.specs.Checks.{check_size, checks, denied_at, first_refusal, is_at_or_below, is_file}
 pub use Rattle.room_commands.specs.Checks.{is_full, is_kind, is_root, may_delete, no_object, object_or_default}
 pub use Rattle.room_commands.specs.Checks.{prefix_refusal, proper_prefixes, refusal_without_place, refuse_if}
-pub use Rattle.room_commands.specs.Checks.{right_to_add, walk}
+pub use Rattle.room_commands.specs.Checks.{right_to_add, walk, RoomCheck, run_check, checks_of}
 pub use Rattle.room_commands.specs.CommandModel.{CommandModel, Rename, paths_of}
 pub use Rattle.room_commands.specs.Effect.{attributes_of, changed, effect, effect_by, moved, new_object, renamed, reply}
 pub use Rattle.room_commands.specs.Effect.{size_of, with_new, with_object, without}

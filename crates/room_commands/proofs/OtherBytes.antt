@@ -1,21 +1,22 @@
 -- No check and no change looks at the bytes of a file.
-use Rattle.room_commands.proofs.Common.{◌≡◌, ℕ, ◌+◌, ◌-◌, refl, ap, sym, ◌∙◌, arith, Bool, true, false, not, ◌||◌, cond}
+use Rattle.room_commands.proofs.Common.{◌≡◌, ℕ, ◌+◌, ◌-◌, refl, ap, sym, ◌∙◌, arith, Bool, true, false, not, cond}
 use Rattle.room_commands.proofs.Common.{List, [], ◌∷◌, ◌++◌, map, length, Option, None, Some, nat_lt, nat_le}
 use Rattle.room_commands.proofs.Common.{option_map, bit_and, is_none, max, lookup, filter_map, map-append, length-map}
-use Rattle.room_commands.proofs.Common.{Kind, File, Folder, read_data, list_directory, write_data, add_file}
-use Rattle.room_commands.proofs.Common.{append_data, add_subdirectory, delete_child, read_attributes, delete_object}
-use Rattle.room_commands.proofs.Common.{read_acl, write_acl, write_owner, SubjectModel, allowed_mask, own_entries_fault}
+use Rattle.room_commands.proofs.Common.{Kind, File, Folder, read_data, write_data, add_file}
+use Rattle.room_commands.proofs.Common.{append_data, delete_child, delete_object}
+use Rattle.room_commands.proofs.Common.{SubjectModel, allowed_mask, own_entries_fault}
 use Rattle.room_commands.proofs.Common.{max_names, max_children, Name, Path, path_eq, Object, Room, object_at, children}
 use Rattle.room_commands.proofs.Common.{child_in, by_name, list_of, standing_of, parent_of, without_bytes}
 use Rattle.room_commands.proofs.Common.{lists_without_bytes, CommandModel, Refusal, About, Names, Size, Bytes, Entries}
-use Rattle.room_commands.proofs.Common.{Allowed, NotEmpty, Exist, Inval, TooDeep, FolderFull, own_entries_of_setlist}
-use Rattle.room_commands.proofs.Common.{first_refusal, checks, refuse_if, check_right, check_size, walk, check_exists}
-use Rattle.room_commands.proofs.Common.{check_absent, check_file, check_removal, check_depth, check_folder_full}
-use Rattle.room_commands.proofs.Common.{check_room_full, check_lawful, right_to_add, bytes_at, is_root, is_at_or_below}
+use Rattle.room_commands.proofs.Common.{Allowed, NotEmpty, Exist, TooDeep, FolderFull, own_entries_of_setlist}
+use Rattle.room_commands.proofs.Common.{RoomCheck, run_check, checks_of, first_refusal, checks, refuse_if, check_right, check_size}
+use Rattle.room_commands.proofs.Common.{check_folder_full}
+use Rattle.room_commands.proofs.Common.{check_lawful, right_to_add, bytes_at, is_at_or_below}
 use Rattle.room_commands.proofs.Common.{depth_in, effect, effect_by, changed, reply, attributes_of, size_of, with_new}
 use Rattle.room_commands.proofs.Common.{moved, new_object, may, object_or_default}
 use Rattle.std.specs.List.{filter}
 use Rattle.room_commands.specs.CommandModel as C
+use Rattle.room_commands.specs.Checks as K
 use Rattle.room_commands.specs.OtherBytes.{room_with, command_with, reply_with}
 use Rattle.room_commands.proofs.Rights.{all_none}
 use Rattle.room_commands.proofs.RoomLaws.{some_alike, exists_alike, folder_alike, file_alike, right_alike}
@@ -87,26 +88,11 @@ module _ (new : ℕ → ℕ) where
     lists : (q : Path) → list_of other q ≡ list_of room q
     lists = lists_without_bytes other room bare
 
-    way : (q : Path) → walk other caller q ≡ walk room caller q
-    way = walk_alike other room caller bare
-
     right : (q : Path) (wanted : ℕ) → check_right other caller q wanted ≡ check_right room caller q wanted
     right = right_alike other room caller bare
 
-    exists : (q : Path) → check_exists other q ≡ check_exists room q
-    exists = exists_alike other room caller bare
-
-    file : (q : Path) → check_file other q ≡ check_file room q
-    file = file_alike other room caller bare
-
-    absent : (q : Path) → check_absent other q ≡ check_absent room q
-    absent q = ap (λ t. refuse_if t Exist) (some_alike other room caller bare q)
-
     full : (q : Path) → check_folder_full other q ≡ check_folder_full room q
     full q = ap (λ (l : List (Name × Kind)). refuse_if (nat_le max_children (length l)) FolderFull) (names q)
-
-    removal : (q : Path) → check_removal other caller q ≡ check_removal room caller q
-    removal q = (λ i. removal_refusal q (right q delete_object i) (right (parent_of q) delete_child i))
 
     bytes_with : (o : Option Object) → bytes_of (option_map (object_with new) o) ≡ map new (bytes_of o)
     bytes_with None = refl
@@ -125,40 +111,40 @@ module _ (new : ℕ → ℕ) where
     kind : (q : Path) → kind_of (object_at other q) ≡ kind_of (object_at room q)
     kind q = ap kind_of (there q) ∙ kind_with (object_at room q)
 
-    depth : (path to : Path) → check_depth other path to ≡ check_depth room path to
-    depth path to =
-        ap (λ d. refuse_if (nat_lt max_names (length to + d)) TooDeep) (depth_with path room.objects)
+    -- so each kind of check is the same
+    same_check : (check : RoomCheck) → run_check other caller check ≡ run_check room caller check
+    same_check (K.Walks q) = walk_alike other room caller bare q
+    same_check (K.IsThere q) = exists_alike other room caller bare q
+    same_check (K.IsFree q) = ap (λ t. refuse_if t Exist) (some_alike other room caller bare q)
+    same_check (K.IsNoFile q) = folder_alike other room caller bare q
+    same_check (K.IsNoFolder q) = file_alike other room caller bare q
+    same_check (K.IsEmpty q) = ap (λ (l : List (Name × Kind)). refuse_if (nat_lt 0 (length l)) NotEmpty) (names q)
+    same_check (K.IsAllowed q wanted) = right q wanted
+    same_check (K.MayRemove q) =
+        (λ i. removal_refusal q (right q delete_object i) (right (parent_of q) delete_child i))
+    same_check (K.MayMoveTo q to) = right (parent_of to) (right_to_add (kind_of (object_at other q)))
+        ∙ ap (λ kind. check_right room caller (parent_of to) (right_to_add kind)) (kind q)
+    same_check (K.FolderTakes q) = full q
+    same_check (K.FolderTakesMoved q to) = ap (cond (path_eq (parent_of q) (parent_of to)) None) (full (parent_of to))
+    same_check (K.DepthFits q to) =
+        ap (λ d. refuse_if (nat_lt max_names (length to + d)) TooDeep) (depth_with q room.objects)
+    same_check (K.LongerFits q more) = ap (λ n. check_size (n + more)) (size_there q)
+    same_check (K.EntriesFit own q) = ap (λ kind. check_lawful (own_entries_fault own kind)) (kind q)
+    same_check check = refl
+
+    asked_with : (command : CommandModel) → checks_of (command_with new command) ≡ checks_of command
+    asked_with (C.Create bytes path) = (λ i. K.MakesBelowRoot path ∷ K.Walks path ∷ K.IsFree path
+        ∷ K.IsAllowed (parent_of path) add_file ∷ K.SizeFits (length-map bytes new i) ∷ K.FolderTakes (parent_of path)
+        ∷ K.RoomTakes ∷ [])
+    asked_with (C.Write bytes path) = (λ i. K.Walks path ∷ K.IsThere path ∷ K.IsNoFolder path
+        ∷ K.IsAllowed path write_data ∷ K.SizeFits (length-map bytes new i) ∷ [])
+    asked_with (C.Append bytes path) = (λ i. K.Walks path ∷ K.IsThere path ∷ K.IsNoFolder path
+        ∷ K.IsAllowed path append_data ∷ K.LongerFits path (length-map bytes new i) ∷ [])
+    asked_with command = refl
 
     checks_with : (command : CommandModel) → checks other caller (command_with new command) ≡ checks room caller command
-    checks_with (C.Stat path) = (λ i. way path i ∷ exists path i ∷ right path read_attributes i ∷ [])
-    checks_with (C.ListNames path) = (λ i. way path i ∷ exists path i ∷ folder_alike other room caller bare path i
-        ∷ right path list_directory i ∷ [])
-    checks_with (C.Mkdir path) = (λ i. refuse_if (is_root path) Exist ∷ way path i ∷ absent path i
-        ∷ right (parent_of path) add_subdirectory i ∷ full (parent_of path) i ∷ check_room_full room ∷ [])
-    checks_with (C.Create bytes path) = (λ i. refuse_if (is_root path) Exist ∷ way path i ∷ absent path i
-        ∷ right (parent_of path) add_file i ∷ check_size (length-map bytes new i) ∷ full (parent_of path) i
-        ∷ check_room_full room ∷ [])
-    checks_with (C.Read path) = (λ i. way path i ∷ exists path i ∷ file path i ∷ right path read_data i ∷ [])
-    checks_with (C.Write bytes path) = (λ i. way path i ∷ exists path i ∷ file path i ∷ right path write_data i
-        ∷ check_size (length-map bytes new i) ∷ [])
-    checks_with (C.Append bytes path) = (λ i. way path i ∷ exists path i ∷ file path i ∷ right path append_data i
-        ∷ check_size (size_there path i + length-map bytes new i) ∷ [])
-    checks_with (C.Remove path) = (λ i. refuse_if (is_root path) Inval ∷ way path i ∷ exists path i ∷ removal path i
-        ∷ refuse_if (nat_lt 0 (length (names path i))) NotEmpty ∷ [])
-    checks_with (C.Rename path to) = (λ i. refuse_if (is_root path || is_root to || is_at_or_below to path) Inval
-        ∷ way path i ∷ exists path i ∷ way to i ∷ absent to i ∷ removal path i
-        ∷ check_right_to_add i ∷ depth path to i
-        ∷ cond (path_eq (parent_of path) (parent_of to)) None (full (parent_of to) i) ∷ [])
-      where
-        check_right_to_add : check_right other caller (parent_of to) (right_to_add (kind_of (object_at other path)))
-            ≡ check_right room caller (parent_of to) (right_to_add (kind_of (object_at room path)))
-        check_right_to_add = right (parent_of to) (right_to_add (kind_of (object_at other path)))
-            ∙ ap (λ kind. check_right room caller (parent_of to) (right_to_add kind)) (kind path)
-    checks_with (C.GetList path) = (λ i. way path i ∷ exists path i ∷ right path read_acl i ∷ [])
-    checks_with (C.SetList aclflag entries path) = (λ i. way path i ∷ exists path i ∷ right path write_acl i
-        ∷ check_lawful (own_entries_fault (own_entries_of_setlist path aclflag entries) (kind path i)) ∷ [])
-    checks_with (C.Chown group owner path) = (λ i. way path i ∷ exists path i ∷ right path write_owner i ∷ [])
-    checks_with (C.Access mask path) = (λ i. way path i ∷ exists path i ∷ [])
+    checks_with command = ap (map (run_check other caller)) (asked_with command)
+        ∙ (λ i. map (λ check. same_check check i) (checks_of command))
 
     default_with : (o : Option Object) → or_no_object (option_map (object_with new) o)
         ≡ object_with new (or_no_object o)

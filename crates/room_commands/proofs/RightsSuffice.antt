@@ -1,20 +1,21 @@
 -- Where the lists allow all that a command needs, no check refuses it for a right.
 use Rattle.room_commands.proofs.Common.{◌≡◌, ℕ, refl, ap, sym, subst, ◌∙◌, Bool, true, false, List, [], ◌∷◌}
 use Rattle.room_commands.proofs.Common.{Option, None, Some, inl, inr, is_none, ◌||◌, ◌⊎◌, if◌then◌else◌, AllByRecursion}
-use Rattle.room_commands.proofs.Common.{SubjectModel, Kind, File, Folder, Denied, read_data, list_directory, write_data}
-use Rattle.room_commands.proofs.Common.{add_file, append_data, add_subdirectory, execute, delete_child, read_attributes}
-use Rattle.room_commands.proofs.Common.{delete_object, read_acl, write_acl, write_owner, IsMask, Path, path_eq}
+use Rattle.room_commands.proofs.Common.{SubjectModel, Kind, File, Folder, Denied}
+use Rattle.room_commands.proofs.Common.{add_file, add_subdirectory, execute, delete_child}
+use Rattle.room_commands.proofs.Common.{delete_object, IsMask, Path}
 use Rattle.room_commands.proofs.Common.{Object, Room, object_at, list_of, standing_of, parent_of, RefusalCode, Access}
-use Rattle.room_commands.proofs.Common.{NoEnt, Inval, CommandModel, ReplyModel, Refusal, NotDone, IsNotDone}
-use Rattle.room_commands.proofs.Common.{first_refusal, checks, check_right, check_removal, denied_at, walk, refuse_if}
+use Rattle.room_commands.proofs.Common.{NoEnt, CommandModel, ReplyModel, Refusal, NotDone, IsNotDone}
+use Rattle.room_commands.proofs.Common.{map, RoomCheck, run_check, checks_of, first_refusal, checks, check_right, check_removal, denied_at, walk, refuse_if}
 use Rattle.room_commands.proofs.Common.{prefix_refusal, proper_prefixes, check_exists, check_folder, right_to_add, may}
-use Rattle.room_commands.proofs.Common.{object_or_default, check_lawful, check_folder_full, check_absent, check_depth}
-use Rattle.room_commands.proofs.Common.{is_root, is_at_or_below, effect, effect_by, HasRight, HasRemoval, HasWay}
+use Rattle.room_commands.proofs.Common.{object_or_default, check_lawful, check_folder_full}
+use Rattle.room_commands.proofs.Common.{effect, effect_by, HasRight, HasRemoval, HasWay}
 use Rattle.room_commands.proofs.Common.{NeedsAllowed, IsDenial}
 use Rattle.room_acl.specs.declared.inheritance.ListFault.{ListFault}
 use Rattle.room_acl.specs.declared.inheritance.ListFault.TheVariants as L
 use Rattle.room_acl.proofs.Decisions.{decision-allowed}
 use Rattle.room_commands.specs.CommandModel as C
+use Rattle.room_commands.specs.Checks as K
 use Rattle.room_commands.proofs.Rights.{all_mapped, all_prefixes}
 use Rattle.room_commands.proofs.ChecksTell.{exists_there}
 use Rattle.room_commands.proofs.RoomLaws.{reply_is_no_refusal}
@@ -85,10 +86,6 @@ module _ (room : Room) (caller : SubjectModel) where
       (also (plain _ _ (λ e. cc)) (also (plain _ _ (λ e. cc))
       (also (passes _ (granted front execute refl (way front rest name is))) tt))))))
 
-  right_plain : (path : Path) (right : ℕ) → IsMask right → HasRight room caller path right
-      → IsNoDenial (check_right room caller path right)
-  right_plain path right mask has = passes _ (granted path right mask has)
-
   -- the right to add what is moved
   added_plain : (path to : Path) (o : Object) → object_at room path ≡ Some o
       → (o.kind ≡ File → HasRight room caller (parent_of to) add_file)
@@ -99,64 +96,63 @@ module _ (room : Room) (caller : SubjectModel) where
       (sym is) (by_kind o.kind refl)
     where
       by_kind : (kind : Kind) → o.kind ≡ kind → IsNoDenial (check_right room caller (parent_of to) (right_to_add kind))
-      by_kind File file = right_plain (parent_of to) add_file refl (adds.0 file)
-      by_kind Folder folder = right_plain (parent_of to) add_subdirectory refl (adds.1 folder)
+      by_kind File file = passes _ (granted (parent_of to) add_file refl (adds.0 file))
+      by_kind Folder folder = passes _ (granted (parent_of to) add_subdirectory refl (adds.1 folder))
 
   full_plain : (same : Bool) (folder : Path) → IsNoDenial (if same then None else check_folder_full room folder)
   full_plain true folder = tt
   full_plain false folder = plain _ _ (λ e. cc)
 
+  -- what a check asks of the lists, if anything
+  abbrev IsGranted : RoomCheck → Type 0
+  IsGranted (K.Walks path) = HasWay room caller path
+  IsGranted (K.IsAllowed path right) = IsMask right × HasRight room caller path right
+  IsGranted (K.MayRemove path) = HasRemoval room caller path
+  IsGranted (K.MayMoveTo path to) = IsNoDenial (run_check room caller (K.MayMoveTo path to))
+  IsGranted check = Unit {0}
+
+  granted_plain : (check : RoomCheck) → IsGranted check → IsNoDenial (run_check room caller check)
+  granted_plain (K.Walks path) way = way_plain path way
+  granted_plain (K.IsAllowed path right) (mask, has) = passes _ (granted path right mask has)
+  granted_plain (K.MayRemove path) removal = passes _ (removal_granted path removal)
+  granted_plain (K.MayMoveTo path to) adds = adds
+  granted_plain (K.FolderTakesMoved path to) is = full_plain _ (parent_of to)
+  granted_plain (K.EntriesFit own path) is = lawful_plain _
+  granted_plain check is = plain _ _ (λ e. cc)
+
+  all_plain : (cs : List RoomCheck) → AllByRecursion IsGranted cs
+      → IsNoDenial (first_refusal (map (run_check room caller) cs))
+  all_plain [] all = tt
+  all_plain (c ∷ cs) all = first_by (run_check room caller c) _ (granted_plain c all.0) (λ passed. all_plain cs all.1)
+
   no_denial : (command : CommandModel) → NeedsAllowed room caller command
       → IsNoDenial (first_refusal (checks room caller command))
-  no_denial (C.Stat path) (right, way, _) = first_plain (checks room caller (C.Stat path))
-      (also (way_plain path way) (also (plain _ _ (λ e. cc)) (also (right_plain path read_attributes refl right) tt)))
-  no_denial (C.ListNames path) (right, way, _) = first_plain (checks room caller (C.ListNames path))
-      (also (way_plain path way) (also (plain _ _ (λ e. cc)) (also (plain _ _ (λ e. cc))
-      (also (right_plain path list_directory refl right) tt))))
-  no_denial (C.Mkdir path) (right, way, _) = first_plain (checks room caller (C.Mkdir path))
-      (also (plain _ _ (λ e. cc)) (also (way_plain path way) (also (plain _ _ (λ e. cc))
-      (also (right_plain (parent_of path) add_subdirectory refl right)
-      (also (plain _ _ (λ e. cc)) (also (plain _ _ (λ e. cc)) tt))))))
-  no_denial (C.Create bytes path) (right, way, _) = first_plain (checks room caller (C.Create bytes path))
-      (also (plain _ _ (λ e. cc)) (also (way_plain path way) (also (plain _ _ (λ e. cc))
-      (also (right_plain (parent_of path) add_file refl right)
-      (also (plain _ _ (λ e. cc)) (also (plain _ _ (λ e. cc)) (also (plain _ _ (λ e. cc)) tt)))))))
-  no_denial (C.Read path) (right, way, _) = first_plain (checks room caller (C.Read path))
-      (also (way_plain path way) (also (plain _ _ (λ e. cc)) (also (plain _ _ (λ e. cc))
-      (also (right_plain path read_data refl right) tt))))
-  no_denial (C.Write bytes path) (right, way, _) = first_plain (checks room caller (C.Write bytes path))
-      (also (way_plain path way) (also (plain _ _ (λ e. cc)) (also (plain _ _ (λ e. cc))
-      (also (right_plain path write_data refl right) (also (plain _ _ (λ e. cc)) tt)))))
-  no_denial (C.Append bytes path) (right, way, _) = first_plain (checks room caller (C.Append bytes path))
-      (also (way_plain path way) (also (plain _ _ (λ e. cc)) (also (plain _ _ (λ e. cc))
-      (also (right_plain path append_data refl right) (also (plain _ _ (λ e. cc)) tt)))))
-  no_denial (C.Remove path) (removal, way, _) = first_plain (checks room caller (C.Remove path))
-      (also (plain _ _ (λ e. cc)) (also (way_plain path way) (also (plain _ _ (λ e. cc))
-      (also (passes _ (removal_granted path removal)) (also (plain _ _ (λ e. cc)) tt)))))
+  no_denial (C.Stat path) (right, way, _) = all_plain (checks_of (C.Stat path)) (also way (also tt (also (refl, right) tt)))
+  no_denial (C.ListNames path) (right, way, _) =
+      all_plain (checks_of (C.ListNames path)) (also way (also tt (also tt (also (refl, right) tt))))
+  no_denial (C.Mkdir path) (right, way, _) =
+      all_plain (checks_of (C.Mkdir path)) (also tt (also way (also tt (also (refl, right) (also tt (also tt tt))))))
+  no_denial (C.Create bytes path) (right, way, _) =
+      all_plain (checks_of (C.Create bytes path)) (also tt (also way (also tt (also (refl, right) (also tt (also tt (also tt tt)))))))
+  no_denial (C.Read path) (right, way, _) = all_plain (checks_of (C.Read path)) (also way (also tt (also tt (also (refl, right) tt))))
+  no_denial (C.Write bytes path) (right, way, _) =
+      all_plain (checks_of (C.Write bytes path)) (also way (also tt (also tt (also (refl, right) (also tt tt)))))
+  no_denial (C.Append bytes path) (right, way, _) =
+      all_plain (checks_of (C.Append bytes path)) (also way (also tt (also tt (also (refl, right) (also tt tt)))))
+  no_denial (C.Remove path) (removal, way, _) = all_plain (checks_of (C.Remove path)) (also tt (also way (also tt (also removal (also tt tt)))))
   no_denial (C.Rename path to) ((removal, adds), way, way_to) =
-      first_by (refuse_if (is_root path || is_root to || is_at_or_below to path) Inval) _
-      (plain _ Inval (λ e. let no : Inval ≡ Access = e in cc))
+      first_by (run_check room caller (K.MovesOutside path to)) _ (granted_plain (K.MovesOutside path to) tt)
       (λ _. first_by (walk room caller path) _ (way_plain path way)
-      (λ _. first_by (check_exists room path) _ (plain _ NoEnt (λ e. let no : NoEnt ≡ Access = e in cc)) (λ there.
+      (λ _. first_by (check_exists room path) _ (granted_plain (K.IsThere path) tt) (λ there.
       let (o, is) = exists_there room path there in
-      first_plain (
-      walk room caller to ∷ check_absent room to ∷ check_removal room caller path
-      ∷ check_right room caller (parent_of to) (right_to_add (object_or_default room path).kind)
-      ∷ check_depth room path to
-      ∷ (if path_eq (parent_of path) (parent_of to) then None else check_folder_full room (parent_of to)) ∷ [])
-      (also (way_plain to way_to) (also (plain _ _ (λ e. cc)) (also (passes _ (removal_granted path removal))
-      (also (added_plain path to o is (adds o is)) (also (plain _ _ (λ e. cc))
-      (also (full_plain _ (parent_of to)) tt)))))))))
-  no_denial (C.GetList path) (right, way, _) = first_plain (checks room caller (C.GetList path))
-      (also (way_plain path way) (also (plain _ _ (λ e. cc)) (also (right_plain path read_acl refl right) tt)))
-  no_denial (C.SetList aclflag entries path) (right, way, _) = first_plain (checks room caller
-      (C.SetList aclflag entries path))
-      (also (way_plain path way) (also (plain _ _ (λ e. cc)) (also (right_plain path write_acl refl right)
-      (also (lawful_plain _) tt))))
-  no_denial (C.Chown group owner path) (right, way, _) = first_plain (checks room caller (C.Chown group owner path))
-      (also (way_plain path way) (also (plain _ _ (λ e. cc)) (also (right_plain path write_owner refl right) tt)))
-  no_denial (C.Access mask path) (_, way, _) = first_plain (checks room caller (C.Access mask path))
-      (also (way_plain path way) (also (plain _ _ (λ e. cc)) tt))
+      all_plain (K.Walks to ∷ K.IsFree to ∷ K.MayRemove path ∷ K.MayMoveTo path to ∷ K.DepthFits path to
+      ∷ K.FolderTakesMoved path to ∷ []) (also way_to (also tt (also removal (also (added_plain path to o is (adds o is)) (also tt (also tt tt)))))))))
+  no_denial (C.GetList path) (right, way, _) = all_plain (checks_of (C.GetList path)) (also way (also tt (also (refl, right) tt)))
+  no_denial (C.SetList aclflag entries path) (right, way, _) =
+      all_plain (checks_of (C.SetList aclflag entries path)) (also way (also tt (also (refl, right) (also tt tt))))
+  no_denial (C.Chown group owner path) (right, way, _) =
+      all_plain (checks_of (C.Chown group owner path)) (also way (also tt (also (refl, right) tt)))
+  no_denial (C.Access mask path) (_, way, _) = all_plain (checks_of (C.Access mask path)) (also way (also tt tt))
 
   code_of : ReplyModel → RefusalCode
   code_of (NotDone r) = r.code

@@ -15,6 +15,7 @@ use Rattle.room_acl.specs.Bits.{read_data, list_directory, write_data, add_file,
 use Rattle.room_acl.specs.Bits.{delete_child, read_attributes, delete_object, read_acl, write_acl, write_owner}
 use Rattle.room_acl.specs.Bits.{no_list_flags}
 use Rattle.room_acl.specs.SubjectModel.{SubjectModel}
+use Rattle.room_acl.specs.Entries.{EntryModel}
 use Rattle.room_acl.specs.Access.{decision}
 use Rattle.room_acl.specs.Inheritance.{own_entries_fault}
 use Rattle.room_records.specs.Limits.{max_names, max_children, max_document}
@@ -159,44 +160,76 @@ abbrev pub check_lawful : Option ListFault → Option Refusal
 check_lawful None = None
 check_lawful (Some fault) = Some (refusal_without_place (list_fault_code fault))
 
+-- a kind of check, with what it asks
+pub data RoomCheck : Type 0 where
+  -- what is made, removed or moved is not the root, and nothing moves into itself
+  MakesBelowRoot : Path → RoomCheck
+  RemovesBelowRoot : Path → RoomCheck
+  MovesOutside : Path → Path → RoomCheck
+  -- what is there, on the way and at its end
+  Walks : Path → RoomCheck
+  IsThere : Path → RoomCheck
+  IsFree : Path → RoomCheck
+  IsNoFile : Path → RoomCheck
+  IsNoFolder : Path → RoomCheck
+  IsEmpty : Path → RoomCheck
+  -- rights: on an object, to remove it, and to add to the folder of the second path what is at the first
+  IsAllowed : Path → ℕ → RoomCheck
+  MayRemove : Path → RoomCheck
+  MayMoveTo : Path → Path → RoomCheck
+  -- limits: of a new object, of what moves, of a number of bytes alone or behind those of a file, and of own entries
+  FolderTakes : Path → RoomCheck
+  RoomTakes : RoomCheck
+  FolderTakesMoved : Path → Path → RoomCheck
+  DepthFits : Path → Path → RoomCheck
+  SizeFits : ℕ → RoomCheck
+  LongerFits : Path → ℕ → RoomCheck
+  EntriesFit : List EntryModel → Path → RoomCheck
+
+abbrev pub run_check : Room → SubjectModel → RoomCheck → Option Refusal
+run_check room caller (MakesBelowRoot path) = refuse_if (is_root path) Exist
+run_check room caller (RemovesBelowRoot path) = refuse_if (is_root path) Inval
+run_check room caller (MovesOutside path to) = refuse_if (is_root path || is_root to || is_at_or_below to path) Inval
+run_check room caller (Walks path) = walk room caller path
+run_check room caller (IsThere path) = check_exists room path
+run_check room caller (IsFree path) = check_absent room path
+run_check room caller (IsNoFile path) = check_folder room path
+run_check room caller (IsNoFolder path) = check_file room path
+run_check room caller (IsEmpty path) = refuse_if (nat_lt 0 (length (children room path))) NotEmpty
+run_check room caller (IsAllowed path right) = check_right room caller path right
+run_check room caller (MayRemove path) = check_removal room caller path
+run_check room caller (MayMoveTo path to) =
+    check_right room caller (parent_of to) (right_to_add (object_or_default room path).kind)
+run_check room caller (FolderTakes folder) = check_folder_full room folder
+run_check room caller RoomTakes = check_room_full room
+run_check room caller (FolderTakesMoved path to) =
+    if path_eq (parent_of path) (parent_of to) then None else check_folder_full room (parent_of to)
+run_check room caller (DepthFits path to) = check_depth room path to
+run_check room caller (SizeFits size) = check_size size
+run_check room caller (LongerFits path more) = check_size (length (bytes_at room path) + more)
+run_check room caller (EntriesFit own path) = check_lawful (own_entries_fault own (object_or_default room path).kind)
+
 -- the checks of each command (our own rule)
+abbrev pub checks_of : CommandModel → List RoomCheck
+checks_of (C.Stat path) = Walks path ∷ IsThere path ∷ IsAllowed path read_attributes ∷ []
+checks_of (C.ListNames path) = Walks path ∷ IsThere path ∷ IsNoFile path ∷ IsAllowed path list_directory ∷ []
+checks_of (C.Mkdir path) = MakesBelowRoot path ∷ Walks path ∷ IsFree path ∷ IsAllowed (parent_of path) add_subdirectory
+    ∷ FolderTakes (parent_of path) ∷ RoomTakes ∷ []
+checks_of (C.Create bytes path) = MakesBelowRoot path ∷ Walks path ∷ IsFree path ∷ IsAllowed (parent_of path) add_file
+    ∷ SizeFits (length bytes) ∷ FolderTakes (parent_of path) ∷ RoomTakes ∷ []
+checks_of (C.Read path) = Walks path ∷ IsThere path ∷ IsNoFolder path ∷ IsAllowed path read_data ∷ []
+checks_of (C.Write bytes path) = Walks path ∷ IsThere path ∷ IsNoFolder path ∷ IsAllowed path write_data
+    ∷ SizeFits (length bytes) ∷ []
+checks_of (C.Append bytes path) = Walks path ∷ IsThere path ∷ IsNoFolder path ∷ IsAllowed path append_data
+    ∷ LongerFits path (length bytes) ∷ []
+checks_of (C.Remove path) = RemovesBelowRoot path ∷ Walks path ∷ IsThere path ∷ MayRemove path ∷ IsEmpty path ∷ []
+checks_of (C.Rename path to) = MovesOutside path to ∷ Walks path ∷ IsThere path ∷ Walks to ∷ IsFree to ∷ MayRemove path
+    ∷ MayMoveTo path to ∷ DepthFits path to ∷ FolderTakesMoved path to ∷ []
+checks_of (C.GetList path) = Walks path ∷ IsThere path ∷ IsAllowed path read_acl ∷ []
+checks_of (C.SetList aclflag entries path) = Walks path ∷ IsThere path ∷ IsAllowed path write_acl
+    ∷ EntriesFit (own_entries_of_setlist path aclflag entries) path ∷ []
+checks_of (C.Chown group owner path) = Walks path ∷ IsThere path ∷ IsAllowed path write_owner ∷ []
+checks_of (C.Access mask path) = Walks path ∷ IsThere path ∷ []
+
 abbrev pub checks : Room → SubjectModel → CommandModel → List (Option Refusal)
-checks room caller (C.Stat path) =
-    walk room caller path ∷ check_exists room path ∷ check_right room caller path read_attributes ∷ []
-checks room caller (C.ListNames path) = walk room caller path ∷ check_exists room path
-    ∷ check_folder room path ∷ check_right room caller path list_directory ∷ []
-checks room caller (C.Mkdir path) =
-    refuse_if (is_root path) Exist ∷ walk room caller path ∷ check_absent room path
-    ∷ check_right room caller (parent_of path) add_subdirectory
-    ∷ check_folder_full room (parent_of path) ∷ check_room_full room ∷ []
-checks room caller (C.Create bytes path) =
-    refuse_if (is_root path) Exist ∷ walk room caller path ∷ check_absent room path
-    ∷ check_right room caller (parent_of path) add_file
-    ∷ check_size (length bytes) ∷ check_folder_full room (parent_of path) ∷ check_room_full room ∷ []
-checks room caller (C.Read path) =
-    walk room caller path ∷ check_exists room path ∷ check_file room path ∷ check_right room caller path read_data ∷ []
-checks room caller (C.Write bytes path) =
-    walk room caller path ∷ check_exists room path ∷ check_file room path
-    ∷ check_right room caller path write_data ∷ check_size (length bytes) ∷ []
-checks room caller (C.Append bytes path) =
-    walk room caller path ∷ check_exists room path ∷ check_file room path ∷ check_right room caller path append_data
-    ∷ check_size (length (bytes_at room path) + length bytes) ∷ []
-checks room caller (C.Remove path) =
-    refuse_if (is_root path) Inval ∷ walk room caller path ∷ check_exists room path ∷ check_removal room caller path
-    ∷ refuse_if (nat_lt 0 (length (children room path))) NotEmpty ∷ []
-checks room caller (C.Rename path to) =
-    refuse_if (is_root path || is_root to || is_at_or_below to path) Inval
-    ∷ walk room caller path ∷ check_exists room path ∷ walk room caller to
-    ∷ check_absent room to ∷ check_removal room caller path
-    ∷ check_right room caller (parent_of to) (right_to_add (object_or_default room path).kind)
-    ∷ check_depth room path to
-    ∷ (if path_eq (parent_of path) (parent_of to) then None else check_folder_full room (parent_of to)) ∷ []
-checks room caller (C.GetList path) =
-    walk room caller path ∷ check_exists room path ∷ check_right room caller path read_acl ∷ []
-checks room caller (C.SetList aclflag entries path) =
-    walk room caller path ∷ check_exists room path ∷ check_right room caller path write_acl
-    ∷ check_lawful (own_entries_fault (own_entries_of_setlist path aclflag entries) (object_or_default room path).kind)
-    ∷ []
-checks room caller (C.Chown group owner path) =
-    walk room caller path ∷ check_exists room path ∷ check_right room caller path write_owner ∷ []
-checks room caller (C.Access mask path) = walk room caller path ∷ check_exists room path ∷ []
+checks room caller command = map (run_check room caller) (checks_of command)
