@@ -1,5 +1,5 @@
 -- A command that changes bytes alone leaves rooms that look alike so.
-use Rattle.room_commands.proofs.Common.{◌≡◌, ℕ, ◌+◌, refl, ap, sym, ◌∙◌, Bool, true, false, not, ◌&&◌, ◌||◌, List, ◌++◌}
+use Rattle.room_commands.proofs.Common.{◌⊎◌, inl, inr, ◌≡◌, ℕ, ◌+◌, refl, ap, sym, ◌∙◌, Bool, true, false, not, ◌&&◌, ◌||◌, List, ◌++◌}
 use Rattle.room_commands.proofs.Common.{length, Option, None, Some, ◌==◌, cond, option_map, length-append, is_none}
 use Rattle.room_commands.proofs.Common.{Result, Kind, File, Folder, read_data, list_directory, add_file, append_data}
 use Rattle.room_commands.proofs.Common.{add_subdirectory, read_attributes, read_acl, delete_object, delete_child}
@@ -41,17 +41,18 @@ abbrev pub size_with : List (Name × Kind) → List ℕ → Kind → ℕ
 size_with names bytes File = length bytes
 size_with names bytes Folder = length names
 
+abbrev pub attributes_sized : ℕ → Object → Attributes
+attributes_sized size o =
+    record { aclflag = o.aclflag; group = o.group; kind = o.kind; owner = o.owner; size = size }
+
+abbrev pub attributes_with : List (Name × Kind) → Object → Attributes
+attributes_with names o = attributes_sized (size_with names o.bytes o.kind) o
+
 abbrev pub sight_with : SubjectModel → Facts → Object → Sight
 sight_with caller facts o = record {
   kind = o.kind;
   rights = allowed_mask facts.list caller (standing_of o);
-  attributes = then_some (facts.may read_attributes) (record {
-    aclflag = o.aclflag;
-    group = o.group;
-    kind = o.kind;
-    owner = o.owner;
-    size = size_with facts.names o.bytes o.kind;
-  });
+  attributes = then_some (facts.may read_attributes) (attributes_with facts.names o);
   names = then_some (not (is_file o.kind) && facts.may list_directory) facts.names;
   bytes = then_some (is_file o.kind && facts.may read_data) o.bytes;
   entries = then_some (facts.may read_acl) (o.aclflag, facts.list);
@@ -72,8 +73,7 @@ module _ (room : Room) (caller : SubjectModel) (path : Path) where
   sight_by_facts : (o : Object) → object_at room path ≡ Some o
       → sight_of room caller path o ≡ sight_with caller (facts_at room caller path) o
   sight_by_facts o is = ap (λ (n : ℕ). record (sight_of room caller path o) {
-    attributes = then_some (may room caller path read_attributes)
-        (record { aclflag = o.aclflag; group = o.group; kind = o.kind; owner = o.owner; size = n });
+    attributes = then_some (may room caller path read_attributes) (attributes_sized n o);
   }) (size_by_facts o is o.kind)
 
   there_by_facts : (found : Option Object) → object_at room path ≡ found
@@ -84,6 +84,17 @@ module _ (room : Room) (caller : SubjectModel) (path : Path) where
   pub view_by_facts : view room caller path
       ≡ view_with caller (walk room caller path) (facts_at room caller path) (object_at room path)
   view_by_facts = ap (if_reached (walk room caller path)) (there_by_facts (object_at room path) refl)
+
+pub shown_map : {X Y : Type 0} (f : X → Y) (test : Bool) (x : X)
+    → then_some test (f x) ≡ option_map f (then_some test x)
+shown_map f true x = refl
+shown_map f false x = refl
+
+pub same_or_hidden : {X : Type 0} (test : Bool) (x y : X) → (x ≡ y) ⊎ (test ≡ false)
+    → then_some test x ≡ then_some test y
+same_or_hidden test x y (inl same) = ap (then_some test) same
+same_or_hidden true x y (inr off) = let no : true ≡ false = off in cc
+same_or_hidden false x y (inr off) = refl
 
 -- new bytes, by what was there, and how many they are
 module _ (new : List ℕ → List ℕ) (count : ℕ → ℕ) (counts : (l : List ℕ) → length (new l) ≡ count (length l)) where
@@ -102,29 +113,18 @@ module _ (new : List ℕ → List ℕ) (count : ℕ → ℕ) (counts : (l : List
   view_written false seen = seen
   view_written true seen = seen_less sight_written seen
 
-  shown_then : {X Y : Type 0} (f : X → Y) (test : Bool) (x : X) → then_some test (f x) ≡ option_map f (then_some test x)
-  shown_then f true x = refl
-  shown_then f false x = refl
-
   sight_after : (caller : SubjectModel) (facts : Facts) (o : Object) → o.kind ≡ File
       → sight_with caller facts (write_to o) ≡ sight_written (sight_with caller facts o)
   sight_after caller facts o file =
       let size : size_with facts.names (new o.bytes) o.kind ≡ count (size_with facts.names o.bytes o.kind) =
       ap (size_with facts.names (new o.bytes)) file ∙ counts o.bytes
       ∙ ap (λ kind. count (size_with facts.names o.bytes kind)) (sym file) in
-      let attributes = ap (λ (n : ℕ). then_some (facts.may read_attributes) (let made : Attributes =
-      record { aclflag = o.aclflag; group = o.group; kind = o.kind; owner = o.owner; size = n } in made)) size
-      ∙ shown_then (λ (x : Attributes). record x { size = count x.size }) (facts.may read_attributes)
-      (record {
-        aclflag = o.aclflag;
-        group = o.group;
-        kind = o.kind;
-        owner = o.owner;
-        size = size_with facts.names o.bytes o.kind;
-      }) in
-      let bytes = shown_then new (is_file o.kind && facts.may read_data) o.bytes in
+      let attributes = ap (λ (n : ℕ). then_some (facts.may read_attributes) (attributes_sized n o)) size
+      ∙ shown_map (λ (x : Attributes). record x { size = count x.size }) (facts.may read_attributes)
+      (attributes_with facts.names o) in
+      let bytes = shown_map new (is_file o.kind && facts.may read_data) o.bytes in
       let length_shown = ap (then_some (is_file o.kind && facts.may append_data)) (counts o.bytes)
-      ∙ shown_then count (is_file o.kind && facts.may append_data) (length o.bytes) in
+      ∙ shown_map count (is_file o.kind && facts.may append_data) (length o.bytes) in
       (λ i. record (sight_with caller facts o) {
         attributes = attributes i;
         bytes = bytes i;

@@ -272,70 +272,60 @@ module _ (a b : Room) (caller : SubjectModel) (room_a : IsRoom a) (room_b : IsRo
       })
 
   -- a file written
-  bytes_set : (p : Path) (new : List ℕ → List ℕ)
-      → LooksAlike caller (with_object a p (λ o. record o { bytes = new o.bytes }))
-      (with_object b p (λ o. record o { bytes = new o.bytes }))
-      → StayAlike caller (with_object a p (λ o. record o { bytes = new o.bytes }))
-      (with_object b p (λ o. record o { bytes = new o.bytes }))
-  bytes_set p new looks = record {
-    now = looks;
-    adding = λ folder name kind walked adds.
-        let given = before.adding folder name kind (sym (way a (folder ++ name ∷ [])) ∙ walked)
-        (sym (ap is_none (rights a folder (right_to_add kind))) ∙ adds) in (
-          given.0,
-          group a folder ∙ given.1 ∙ sym (group b folder),
-          ap (λ entries. handed_down entries kind) (lists a folder) ∙ given.2
-              ∙ ap (λ entries. handed_down entries kind) (sym (lists b folder)),
-        );
-    moving = λ q walked removes.
-        after_both q (before.moving q (sym (way a q) ∙ walked) ((λ i. not (is_root q)
-        && (is_none (sym (rights a q delete_object) i) || is_none (sym (rights a (parent_of q) delete_child) i)))
-        ∙ removes));
-    setting = λ q walked sets.
-        let was = before.setting q (sym (way a q) ∙ walked)
-        ((λ i. is_none (sym (rights a q write_acl) i) || is_none (sym (rights a q write_owner) i)) ∙ sets) in (
-          after_both q was.0,
-          handed a q ∙ was.1 ∙ sym (handed b q),
-          λ folder. was.2 (sym (kind_kept (with_object a p (λ o. record o { bytes = new o.bytes })) a (out a) q Folder)
-              ∙ folder),
-        );
-  }
-    where
-      out : (room : Room) (q : Path)
-          → without_bytes (object_at (with_object room p (λ o. record o { bytes = new o.bytes })) q)
-          ≡ without_bytes (object_at room q)
-      out room = bytes_stay_out room p new
+  module _ (p : Path) (new : List ℕ → List ℕ) where
+    abbrev written : Room → Room
+    written room = with_object room p (λ o. record o { bytes = new o.bytes })
 
-      way : (room : Room) (q : Path)
-          → walk (with_object room p (λ o. record o { bytes = new o.bytes })) caller q ≡ walk room caller q
-      way room = walk_alike (with_object room p (λ o. record o { bytes = new o.bytes })) room caller (out room)
+    out : (room : Room) (q : Path) → without_bytes (object_at (written room) q) ≡ without_bytes (object_at room q)
+    out room = bytes_stay_out room p new
 
-      rights : (room : Room) (q : Path) (wanted : ℕ)
-          → check_right (with_object room p (λ o. record o { bytes = new o.bytes })) caller q wanted
-          ≡ check_right room caller q wanted
-      rights room = right_alike (with_object room p (λ o. record o { bytes = new o.bytes })) room caller (out room)
+    way : (room : Room) (q : Path) → walk (written room) caller q ≡ walk room caller q
+    way room = walk_alike (written room) room caller (out room)
 
-      lists : (room : Room) (q : Path)
-          → list_of (with_object room p (λ o. record o { bytes = new o.bytes })) q ≡ list_of room q
-      lists room = lists_without_bytes (with_object room p (λ o. record o { bytes = new o.bytes })) room (out room)
+    rights : (room : Room) (q : Path) (wanted : ℕ)
+        → check_right (written room) caller q wanted ≡ check_right room caller q wanted
+    rights room = right_alike (written room) room caller (out room)
 
-      group : (room : Room) (q : Path)
-          → (object_or_default (with_object room p (λ o. record o { bytes = new o.bytes })) q).group
-          ≡ (object_or_default room q).group
-      group room = group_kept (with_object room p (λ o. record o { bytes = new o.bytes })) room (out room)
+    lists : (room : Room) (q : Path) → list_of (written room) q ≡ list_of room q
+    lists room = lists_without_bytes (written room) room (out room)
 
-      handed : (room : Room) (q : Path)
-          → handed_to (with_object room p (λ o. record o { bytes = new o.bytes })) q ≡ handed_to room q
-      handed room = handed_kept (with_object room p (λ o. record o { bytes = new o.bytes })) room (out room)
+    group : (room : Room) (q : Path) → (object_or_default (written room) q).group ≡ (object_or_default room q).group
+    group room = group_kept (written room) room (out room)
 
-      after_both : (q : Path) → SameBelow a b q
-          → SameBelow (with_object a p (λ o. record o { bytes = new o.bytes }))
-          (with_object b p (λ o. record o { bytes = new o.bytes })) q
-      after_both q same rest =
-          after_change a p (λ o. record o { bytes = new o.bytes }) (q ++ rest)
-          ∙ (λ i. cond (path_eq (q ++ rest) p)
-          (option_map (λ (o : Object). record o { bytes = new o.bytes }) (same rest i)) (same rest i))
-          ∙ sym (after_change b p (λ o. record o { bytes = new o.bytes }) (q ++ rest))
+    handed : (room : Room) (q : Path) → handed_to (written room) q ≡ handed_to room q
+    handed room = handed_kept (written room) room (out room)
+
+    after_both : (q : Path) → SameBelow a b q → SameBelow (written a) (written b) q
+    after_both q same rest =
+        after_change a p (λ o. record o { bytes = new o.bytes }) (q ++ rest)
+        ∙ (λ i. cond (path_eq (q ++ rest) p)
+        (option_map (λ (o : Object). record o { bytes = new o.bytes }) (same rest i)) (same rest i))
+        ∙ sym (after_change b p (λ o. record o { bytes = new o.bytes }) (q ++ rest))
+
+    bytes_set : LooksAlike caller (written a) (written b) → StayAlike caller (written a) (written b)
+    bytes_set looks = record {
+      now = looks;
+      adding = λ folder name kind walked adds.
+          let given = before.adding folder name kind (sym (way a (folder ++ name ∷ [])) ∙ walked)
+          (sym (ap is_none (rights a folder (right_to_add kind))) ∙ adds) in (
+            given.0,
+            group a folder ∙ given.1 ∙ sym (group b folder),
+            ap (λ entries. handed_down entries kind) (lists a folder) ∙ given.2
+                ∙ ap (λ entries. handed_down entries kind) (sym (lists b folder)),
+          );
+      moving = λ q walked removes.
+          after_both q (before.moving q (sym (way a q) ∙ walked) ((λ i. not (is_root q)
+          && (is_none (sym (rights a q delete_object) i) || is_none (sym (rights a (parent_of q) delete_child) i)))
+          ∙ removes));
+      setting = λ q walked sets.
+          let was = before.setting q (sym (way a q) ∙ walked)
+          ((λ i. is_none (sym (rights a q write_acl) i) || is_none (sym (rights a q write_owner) i)) ∙ sets) in (
+            after_both q was.0,
+            handed a q ∙ was.1 ∙ sym (handed b q),
+            λ folder. was.2 (sym (kind_kept (written a) a (out a) q Folder)
+                ∙ folder),
+          );
+    }
 
   empty_of : (room : Room) (p : Path) → refuse_if (nat_lt 0 (length (children room p))) NotEmpty ≡ None
       → length (children room p) ≡ 0

@@ -19,7 +19,7 @@ use Rattle.room_commands.proofs.RoomsRenamed.{rest_below, one_continues, away, o
 use Rattle.room_commands.proofs.RoomLaws.{room_if_passed}
 use Rattle.room_commands.proofs.Looks.{walk_end}
 use Rattle.room_commands.proofs.EffectIsRoom.{effect_is_room}
-use Rattle.room_commands.proofs.BytesAlone.{Facts, facts_at, sight_with, size_with, view_with, view_by_facts}
+use Rattle.room_commands.proofs.BytesAlone.{attributes_sized, Facts, facts_at, sight_with, size_with, view_with, view_by_facts}
 use Rattle.room_commands.proofs.SameParts.{children_same, depth_same, walk_same}
 use Rattle.room_commands.proofs.Staying.{Off, Below_p, Below_t, Away, place, child_off, prefix_out, walk_out, facts_out}
 use Rattle.room_commands.proofs.CommandsStay.{apart_from, own_fronts, moved_fronts}
@@ -96,19 +96,8 @@ off_below p q rest off above = false_from_ne_true (is_at_or_below (q ++ rest) p)
 -- what is left out of a view
 module _ (caller : SubjectModel) (facts : Facts) (names : List (Name × Kind)) (depth : ℕ) (full : Bool) where
   sizes : (test : Bool) (o : Object) (m n : ℕ)
-      → option_map (λ (x : Attributes). record x { size = 0 }) (then_some test (let x : Attributes = record {
-        aclflag = o.aclflag;
-        group = o.group;
-        kind = o.kind;
-        owner = o.owner;
-        size = m;
-      } in x)) ≡ option_map (λ (x : Attributes). record x { size = 0 }) (then_some test (let x : Attributes = record {
-        aclflag = o.aclflag;
-        group = o.group;
-        kind = o.kind;
-        owner = o.owner;
-        size = n;
-      } in x))
+      → option_map (λ (x : Attributes). record x { size = 0 }) (then_some test (attributes_sized m o))
+      ≡ option_map (λ (x : Attributes). record x { size = 0 }) (then_some test (attributes_sized n o))
   sizes true o m n = refl
   sizes false o m n = refl
 

@@ -4,9 +4,9 @@ use Rattle.room_commands.proofs.Common.{◌++◌, length, Option, None, Some, is
 use Rattle.room_commands.proofs.Common.{append_assoc, ◌⊎◌, inl, inr, is_none, both_ways, Kind, File, Folder, execute}
 use Rattle.room_commands.proofs.Common.{list_directory, add_file, add_subdirectory, append_data, read_attributes}
 use Rattle.room_commands.proofs.Common.{read_data, delete_child, delete_object, read_acl, SubjectModel, EntryModel}
-use Rattle.room_commands.proofs.Common.{allowed_mask, Name, Path, path_eq, Object, Room, object_at, list_of}
+use Rattle.room_commands.proofs.Common.{allowed_mask, Path, path_eq, Object, Room, object_at, list_of}
 use Rattle.room_commands.proofs.Common.{standing_of, parent_of, some_is, same_path, parent_of_end, ends, Refusal}
-use Rattle.room_commands.proofs.Common.{Attributes, NoEnt, NotDir, own_entries_of_setlist, first_refusal, refuse_if}
+use Rattle.room_commands.proofs.Common.{NoEnt, NotDir, own_entries_of_setlist, first_refusal, refuse_if}
 use Rattle.room_commands.proofs.Common.{refusal_without_place, denied_at, check_right, is_file, is_kind, is_at_or_below}
 use Rattle.room_commands.proofs.Common.{prefix_refusal, walk, effect_by, with_object, LooksAlike, view, may, may_remove}
 use Rattle.room_commands.proofs.Common.{rights_at, ListUnseen, then_some}
@@ -14,7 +14,7 @@ use Rattle.room_commands.specs.CommandModel as C
 use Rattle.room_commands.proofs.Renaming.{at_behind}
 use Rattle.room_commands.proofs.RoomsObject.{after_change, elsewhere_unchanged, kinds_stay, children_stay, depth_stays}
 use Rattle.room_commands.proofs.Looks.{then_alike, walk_end, walk_to_folder, decision_in, decided_by_rights}
-use Rattle.room_commands.proofs.BytesAlone.{Facts, facts_at, sight_with, size_with, view_with, view_by_facts}
+use Rattle.room_commands.proofs.BytesAlone.{attributes_with, same_or_hidden, Facts, facts_at, sight_with, view_with, view_by_facts}
 use Rattle.room_commands.proofs.Staying.{Off, Below_p, Below_t, Away, place, list_out}
 use Rattle.room_commands.proofs.Elsewhere.{nothing_seen}
 use Rattle.room_commands.proofs.Shorthands.{if_reached, right_on}
@@ -94,19 +94,6 @@ module _ (a b : Room) (caller : SubjectModel) (kinds : (q : Path) → kind_in (o
       (walk_to_folder a caller end.folder end.name (ap (walk a caller) (sym end.is) ∙ reached)).0 delete_child) in
       (λ i. may_kept (first ∷ rest) reached delete_object i || above i)
 
-hidden_both : {X : Type 0} (test : Bool) (x y : X) → test ≡ false → then_some test x ≡ then_some test y
-hidden_both true x y off = let no : true ≡ false = off in cc
-hidden_both false x y off = refl
-
-abbrev attributes_with : List (Name × Kind) → Object → Attributes
-attributes_with names o = record {
-  aclflag = o.aclflag;
-  group = o.group;
-  kind = o.kind;
-  owner = o.owner;
-  size = size_with names o.bytes o.kind;
-}
-
 -- a sight with another list, and of the object with another owner, that both stay hidden
 sight_hidden : (caller : SubjectModel) (facts : Facts) (list : List EntryModel) (o later : Object)
     → o.kind ≡ later.kind → o.bytes ≡ later.bytes
@@ -119,7 +106,7 @@ sight_hidden caller facts list o later kind bytes rights no_list same = (λ i. r
   attributes = attributes i;
   names = then_some (not (is_file (kind i)) && facts.may list_directory) facts.names;
   bytes = then_some (is_file (kind i) && facts.may read_data) (bytes i);
-  entries = hidden_both (facts.may read_acl) (o.aclflag, facts.list) (later.aclflag, list) no_list i;
+  entries = same_or_hidden (facts.may read_acl) (o.aclflag, facts.list) (later.aclflag, list) (inr no_list) i;
   size = then_some (is_file (kind i) && facts.may append_data) (length (bytes i));
   depth = then_some facts.removes facts.depth;
   full = then_some (not (is_file (kind i)) && (facts.may add_file || facts.may add_subdirectory)) facts.full;
@@ -127,11 +114,9 @@ sight_hidden caller facts list o later kind bytes rights no_list same = (λ i. r
   where
     attributes : then_some (facts.may read_attributes) (attributes_with facts.names o)
         ≡ then_some (facts.may read_attributes) (attributes_with facts.names later)
-    attributes = elim same [
-      | inl is ↦ ap (λ x. then_some (facts.may read_attributes) (attributes_with facts.names x)) is
-      | inr off ↦ hidden_both (facts.may read_attributes) (attributes_with facts.names o)
-          (attributes_with facts.names later) off
-    ]
+    attributes = same_or_hidden (facts.may read_attributes) (attributes_with facts.names o)
+        (attributes_with facts.names later)
+        (elim same [ inl is ↦ inl (ap (attributes_with facts.names) is) | inr off ↦ inr off ])
 
 -- an object that keeps its kind and its bytes
 module _ (room : Room) (caller : SubjectModel) (path : Path) (change : Object → Object)

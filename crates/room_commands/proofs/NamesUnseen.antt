@@ -4,15 +4,15 @@ use Rattle.room_commands.proofs.Common.{List, [], ◌∷◌, ◌++◌, append_as
 use Rattle.room_commands.proofs.Common.{cases_Bool, and_right, or_parts, Kind, File, Folder, list_directory, add_file}
 use Rattle.room_commands.proofs.Common.{add_subdirectory, read_attributes, SubjectModel, Name, Path, Object, Room}
 use Rattle.room_commands.proofs.Common.{IsRoom, object_at, children, parent_of, parent_of_end, ends, CommandModel}
-use Rattle.room_commands.proofs.Common.{paths_of, Refusal, Attributes, IsLawful, walk, is_file, is_at_or_below, is_full}
+use Rattle.room_commands.proofs.Common.{paths_of, Refusal, IsLawful, walk, is_file, is_at_or_below, is_full}
 use Rattle.room_commands.proofs.Common.{check_folder_full, effect, view, may_add, may_remove, may_set, depth_in, IsOff}
-use Rattle.room_commands.proofs.Common.{IsUnlisted, AddsNowhere, but_depth, view_less, then_some}
+use Rattle.room_commands.proofs.Common.{IsUnlisted, AddsNowhere, but_depth, view_less}
 use Rattle.room_commands.proofs.RoomsRenamed.{rest_below}
 use Rattle.room_commands.proofs.Renaming.{at_behind}
 use Rattle.room_commands.proofs.EffectIsRoom.{effect_is_room}
 use Rattle.room_commands.proofs.Looks.{walk_to_folder}
 use Rattle.room_commands.proofs.NothingShows.{AlikeAt, reply_at}
-use Rattle.room_commands.proofs.BytesAlone.{Facts, facts_at, sight_with, size_with, view_with, view_by_facts}
+use Rattle.room_commands.proofs.BytesAlone.{attributes_with, same_or_hidden, Facts, facts_at, sight_with, view_with, view_by_facts}
 use Rattle.room_commands.proofs.Staying.{Off, in_folder}
 use Rattle.room_commands.proofs.Elsewhere.{Leaves, by_result, view_off, view_named, by_place, depth_out, depth_stays}
 use Rattle.room_commands.proofs.Shorthands.{if_reached, seen_less}
@@ -32,11 +32,6 @@ abbrev pub FoldersFullUnseen : SubjectModel → Room → Room → Type 0
 FoldersFullUnseen caller room later = (folder : Path) → walk room caller folder ≡ None
     → may_add room caller folder ≡ true → check_folder_full later folder ≡ check_folder_full room folder
 
-same_or_hidden : {X : Type 0} (test : Bool) (x y : X) → (x ≡ y) ⊎ (test ≡ false) → then_some test x ≡ then_some test y
-same_or_hidden test x y (inl same) = ap (then_some test) same
-same_or_hidden true x y (inr off) = let no : true ≡ false = off in cc
-same_or_hidden false x y (inr off) = refl
-
 -- a sight of a folder without its names, and how many they are
 abbrev Unnamed : Facts → Type 0
 Unnamed facts = (facts.may list_directory ≡ false) × (facts.may read_attributes ≡ false)
@@ -47,14 +42,7 @@ unnamed_same : (caller : SubjectModel) (facts : Facts) (names : List (Name × Ki
 unnamed_same caller facts names (Some r) o unnamed = refl
 unnamed_same caller facts names None None unnamed = refl
 unnamed_same caller facts names None (Some o) unnamed =
-    let attributes_with : List (Name × Kind) → Attributes = λ names. record {
-      aclflag = o.aclflag;
-      group = o.group;
-      kind = o.kind;
-      owner = o.owner;
-      size = size_with names o.bytes o.kind;
-    } in
-    let attributes = same_or_hidden (facts.may read_attributes) (attributes_with names) (attributes_with facts.names)
+    let attributes = same_or_hidden (facts.may read_attributes) (attributes_with names o) (attributes_with facts.names o)
     (inr (unnamed refl).1) in
     let listed = same_or_hidden (not (is_file o.kind) && facts.may list_directory) names facts.names
     (inr (and_right (not (is_file o.kind)) (facts.may list_directory) (unnamed refl).0)) in

@@ -76,7 +76,7 @@ alike_at a b caller alike path = record {
       ∙ ap (check_folder_full b) (sym folder);
 }
 
-adds_either : (kind : Kind) (may : ℕ → Bool) → may (right_to_add kind) ≡ true
+pub adds_either : (kind : Kind) (may : ℕ → Bool) → may (right_to_add kind) ≡ true
     → (may add_file || may add_subdirectory) ≡ true
 adds_either File may adds = or_left _ _ adds
 adds_either Folder may adds = or_right _ _ adds

@@ -14,7 +14,7 @@ use Rattle.room_commands.proofs.Rights.{all_none}
 use Rattle.room_commands.proofs.ChecksTell.{exists_there, file_there}
 use Rattle.room_commands.proofs.EffectIsRoom.{effect_is_room}
 use Rattle.room_commands.proofs.NothingShows.{reply_alike}
-use Rattle.room_commands.proofs.BytesAlone.{Facts, facts_at, size_with, sight_with, view_with, view_by_facts}
+use Rattle.room_commands.proofs.BytesAlone.{attributes_with, Facts, facts_at, sight_with, view_with, view_by_facts}
 use Rattle.room_commands.proofs.BytesAlone.{view_after}
 use Rattle.room_commands.proofs.BytesAlone.{group_kept, handed_kept}
 use Rattle.room_commands.proofs.BytesAlone.{view_written}
@@ -140,13 +140,7 @@ module _ (new : List ℕ → List ℕ) (count : ℕ → ℕ) (counts : (l : List
   stays_here None is =
       let (no_bytes, no_size, no_attributes) = unseen is in
       let attributes = not_shown (λ (x : Attributes). record x { size = count x.size }) (facts.may read_attributes)
-      (record {
-        aclflag = o.aclflag;
-        group = o.group;
-        kind = o.kind;
-        owner = o.owner;
-        size = size_with facts.names o.bytes o.kind;
-      }) no_attributes in
+      (attributes_with facts.names o) no_attributes in
       let bytes = not_shown new (is_file o.kind && facts.may read_data) o.bytes
       (and_right (is_file o.kind) (facts.may read_data) no_bytes) in
       let size = not_shown count (is_file o.kind && facts.may append_data) (length o.bytes)

@@ -3,10 +3,11 @@ use Rattle.room_commands.proofs.Common.{◌≡◌, ℕ, refl, ap, ◌∙◌, tru
 use Rattle.room_commands.proofs.Common.{SubjectModel, EntryModel, read_acl, write_acl, decision, is_owner}
 use Rattle.room_commands.proofs.Common.{own_entries_fault, Path, Object, Room, object_at, list_of, standing_of, NoEnt}
 use Rattle.room_commands.proofs.Common.{Refusal, Entries, Done, own_entries_of_setlist, first_refusal, check_right}
-use Rattle.room_commands.proofs.Common.{denied_at, walk, refuse_if, check_lawful, effect, effect_by}
+use Rattle.room_commands.proofs.Common.{denied_at, walk, refuse_if, check_lawful, effect}
 use Rattle.room_acl.specs.declared.access.Decision.TheVariants.{Allowed}
 use Rattle.room_acl.proofs.OwnerRights.{owner_reads, owner_writes}
 use Rattle.room_commands.specs.CommandModel as C
+use Rattle.room_commands.proofs.RoomLaws.{reply_if_passed}
 use Rattle.room_commands.proofs.Shorthands.{kind_of, or_no_object, right_on}
 
 -- a check that passes leaves it to those behind it
@@ -26,8 +27,7 @@ module _ (room : Room) (caller : SubjectModel) (path : Path) (o : Object)
   pub owner_gets : is_owner caller (standing_of o) ≡ true
       → (effect room caller (C.GetList path)).reply ≡ Entries o.aclflag (list_of room path)
   owner_gets owns =
-      ap (λ refused. (effect_by room caller (C.GetList path) refused).reply)
-      (pass (walk room caller path) _ way (pass _ _ exists
+      reply_if_passed room caller (C.GetList path) (pass (walk room caller path) _ way (pass _ _ exists
       (pass _ _ (right read_acl (owner_reads (list_of room path) caller (standing_of o) owns)) refl)))
       ∙ ap (λ found. Entries (or_no_object found).aclflag (list_of room path)) there
 
@@ -35,8 +35,7 @@ module _ (room : Room) (caller : SubjectModel) (path : Path) (o : Object)
       → own_entries_fault (own_entries_of_setlist path aclflag entries) o.kind ≡ None
       → (effect room caller (C.SetList aclflag entries path)).reply ≡ Done
   owner_sets aclflag entries owns lawful =
-      ap (λ refused. (effect_by room caller (C.SetList aclflag entries path) refused).reply)
-      (pass (walk room caller path) _ way (pass _ _ exists
+      reply_if_passed room caller (C.SetList aclflag entries path) (pass (walk room caller path) _ way (pass _ _ exists
       (pass _ _ (right write_acl (owner_writes (list_of room path) caller (standing_of o) owns))
       (pass _ _ (ap (λ found. check_lawful (own_entries_fault (own_entries_of_setlist path aclflag entries)
       (kind_of found))) there ∙ ap (λ fault. check_lawful fault) lawful) refl))))

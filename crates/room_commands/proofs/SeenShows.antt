@@ -15,6 +15,7 @@ use Rattle.room_commands.proofs.DepthTells.{depth_tells_empty}
 use Rattle.room_commands.proofs.OwnersLists.{pass}
 use Rattle.room_commands.proofs.Rights.{none_of}
 use Rattle.room_commands.proofs.RightsSuffice.{if_true}
+use Rattle.room_commands.proofs.RoomLaws.{reply_if_passed}
 use Rattle.room_commands.proofs.Shorthands.{if_reached, or_no_object}
 
 by_parts : {s : Sight} (way : Option Refusal) (there : Option Object) (seen : Object → Sight)
@@ -102,8 +103,7 @@ module _ (room : Room) (caller : SubjectModel) (path : Path) (s : Sight) (seen :
     pub rights_told : (mask : ℕ) → (effect room caller (C.Access mask path)).reply ≡ Allowed (bit_and mask s.rights)
     rights_told mask =
         let (way, o, there, is) = parts in
-        ap (λ refused. (effect_by room caller (C.Access mask path) refused).reply)
-        (pass _ _ way (pass _ _ (exists o there) refl))
+        reply_if_passed room caller (C.Access mask path) (pass _ _ way (pass _ _ (exists o there) refl))
         ∙ ap (λ found. Allowed (allowed_of (list_of room path) caller (standing_of (or_no_object found)) mask)) there
         ∙ ap (λ (x : Sight). Allowed (bit_and mask x.rights)) is
 
@@ -112,8 +112,7 @@ module _ (room : Room) (caller : SubjectModel) (path : Path) (s : Sight) (seen :
         let (way, o, there, is) = parts in
         let (right, same) = by_test (may room caller path read_attributes) (attributes_of room path o)
         (ap (λ (x : Sight). x.attributes) is ∙ h) in
-        ap (λ refused. (effect_by room caller (C.Stat path) refused).reply)
-        (pass _ _ way (pass _ _ (exists o there) (pass _ _ (none_of _ right) refl)))
+        reply_if_passed room caller (C.Stat path) (pass _ _ way (pass _ _ (exists o there) (pass _ _ (none_of _ right) refl)))
         ∙ ap (λ found. About (attributes_of room path (or_no_object found))) there ∙ ap About same
 
     pub names_told : (names : List (Name × Kind)) → s.names ≡ Some names
@@ -123,8 +122,7 @@ module _ (room : Room) (caller : SubjectModel) (path : Path) (s : Sight) (seen :
         let (tested, same) = by_test (not (is_file o.kind) && may room caller path list_directory) (children room path)
         (ap (λ (x : Sight). x.names) is ∙ h) in
         let (folder, right) = and_parts _ _ tested in
-        ap (λ refused. (effect_by room caller (C.ListNames path) refused).reply)
-        (pass _ _ way (pass _ _ (exists o there)
+        reply_if_passed room caller (C.ListNames path) (pass _ _ way (pass _ _ (exists o there)
         (pass _ _ (no_file o there (not-true _ folder)) (pass _ _ (none_of _ right) refl))))
         ∙ ap Names same
 
@@ -134,8 +132,7 @@ module _ (room : Room) (caller : SubjectModel) (path : Path) (s : Sight) (seen :
         let (tested, same) = by_test (is_file o.kind && may room caller path read_data) o.bytes
         (ap (λ (x : Sight). x.bytes) is ∙ h) in
         let (file, right) = and_parts _ _ tested in
-        ap (λ refused. (effect_by room caller (C.Read path) refused).reply)
-        (pass _ _ way (pass _ _ (exists o there)
+        reply_if_passed room caller (C.Read path) (pass _ _ way (pass _ _ (exists o there)
         (pass _ _ (no_folder o there file) (pass _ _ (none_of _ right) refl))))
         ∙ ap (λ found. Bytes (or_no_object found).bytes) there ∙ ap Bytes same
 
@@ -145,8 +142,7 @@ module _ (room : Room) (caller : SubjectModel) (path : Path) (s : Sight) (seen :
         let (way, o, there, is) = parts in
         let (right, same) = by_test (may room caller path read_acl) (o.aclflag, list_of room path)
         (ap (λ (x : Sight). x.entries) is ∙ h) in
-        ap (λ refused. (effect_by room caller (C.GetList path) refused).reply)
-        (pass _ _ way (pass _ _ (exists o there) (pass _ _ (none_of _ right) refl)))
+        reply_if_passed room caller (C.GetList path) (pass _ _ way (pass _ _ (exists o there) (pass _ _ (none_of _ right) refl)))
         ∙ ap (λ found. Entries (or_no_object found).aclflag (list_of room path)) there
         ∙ ap (λ (p : ℕ × List EntryModel). Entries p.0 p.1) same
 
@@ -160,8 +156,7 @@ module _ (room : Room) (caller : SubjectModel) (path : Path) (s : Sight) (seen :
           let small : length o.bytes ≤ max_document = (object_there_is_lawful room lawful path o there).small in
           let fits : check_size (length o.bytes + 0) ≡ None =
           ap (λ b. refuse_if b FBig) (le-ltb max_document (length o.bytes + 0) (omega (arith, small))) in
-          ap (λ refused. (effect_by room caller (C.Append [] path) refused).reply)
-          (pass _ _ way (pass _ _ (exists o there) (pass _ _ (no_folder o there file) (pass _ _ (none_of _ right)
+          reply_if_passed room caller (C.Append [] path) (pass _ _ way (pass _ _ (exists o there) (pass _ _ (no_folder o there file) (pass _ _ (none_of _ right)
           (pass _ _ (ap (λ found. check_size (length (or_no_object found).bytes + 0)) there ∙ fits) refl)))))
           ∙ ap (λ found. Size (length (or_no_object found).bytes + 0)) there
           ∙ (let n : length o.bytes + 0 ≡ size = omega (arith, same) in ap Size n)

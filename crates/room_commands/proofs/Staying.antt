@@ -15,7 +15,7 @@ use Rattle.room_commands.proofs.RoomsRenamed.{rest_below, below_more}
 use Rattle.room_commands.proofs.RoomsNew.{same_or_other_path}
 use Rattle.room_commands.proofs.ChecksTell.{folder_of_kind, walk_ends_in_folder}
 use Rattle.room_commands.proofs.Looks.{walk_end, walk_to_folder, way_alike, kinds_alike, walk_to_other, right_alike}
-use Rattle.room_commands.proofs.BytesAlone.{Facts, facts_at, sight_with, size_with, view_with, view_by_facts}
+use Rattle.room_commands.proofs.BytesAlone.{attributes_with, shown_map, Facts, facts_at, sight_with, size_with, view_with, view_by_facts}
 use Rattle.room_commands.proofs.SameParts.{right_same, prefix_same, walk_same, children_same, depth_same, Region}
 use Rattle.room_commands.proofs.SameParts.{list_in, same_in, view_in, handed_in, list_by_handed}
 use Rattle.room_commands.proofs.Shorthands.{handed_by, if_reached, there_seen, or_no_object}
@@ -161,10 +161,6 @@ full_after a b a' b' (inr kept) test other same =
     ap (λ n. then_some test (n == 0)) kept.0 ∙ same
     ∙ ap (λ n. then_some other (n == 0)) (sym kept.1)
 
-shown_map : {X Y : Type 0} (f : X → Y) (test : Bool) (x : X) → then_some test (f x) ≡ option_map f (then_some test x)
-shown_map f true x = refl
-shown_map f false x = refl
-
 abbrev resized : List (Name × Kind) → ℕ → Kind → ℕ
 resized names size File = size
 resized names size Folder = length names
@@ -178,15 +174,6 @@ resizes names others bytes File = refl
 resizes names others bytes Folder = refl
 
 module _ (caller : SubjectModel) where
-  abbrev attributes_with : List (Name × Kind) → Object → Attributes
-  attributes_with names o = record {
-    aclflag = o.aclflag;
-    group = o.group;
-    kind = o.kind;
-    owner = o.owner;
-    size = size_with names o.bytes o.kind;
-  }
-
   attributes_shown : (test : Bool) (names others : List (Name × Kind)) (o : Object)
       → then_some test (attributes_with names o)
       ≡ option_map (with_names names) (then_some test (attributes_with others o))

@@ -1,15 +1,16 @@
 -- What others do out of a caller's sight.
 use Rattle.room_commands.proofs.Common.{◌≡◌, ◌⊎◌, ap, sym, ◌∙◌, Bool, true, false, ◌||◌, inl, inr, ◌++◌, length, drop}
 use Rattle.room_commands.proofs.Common.{None, Some, ◌==◌, is_none, both_ways, or_left, or_right, false_from_ne_true}
-use Rattle.room_commands.proofs.Common.{Kind, File, Folder, add_file, add_subdirectory, write_acl, write_owner}
+use Rattle.room_commands.proofs.Common.{Folder, add_file, add_subdirectory, write_acl, write_owner}
 use Rattle.room_commands.proofs.Common.{SubjectModel, handed_down, Path, Object, Room, IsRoom, object_at, none_is_some}
 use Rattle.room_commands.proofs.Common.{CommandModel, paths_of, IsLawful, walk, is_at_or_below, effect, StayAlike}
-use Rattle.room_commands.proofs.Common.{SameBelow, may, may_remove, IsOutOfSight, AddsNowhere, right_to_add}
+use Rattle.room_commands.proofs.Common.{SameBelow, may, may_remove, IsOutOfSight, AddsNowhere}
 use Rattle.room_commands.proofs.ChecksTell.{walk_ends_in_folder}
 use Rattle.room_commands.proofs.RoomsRenamed.{rest_below, one_continues}
 use Rattle.room_commands.proofs.Looks.{walk_to_folder}
 use Rattle.room_commands.proofs.Staying.{Off, Below_p, Below_t, Away, place, list_out, handed_out}
 use Rattle.room_commands.proofs.Staying.{some_folder}
+use Rattle.room_commands.proofs.NothingShows.{adds_either}
 use Rattle.room_commands.proofs.Others.{stay_itself}
 use Rattle.room_commands.proofs.Elsewhere.{Leaves, by_result, blocked, fault_on}
 use Rattle.room_commands.proofs.NamesUnseen.{NameUnseen, FullUnseen, seen_unnamed}
@@ -73,11 +74,6 @@ module _ (room later : Room) (caller : SubjectModel) (p t : Path) (is_room : IsR
     | inr nowhere ↦ absurd (both_ways _ (nowhere folder o at is_folder walked) adds)
   ]
 
-  adds_kind : (folder : Path) (kind : Kind) → may room caller folder (right_to_add kind) ≡ true
-      → (may room caller folder add_file || may room caller folder add_subdirectory) ≡ true
-  adds_kind folder File adds = or_left _ _ adds
-  adds_kind folder Folder adds = or_right _ _ adds
-
   pub stays_unseen : StayAlike caller room later
   stays_unseen = record {
     now = λ q. sym (seen_unnamed room later caller p t is_room s q (unnamed p unseen_p) (unnamed t unseen_t)
@@ -86,7 +82,7 @@ module _ (room later : Room) (caller : SubjectModel) (p t : Path) (is_room : IsR
         let way = (walk_to_folder room caller folder name walked).0 in
         let off = reached_off folder way in
         let (above, at, is_folder) = walk_ends_in_folder room caller folder name walked in (
-          made_same folder above at is_folder way (or_left _ _ (adds_kind folder kind adds)),
+          made_same folder above at is_folder way (or_left _ _ (adds_either kind (may room caller folder) adds)),
           ap (λ o. (or_no_object o).group) (sym (s.out folder off)),
           ap (λ entries. handed_down entries kind) (sym (list_out room later caller p t s.out folder off)),
         );
