@@ -1,9 +1,7 @@
 -- A room that has a number left was never full: ROOM_FULL is answered where none is left, and their number never rises.
 use Rattle.room_desk.proofs.Common.{◌≡◌, ◌≤◌, ℕ, ◌+◌, ◌-◌, refl, ap, sym, ◌∙◌, arith, Bool, true, false, cond, List, []}
-use Rattle.room_desk.proofs.Common.{◌∷◌, length, map, Option, None, Some, ◌==◌, if◌then◌else◌, AllByRecursion}
-use Rattle.room_desk.proofs.Common.{option_map_or, nat_tests, read_data, list_directory, write_data, add_file}
-use Rattle.room_desk.proofs.Common.{append_data, add_subdirectory, execute, delete_object, read_attributes, read_acl}
-use Rattle.room_desk.proofs.Common.{write_acl, write_owner, SubjectModel, Path, path_eq, Records, Object, Room, list_of}
+use Rattle.room_desk.proofs.Common.{◌∷◌, map, Option, None, Some, ◌==◌, if◌then◌else◌, AllByRecursion, nat_tests}
+use Rattle.room_desk.proofs.Common.{execute, delete_object, SubjectModel, Path, path_eq, Records, Object, Room, list_of}
 use Rattle.room_desk.proofs.Common.{standing_of, object_at, parent_of, CommandModel, ReplyModel, Refusal, NotDone}
 use Rattle.room_desk.proofs.Common.{effect, effect_by, IsRoomFull, Open, Close, Slot, History, is_accepted, state_after}
 use Rattle.room_desk.proofs.Common.{RepresentsHistory}
@@ -15,15 +13,14 @@ use Rattle.room_acl.specs.Access.{decision}
 use Rattle.room_acl.specs.Inheritance.{own_entries_fault}
 use Rattle.room_records.specs.Limits.{max_objects}
 use Rattle.room_commands.specs.CommandModel as C
+use Rattle.room_commands.specs.Checks as K
+use Rattle.room_commands.specs.Checks.{RoomCheck, run_check, checks_of, first_refusal, checks, check_right, denied_at}
+use Rattle.room_commands.specs.Checks.{walk, refuse_if, check_exists, check_folder, check_folder_full, check_lawful}
+use Rattle.room_commands.specs.Checks.{check_room_full, may_delete, prefix_refusal, proper_prefixes, object_or_default}
+use Rattle.room_commands.specs.Checks.{right_to_add}
 use Rattle.room_commands.specs.declared.reply.RefusalCode.{RefusalCode}
-use Rattle.room_commands.specs.declared.reply.RefusalCode.TheVariants.{NoEnt, NotDir, IsDir, Exist, NotEmpty}
-use Rattle.room_commands.specs.declared.reply.RefusalCode.TheVariants.{Inval, FBig, TooDeep, FolderFull, RoomFull}
-use Rattle.room_commands.specs.SetList.{own_entries_of_setlist}
-use Rattle.room_commands.specs.Checks.{first_refusal, checks, check_right, check_removal, denied_at, walk, refuse_if}
-use Rattle.room_commands.specs.Checks.{check_exists, check_absent, check_folder, check_file, check_size}
-use Rattle.room_commands.specs.Checks.{check_folder_full, check_lawful, check_room_full, may_delete}
-use Rattle.room_commands.specs.Checks.{refusal_without_place, prefix_refusal, proper_prefixes}
-use Rattle.room_commands.specs.Checks.{bytes_at, object_or_default, right_to_add}
+use Rattle.room_commands.specs.declared.reply.RefusalCode.TheVariants.{NoEnt, NotDir, Inval, FolderFull, RoomFull}
+use Rattle.room_commands.proofs.Shorthands.{also, right_on}
 use Rattle.room_desk.specs.Made.{NeverFull}
 
 abbrev is_full_code : RefusalCode → Bool
@@ -33,9 +30,6 @@ is_full_code code = false
 abbrev says_full : Option Refusal → Bool
 says_full None = false
 says_full (Some r) = is_full_code r.code
-
-also : {A B : Type 0} → A → B → A × B
-also a b = (a, b)
 
 abbrev NoneSaysFull : List (Option Refusal) → Type 0
 NoneSaysFull xs = AllByRecursion (λ (x : Option Refusal). says_full x ≡ false) xs
@@ -63,44 +57,21 @@ unless true x silent = refl
 unless false x silent = silent
 
 module _ (room : Room) (caller : SubjectModel) where
-  by_object : (path : Path) (wanted : ℕ) (o : Option Object) → says_full (option_map_or (λ (o : Object).
-      denied_at path (decision (list_of room path) caller (standing_of o) wanted)) o
-      (Some (refusal_without_place NoEnt))) ≡ false
+  by_object : (path : Path) (wanted : ℕ) (o : Option Object) → says_full (right_on room caller path wanted o) ≡ false
   by_object path wanted None = refl
   by_object path wanted (Some o) = denied path (decision (list_of room path) caller (standing_of o) wanted)
 
   right : (path : Path) (wanted : ℕ) → says_full (check_right room caller path wanted) ≡ false
   right path wanted = by_object path wanted (object_at room path)
 
-  exists : (path : Path) → says_full (check_exists room path) ≡ false
-  exists path = refused _ NoEnt refl
-
-  folder : (path : Path) → says_full (check_folder room path) ≡ false
-  folder path = refused _ NotDir refl
-
   on_the_way : (fronts : List Path) → NoneSaysFull (map (prefix_refusal room caller) fronts)
   on_the_way [] = tt
   on_the_way (front ∷ fronts) = also
       (first_says (check_exists room front ∷ check_folder room front ∷ check_right room caller front execute ∷ [])
-      (also (exists front) (also (folder front) (also (right front execute) tt)))) (on_the_way fronts)
+      (also (refused _ NoEnt refl) (also (refused _ NotDir refl) (also (right front execute) tt)))) (on_the_way fronts)
 
   way : (path : Path) → says_full (walk room caller path) ≡ false
   way path = first_says (map (prefix_refusal room caller) (proper_prefixes path)) (on_the_way (proper_prefixes path))
-
-  file : (path : Path) → says_full (check_file room path) ≡ false
-  file path = refused _ IsDir refl
-
-  absent : (path : Path) → says_full (check_absent room path) ≡ false
-  absent path = refused _ Exist refl
-
-  size : (n : ℕ) → says_full (check_size n) ≡ false
-  size n = refused _ FBig refl
-
-  few : (path : Path) → says_full (check_folder_full room path) ≡ false
-  few path = refused _ FolderFull refl
-
-  removal : (path : Path) → says_full (check_removal room caller path) ≡ false
-  removal path = unless (may_delete room caller path) (denied_at path (Denied delete_object)) refl
 
   module _ (some : 1 ≤ room.left) where
     some_left : (left : ℕ) → 1 ≤ left → (left == 0) ≡ false
@@ -109,33 +80,20 @@ module _ (room : Room) (caller : SubjectModel) where
     left : says_full (check_room_full room) ≡ false
     left = ap (λ test. says_full (refuse_if test RoomFull)) (some_left room.left some)
 
-    none_says : (command : CommandModel) → NoneSaysFull (checks room caller command)
-    none_says (C.Stat path) = also (way path) (also (exists path) (also (right path read_attributes) tt))
-    none_says (C.ListNames path) =
-        also (way path) (also (exists path) (also (folder path) (also (right path list_directory) tt)))
-    none_says (C.Mkdir path) = also (refused _ Exist refl) (also (way path) (also (absent path)
-        (also (right (parent_of path) add_subdirectory) (also (few (parent_of path)) (also left tt)))))
-    none_says (C.Create bytes path) = also (refused _ Exist refl) (also (way path) (also (absent path)
-        (also (right (parent_of path) add_file) (also (size (length bytes))
-        (also (few (parent_of path)) (also left tt))))))
-    none_says (C.Read path) = also (way path) (also (exists path) (also (file path) (also (right path read_data) tt)))
-    none_says (C.Write bytes path) = also (way path) (also (exists path) (also (file path)
-        (also (right path write_data) (also (size (length bytes)) tt))))
-    none_says (C.Append bytes path) = also (way path) (also (exists path) (also (file path)
-        (also (right path append_data) (also (size (length (bytes_at room path) + length bytes)) tt))))
-    none_says (C.Remove path) = also (refused _ Inval refl) (also (way path) (also (exists path)
-        (also (removal path) (also (refused _ NotEmpty refl) tt))))
-    none_says (C.Rename path to) = also (refused _ Inval refl) (also (way path) (also (exists path)
-        (also (way to) (also (absent to) (also (removal path)
-        (also (right (parent_of to) (right_to_add (object_or_default room path).kind)) (also (refused _ TooDeep refl)
-        (also (unless (path_eq (parent_of path) (parent_of to)) (check_folder_full room (parent_of to))
-        (few (parent_of to))) tt))))))))
-    none_says (C.GetList path) = also (way path) (also (exists path) (also (right path read_acl) tt))
-    none_says (C.SetList aclflag entries path) = also (way path) (also (exists path) (also (right path write_acl)
-        (also (no_fault (own_entries_fault (own_entries_of_setlist path aclflag entries)
-        (object_or_default room path).kind)) tt)))
-    none_says (C.Chown group owner path) = also (way path) (also (exists path) (also (right path write_owner) tt))
-    none_says (C.Access mask path) = also (way path) (also (exists path) tt)
+    silent : (check : RoomCheck) → says_full (run_check room caller check) ≡ false
+    silent (K.Walks path) = way path
+    silent (K.IsAllowed path wanted) = right path wanted
+    silent (K.MayRemove path) = unless (may_delete room caller path) (denied_at path (Denied delete_object)) refl
+    silent (K.MayMoveTo path to) = right (parent_of to) (right_to_add (object_or_default room path).kind)
+    silent K.RoomTakes = left
+    silent (K.FolderTakesMoved path to) = unless (path_eq (parent_of path) (parent_of to))
+        (check_folder_full room (parent_of to)) (refused _ FolderFull refl)
+    silent (K.EntriesFit own path) = no_fault (own_entries_fault own (object_or_default room path).kind)
+    silent check = refused _ _ refl
+
+    none_says : (checked : List RoomCheck) → NoneSaysFull (map (run_check room caller) checked)
+    none_says [] = tt
+    none_says (check ∷ others) = also (silent check) (none_says others)
 
   abbrev replies_full : ReplyModel → Bool
   replies_full (NotDone r) = is_full_code r.code
@@ -145,24 +103,13 @@ module _ (room : Room) (caller : SubjectModel) where
       → replies_full (effect_by room caller command x).reply ≡ says_full x
   as_refused command (Some r) = refl
   as_refused (C.Stat path) None = refl
-  as_refused (C.ListNames path) None = refl
-  as_refused (C.Mkdir path) None = refl
-  as_refused (C.Create bytes path) None = refl
-  as_refused (C.Read path) None = refl
-  as_refused (C.Write bytes path) None = refl
-  as_refused (C.Append bytes path) None = refl
-  as_refused (C.Remove path) None = refl
-  as_refused (C.Rename path to) None = refl
-  as_refused (C.GetList path) None = refl
-  as_refused (C.SetList aclflag entries path) None = refl
-  as_refused (C.Chown group owner path) None = refl
-  as_refused (C.Access mask path) None = refl
+  as_refused command None = refl
 
   not_full : (command : CommandModel) → 1 ≤ room.left → IsRoomFull (effect room caller command).reply → ⊥
   not_full command some full =
       let says : true ≡ false = sym (ap replies_full full)
       ∙ as_refused command (first_refusal (checks room caller command))
-      ∙ first_says (checks room caller command) (none_says some command) in cc
+      ∙ first_says (checks room caller command) (none_says some (checks_of command)) in cc
 
   -- what was left before
   less : (left : ℕ) → 1 ≤ left - 1 → 1 ≤ left
@@ -173,17 +120,7 @@ module _ (room : Room) (caller : SubjectModel) where
   left_before command (Some r) some = some
   left_before (C.Mkdir path) None some = less room.left some
   left_before (C.Create bytes path) None some = less room.left some
-  left_before (C.Stat path) None some = some
-  left_before (C.ListNames path) None some = some
-  left_before (C.Read path) None some = some
-  left_before (C.Write bytes path) None some = some
-  left_before (C.Append bytes path) None some = some
-  left_before (C.Remove path) None some = some
-  left_before (C.Rename path to) None some = some
-  left_before (C.GetList path) None some = some
-  left_before (C.SetList aclflag entries path) None some = some
-  left_before (C.Chown group owner path) None some = some
-  left_before (C.Access mask path) None some = some
+  left_before command None some = some
 
 left_of_either : (t : Bool) (x y : Room) → (1 ≤ x.left → 1 ≤ y.left) → 1 ≤ (cond t x y).left → 1 ≤ y.left
 left_of_either true x y before some = before some
