@@ -45,9 +45,9 @@ class Entry {
       name.hidden = !isNamed(whom.value);
       this.set(withWhom(this.entry, { id: whom.value, name: name.value.trim() }));
     };
-    const how = { "aria-label": t.heads.name, list: "known-names", hidden: now.name === "", oninput };
+    const how = { ariaLabel: t.heads.name, list: "known-names", hidden: now.name === "", oninput };
     const [name, ids] = [input(now.name, how), Object.keys(t.whom).filter((id) => id !== "" || now.id === "")];
-    const whom = select(ids.map((id) => [id, t.whom[id]]), now.id, oninput, { "aria-label": t.whomLabel });
+    const whom = select(ids.map((id) => [id, t.whom[id]]), now.id, oninput, { ariaLabel: t.whomLabel });
     return [whom, name];
   }
 
@@ -58,7 +58,7 @@ class Entry {
     const choices = [...SETS.map(({ mask, does }) => [String(mask), does]), [CHOSEN, t.chosenBelow]];
     this.sets = select(choices, this.setNow(), (it) => {
       if (it !== CHOSEN) this.setMask(Number(it));
-    }, { "aria-label": t.rightsLabel });
+    }, { ariaLabel: t.rightsLabel });
     const some = (isAsked) => this.boxes.filter((_, at) => RIGHTS[at].isAsked === isAsked);
     return make("fieldset", make("legend", t.rightsLabel), some(true),
       make("details", make("summary", t.unaskedRights), some(false)));
@@ -81,7 +81,7 @@ class Entry {
   element(isOpen, buttons) {
     const rights = this.rights();
     const verb = select([["0", t.allow], ["1", t.deny]], isDeny(this.entry) ? "1" : "0",
-      (it) => this.set({ ...this.entry, type: Number(it) }), { "aria-label": `${t.allow} / ${t.deny}` });
+      (it) => this.set({ ...this.entry, type: Number(it) }), { ariaLabel: `${t.allow} / ${t.deny}` });
     return make("li", make(`details.${isDeny(this.entry) ? "deny" : "allow"}`, { open: isOpen }, this.summary,
       make("p.row", verb, this.whom(), t.to, this.sets), this.fault, rights,
       this.kind === FOLDER && this.reach(), make("p.tools", buttons)));
@@ -170,7 +170,7 @@ class ListView {
 
   async save(news = this.news()) {
     const [about, count] = [this.called, this.own.length];
-    const fault = this.own.some(isForNobody) ? t.needWhom : count > MOST_ENTRIES ? t.listFull(count, MOST_ENTRIES) : "";
+    const fault = this.own.some(isForNobody) ? t.noWhom : count > MOST_ENTRIES ? t.listFull(count, MOST_ENTRIES) : "";
     if (fault) return tellFault(t.about(about, fault));
     const unknown = this.own.map((it) => whomFault(it, this.roster)).filter(Boolean);
     if (unknown.length && !await ask({ title: `${t.setAllTheSame}?`, does: t.setAllTheSame,

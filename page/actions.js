@@ -113,7 +113,7 @@ async function append(app, path) {
   const isDone = await ask({ title: t.appendTo(shown(lastName(path))), does: t.append, words: t.onOwnLine,
     fields: [[t.text, text]], faultOf: () => tooLong(fromText(text.value)),
     task: () => app.room.run("APPEND", path, { data: toBase64(fromText(asLines(text.value, before))) }) });
-  if (isDone) await app.done(t.appended);
+  if (isDone) await app.done(t.replaced);
 }
 
 function settle(who, theirs, mine, keep, take) {

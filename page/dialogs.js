@@ -48,7 +48,7 @@ class Dialog {
       fields.map(([label, field]) => (label ? labelled(label, field) : field)), this.fault, this.isText && this.leaving,
       this.atWork, make("p.actions", isFinal && leave, does && make(isFinal ? "button" : "button.main", does),
         others.map((it) => button(it.words, () => this.run(it.task ?? (() => {}), it.value))), !isFinal && leave));
-    this.element = make("dialog", { "aria-label": title, closedby: "none", onkeydown: (event) => this.key(event),
+    this.element = make("dialog", { ariaLabel: title, closedby: "none", onkeydown: (event) => this.key(event),
       oncancel: (event) => event.target === this.element && event.preventDefault() }, this.form);
     this.start = this.now;
   }
@@ -165,7 +165,7 @@ let shownNow = null;
 export const isMenuOpen = () => shownNow !== null;
 
 function itemElements(it, close) {
-  const how = { role: it.isNow === undefined ? "menuitem" : "menuitemradio", "aria-checked": it.isNow, tabIndex: -1,
+  const how = { role: it.isNow === undefined ? "menuitem" : "menuitemradio", ariaChecked: it.isNow, tabIndex: -1,
     className: it.isApart ? "apart" : "", lang: it.lang, title: it.about };
   if (it.href) return [link(it.href, it.words, { onclick: close, ...how })];
   const files = it.chosen && pickFiles(it.words, it.files, (chosen) => {
@@ -185,7 +185,7 @@ class Menu {
     Object.assign(this, { anchor, at });
     const elements = items.flatMap((it) => itemElements(it, () => this.close()));
     this.items = elements.filter((it) => it.role?.startsWith("menuitem"));
-    this.element = make("div.menu", { role: "menu", popover: "auto", "aria-label": label,
+    this.element = make("div.menu", { role: "menu", popover: "auto", ariaLabel: label,
       onkeydown: (event) => this.key(event), ontoggle: (event) => event.newState === "closed" && this.closed() },
     make("p.menu-title", { "aria-hidden": "true" }, label), elements);
   }
@@ -244,7 +244,7 @@ export const offered = (items) => items.filter(([isOffered]) => isOffered).map((
 export const pointOf = (event) => ({ x: event.clientX, y: event.clientY });
 
 export function menuButton(words, how, itemsOf, label) {
-  const its = make("button", { type: "button", "aria-haspopup": "menu", "aria-expanded": "false", ...how }, words);
+  const its = make("button", { type: "button", ariaHasPopup: "menu", ariaExpanded: "false", ...how }, words);
   const open_ = async (at) => openMenu(its, await itemsOf(), label, at);
   let opening = null;
   its.show = (at) => { opening ??= open_(at).catch(tellIt).finally(() => { opening = null; }); };

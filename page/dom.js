@@ -62,7 +62,7 @@ export function select(choices, now, changed, how = {}) {
 
 /** A field for files of the user's disk: `chosen` gets them, each `{names, file}`. */
 export function pickFiles(words, { isFolder = false, isOne = false }, chosen) {
-  const field = make("input", { type: "file", multiple: !isOne, hidden: true, "aria-label": words });
+  const field = make("input", { type: "file", multiple: !isOne, hidden: true, ariaLabel: words });
   field.webkitdirectory = isFolder;
   field.onclick = (event) => event.stopPropagation();
   field.onchange = () => {

@@ -11,11 +11,11 @@ function way(place, above, app) {
     if (app) takeRows(it, app, path);
     return it;
   });
-  return make("nav.above", { "aria-label": t.foldersAbove }, make("ol.way", folders));
+  return make("nav.above", { ariaLabel: t.foldersAbove }, make("ol.way", folders));
 }
 
-const views = (place) => make("nav.views", { "aria-label": t.views }, VIEWS.map(([view, words]) =>
-  link(addressOf({ ...place, view }), words, { "aria-current": view === place.view ? "page" : null })));
+const views = (place) => make("nav.views", { ariaLabel: t.views }, VIEWS.map(([view, words]) =>
+  link(addressOf({ ...place, view }), words, { ariaCurrent: view === place.view ? "page" : null })));
 
 /** With a `menu` the name opens it; with a `title` the way leads to the object too; else its views stand below. */
 export function head(place, { title, menu, app, hasViews = !menu && !title } = {}) {

@@ -5,7 +5,7 @@ Ein Klick auf den Namen öffnet es; der Knopf ⋯ einer Zeile zeigt, was Sie dam
 **Text hinzufügen** setzt am Ende eines Dokuments Zeilen an, auch wo es jemand anderes gleichzeitig tut. **Bearbeiten**
   ersetzt alles und zeigt beide Texte, wenn es jemand inzwischen geändert hat. **Neue Fassung hochladen** ersetzt es
   durch eine Datei und behält auf Wunsch die alte daneben: sonst bleibt keine alte Fassung.
-Was Sie anlegen, auch eine Kopie, gehört Ihnen. **Entfernen** legt Dinge in Ihren Papierkorb, wo Sie einen haben: der
+Was Sie anlegen, auch eine Kopie, gehört Ihnen. **Entfernen** legt es in Ihren Papierkorb, wo Sie einen haben: der
   Weg dorthin steht neben der Liste (in einem schmalen Fenster hinter ☰). Ein neues Passwort gibt Ihre IT.
 Tasten: **Strg /** führt zur Suche, **Alt ↑** zum Ordner darüber, **Strg Z** macht rückgängig; in der Liste sucht **/**,
   **F2** benennt um, **Entf** entfernt, **Strg A** wählt alles, **Strg X** oder **Strg C** und dann **Strg V**
@@ -15,7 +15,5 @@ Tasten: **Strg /** führt zur Suche, **Alt ↑** zum Ordner darüber, **Strg Z**
 Jede Anfrage wird gesendet, bis eine Antwort kommt, auch nach einem Neuladen, und einmal ausgeführt. **Aufgeben**
   beendet das: sehen Sie nach, ob es getan wurde, bevor Sie es wiederholen.
 # Wer darf was
-Jeder Ordner und jedes Dokument hat eine Liste von Einträgen. Ein Eintrag erlaubt oder verbietet einige Rechte: dem
-  Eigentümer, der Gruppe, allen, einem Benutzer oder einer Gruppe. **Freigeben** zeigt sie, und wie sie gelesen wird,
-  unter **Genaue Einträge**.
+**Freigeben** zeigt, wer Zugriff hat, und unter **Genaue Einträge** jedes Recht.
 `;

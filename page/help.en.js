@@ -5,7 +5,7 @@ A name opens it; the button ⋯ of a row has what you may do with it.
 **Add text** adds lines at the end of a document, also while somebody else does. **Edit** replaces all of it, and shows
   both texts if somebody changed it meanwhile. **Upload a new version** replaces it by a file, and keeps the old one
   beside it if you want that: by itself the room keeps no old versions.
-What you make, a copy too, is yours. **Remove** moves things to your trash, where you have one: the way to it stands
+What you make, a copy too, is yours. **Remove** moves it to your trash, where you have one: the way to it stands
   beside the list (in a narrow window behind ☰). A new password comes from whoever runs the room.
 Keys: **Ctrl /** goes to the search, **Alt ↑** to the folder above, **Ctrl Z** undoes; in the list **/** searches,
   **F2** renames, **Delete** removes, **Ctrl A** chooses all, **Ctrl X** or **Ctrl C** and then **Ctrl V** move or copy
@@ -14,6 +14,5 @@ Keys: **Ctrl /** goes to the search, **Alt ↑** to the folder above, **Ctrl Z**
 Each request is sent again until it is answered, also after a reload, and is done once. **Give up** ends that: look
   whether it was done before you repeat it.
 # Who may do what
-Each folder and document has a list of entries. An entry allows or denies some rights to its owner, its group, everyone,
-  one user, or one group. **Share** shows it, with how it is read, under **Exact entries**.
+**Share** shows who has access, and below **Exact entries** each right.
 `;

@@ -78,10 +78,10 @@ class Cells {
     const called = (user) => (named.get(displayName(user)).length > 1 ? personText(user) : displayName(user) || user);
     const titles = columns.map((it) => make("th", { scope: "col", title: it.isGroup ? "" : personText(it.title) },
       it.isGroup ? button([nameText(it.title), ` (${it.users.length})`], () => open(it),
-        { "aria-expanded": String(it.isOpen) }) : nameText(called(it.title))));
+        { ariaExpanded: String(it.isOpen) }) : nameText(called(it.title))));
     const rows = [];
     await forEach([...objects.entries()], async ([at, it]) => { rows[at] = await this.row(it, columns); });
-    return make("div.wide", { tabIndex: 0, role: "region", "aria-label": t.whoMay }, make("table.matrix",
+    return make("div.wide", { tabIndex: 0, role: "region", ariaLabel: t.whoMay }, make("table.matrix",
       make("thead", make("tr", make("th", { scope: "col" }, t.heads.name), titles)), make("tbody", rows)));
   }
 }

@@ -63,7 +63,7 @@ async function sectionsOf(app, { room, path, view }) {
 }
 
 const linkOf = ({ words, kind, place, told, isNow }) => make("li", link(addressOf(place),
-  [icon(kind), make("span", nameText(words))], { title: told, "aria-current": isNow ? "page" : null }));
+  [icon(kind), make("span", nameText(words))], { title: told, ariaCurrent: isNow ? "page" : null }));
 
 const drawn = ([title, links]) => links.length > 0 &&
   [title && make("p.about", title), make("ul", { ariaLabel: title || null }, links.map(linkOf))];

@@ -34,12 +34,12 @@ export class Row {
     Object.assign(this, { things, app, name, kind, folder, pictures, path, called, key });
     this.isFolder = kind === FOLDER && (seenAs.get(key) ?? (LIKE_FILE.test(called) ? LARGE : FOLDER)) === FOLDER;
     this.picture = pictures.placeOf(called);
-    this.tick = make("input", { type: "checkbox", tabIndex, "aria-label": t.choose(words) });
+    this.tick = make("input", { type: "checkbox", tabIndex, ariaLabel: t.choose(words) });
     this.link = link(addressOf({ room: place.room, path }), nameText(called),
       { tabIndex, draggable: false, className: "name" });
     this.back = toldBy(path) && isOwnTrash(app, place.path) && button(t.putBack, () => putBack(app, path),
-      { tabIndex, "aria-label": `${t.putBack} ${words}` });
-    this.more = menuButton("⋯", { tabIndex, "aria-label": t.moreFor(words), className: "small" },
+      { tabIndex, ariaLabel: `${t.putBack} ${words}` });
+    this.more = menuButton("⋯", { tabIndex, ariaLabel: t.moreFor(words), className: "small" },
       () => this.menu(), words);
     this.pen = button("", () => edit(app, path), { tabIndex, hidden: true, className: "pen",
       title: t.doTo(t.edit, words) });
@@ -48,7 +48,7 @@ export class Row {
     this.cells = { where: make("td.where", this.where),
       ...Object.fromEntries(["who", "when", "kind", "size"].map((it) => [it, make(`td.${it}`)])) };
     const below = [beforeWords(path), things.isFound && make("span.place", nameText(above))].filter(Boolean);
-    this.element = make("tr", { "aria-selected": "false" }, make("td.tick", this.tick),
+    this.element = make("tr", { ariaSelected: "false" }, make("td.tick", this.tick),
       make("th", { scope: "row", ariaLabel: words }, make("div", this.picture,
         below.length ? make("div", this.link, make("div.about", below)) : this.link,
         make("span.quick", this.pen, this.star))),
@@ -147,7 +147,7 @@ export class Row {
 export class Details {
   constructor({ app, place, seers }) {
     Object.assign(this, { place, seers, room: app.room.behind(), row: null });
-    this.element = make("section.details", { "aria-label": t.inShort }, make("p.about", t.noRow));
+    this.element = make("section.details", { ariaLabel: t.inShort }, make("p.about", t.noRow));
   }
 
   /** (A narrow window asks for nothing.) */

@@ -7,9 +7,9 @@ const MOST_FITS = 8; // names that are shown at once
 
 function whomField(names) {
   let [at, options] = [-1, []];
-  const list = make("ul.fits", { id: "fits", role: "listbox", "aria-label": t.who, hidden: true });
-  const field = input("", { role: "combobox", placeholder: t.who, "aria-label": t.who, "aria-autocomplete": "list",
-    "aria-controls": "fits", "aria-expanded": "false" });
+  const list = make("ul.fits", { id: "fits", role: "listbox", ariaLabel: t.who, hidden: true });
+  const field = input("", { role: "combobox", placeholder: t.who, ariaLabel: t.who, ariaAutoComplete: "list",
+    "aria-controls": "fits", ariaExpanded: "false" });
   const stand = (now) => {
     at = now;
     for (const [its, it] of options.entries()) it.ariaSelected = its === at;
@@ -30,7 +30,7 @@ function whomField(names) {
   const show = () => {
     const wanted = field.value.trim().toLowerCase();
     const fits = names.filter((it) => it.toLowerCase().includes(wanted)).slice(0, MOST_FITS);
-    options = fits.map((it, its) => make("li", { id: `fits-${its}`, role: "option", "aria-selected": "false",
+    options = fits.map((it, its) => make("li", { id: `fits-${its}`, role: "option", ariaSelected: "false",
       onmousedown: (event) => take(it, event) }, it));
     list.replaceChildren(...options);
     open(fits.length > 0);
@@ -79,7 +79,7 @@ export class SharePanel {
     const ofOthers = shares.filter((it) => !this.isOwners(it));
     const isAlone = !ofOthers.length && !others.length && !above.length;
     this.isAll = ofOthers.length < shares.length;
-    this.element = make("section.share", { "aria-label": t.share }, make("h2", t.sharedWith),
+    this.element = make("section.share", { ariaLabel: t.share }, make("h2", t.sharedWith),
       make("ul.given", owner && make("li", make("span", personText(owner)), this.isAll ? t.isOwnerOfAll : t.isOwner)),
       ofOthers.length > 0 && make("ul.shares", ofOthers.map((it) => this.row(it))),
       make("ul.given", others.filter(({ entries }) => !entries.every(isDeny)).map((it) => this.custom(it)),
@@ -99,7 +99,7 @@ export class SharePanel {
   }
 
   takeButton = (whom) => this.set && button("×", () => this.give(whom, null),
-    { className: "small", "aria-label": t.takeFrom(this.wordsOf(whom)) });
+    { className: "small", ariaLabel: t.takeFrom(this.wordsOf(whom)) });
 
   row({ whom, name }) {
     const items = this.presets.map(([it, words]) => ({ words, isNow: it === name, about: levelOfPreset(it)[1],
@@ -133,7 +133,7 @@ export class SharePanel {
     const groups = [...new Set(Object.values(this.roster).flat())].sort(inOrder).map((it) => t.groupMark + it);
     const people = Object.keys(this.roster).map(personText).sort(inOrder);
     const { element, field: whom } = whomField([...people, ...groups, t.whom["EVERYONE@"]]);
-    const what = select(this.presets, "view", () => {}, { "aria-label": t.may });
+    const what = select(this.presets, "view", () => {}, { ariaLabel: t.may });
     this.fault = make("p.fault", { role: "alert" });
     const keeps = this.kind === FOLDER && this.owner && !this.shares.length &&
       checkbox(this.owner === this.user ? t.keepMine : t.keepFull(personText(this.owner)), true, () => {});

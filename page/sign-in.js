@@ -26,7 +26,7 @@ function goOn() {
 async function submit() {
   const [button, name, word] = [part("form").querySelector("button"), part("name").value.trim(), part("word").value];
   button.disabled = true;
-  tell(t.asking);
+  tell(t.working);
   const status = await statusOf(name, word);
   button.disabled = false;
   if (status === 200) return goOn();

@@ -31,7 +31,7 @@ class ChosenBar {
       button(words, () => does(app, things.chosen.map((it) => it.path))));
     const remover = this.buttons.at(-1);
     this.remove = () => remover.hidden || remover.click();
-    this.element = make("div.tools.chosen", { role: "group", "aria-label": t.chosenLabel, hidden: true },
+    this.element = make("div.tools.chosen", { role: "group", ariaLabel: t.chosenLabel, hidden: true },
       this.words, this.buttons, button(t.chooseNone, () => {
         things.choose([]);
         things.keys.at.focus({ preventScroll: true });
@@ -123,8 +123,8 @@ export class Things {
     this.rows = names.map((it) => new Row(this, it));
     this.bodies = [make("tbody"), make("tbody")]; // folders, and documents behind them
     this.bar = new ChosenBar(this);
-    this.table = make(isThrown ? "table.things.thrown" : "table.things", { role: "grid", "aria-label": t.contents,
-      "aria-multiselectable": "true", onclick: (event) => this.click(event), ondblclick: (event) => this.open(event),
+    this.table = make(isThrown ? "table.things.thrown" : "table.things", { role: "grid", ariaLabel: t.contents,
+      ariaMultiSelectable: "true", onclick: (event) => this.click(event), ondblclick: (event) => this.open(event),
       oncontextmenu: (event) => this.menu(event) }, this.head(), this.bodies);
     this.details = new Details(this);
     this.table.addEventListener("focusin", (event) => rowOf(event) && this.details.show(rowOf(event)));
@@ -138,7 +138,7 @@ export class Things {
 
   head() {
     const onchange = () => this.choose(this.all.checked ? this.rows : []);
-    this.all = make("input", { type: "checkbox", tabIndex: -1, "aria-label": t.chooseAll, onchange });
+    this.all = make("input", { type: "checkbox", tabIndex: -1, ariaLabel: t.chooseAll, onchange });
     this.heads = this.columns.map((by) => {
       const its = by in BY && button(t.heads[by], () => this.sortBy(by), { tabIndex: -1 });
       return { by, button: its, cell: make(`th.${by}`, { scope: "col" }, its || t.heads[by]) };

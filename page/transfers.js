@@ -16,7 +16,7 @@ class Transfer {
   constructor(app, title, { total, unit = sizeWords, about }) {
     Object.assign(this, { app, title, total, unit, about, notes: [], faults: [], done: 0, isCancelled: false });
     this.start = performance.now();
-    this.bar = make("progress", { max: Math.max(total, 1), value: 0, "aria-label": title });
+    this.bar = make("progress", { max: Math.max(total, 1), value: 0, ariaLabel: title });
     this.words = make("span");
     this.element = make("p.transfer", make("span", title), this.bar, this.words,
       button(t.cancel, () => this.cancel(), "small"));

@@ -21,12 +21,12 @@ export class FolderTree {
     Object.assign(this, { app, barred, value, items: new Map() });
     this.told = make("p", { role: "status" });
     this.legend = make("legend");
-    this.list = make("ul.tree", { role: "tree", "aria-label": t.toFolder, onkeydown: (event) => this.key(event),
+    this.list = make("ul.tree", { role: "tree", ariaLabel: t.toFolder, onkeydown: (event) => this.key(event),
       onclick: (event) => this.click(event) });
     const folders = latest(app).filter(([it, isFolder]) => isFolder && it !== value && !this.isBarred(it));
     const recent = folders.slice(0, MOST_RECENT).map(([it]) =>
       button(nameText(this.nameOf(it)), () => this.goTo(it), { className: "small", title: shown(it) }));
-    this.element = make("fieldset.chooser", this.legend, recent.length > 0 && make("p", t.recent, " ", recent),
+    this.element = make("fieldset.chooser", this.legend, recent.length > 0 && make("p", t.latest, " ", recent),
       this.list, this.told, make("p", button(t.newFolder, () => this.makeHere(), "small")));
     this.list.append(this.item(ROOT));
     this.tell();
@@ -41,7 +41,7 @@ export class FolderTree {
   }
 
   item(path) {
-    const it = make("li", { role: "treeitem", tabIndex: -1, "aria-expanded": "false", "aria-selected": "false" },
+    const it = make("li", { role: "treeitem", tabIndex: -1, ariaExpanded: "false", ariaSelected: "false" },
       make("span", icon("folder"), nameText(this.nameOf(path))));
     it.path = path;
     this.items.set(path, it);

@@ -12,7 +12,7 @@ export const t = {
   loggedOut: "You are logged out", forgotten: "What you downloaded is still on this machine.",
   notLoggedOut: "Not logged out", notForgotten: "The front still takes your login: close all windows of this browser.",
   // where people log in
-  loginName: "Name", password: "Password", asking: "Asking …", wrongLogin: "Name or password is wrong.",
+  loginName: "Name", password: "Password", wrongLogin: "Name or password is wrong.",
   manyLogins: "Too many tries: wait a minute.", byBox: "Log in by the browser's own window",
   noDirectory: "The login service does not answer. Try again in a minute.",
   loggedIn: "You are logged in: go back to the window before.",
@@ -95,7 +95,7 @@ export const t = {
   // lists in words
   reach: ["this folder itself", "the documents in it", "the folders in it", "what is further down"],
   whom: { "": "nobody yet", "EVERYONE@": "everyone", "OWNER@": "its owner", "GROUP@": "its group", user: "the user",
-    group: "the group" }, noWhom: "Choose for whom it counts.", countsNowhere: "Counts nowhere.",
+    group: "the group" }, noWhom: "It is for nobody yet: choose for whom.", countsNowhere: "Counts nowhere.",
   notInRoster: "{0} is no {1|user|group} of this room's roster.", ruling: "{0|Deny|Allow} {1} to {2}.",
   handsDown: "{0|Counts here, and is|Does not count here, but is} handed down to {1} in it{2|, and further down|, " +
     "and no further}.", doNothing: "do nothing", children: ["documents", "folders"], countsHere: "Counts here alone.",
@@ -128,7 +128,7 @@ export const t = {
   handedBehind: "These stand behind its own entries, and are changed there: ", listBack: "Sharing is as it was.",
   tellThem: "Send the link by mail", noControl: "You can then no longer change who has access.",
   listSet: "Sharing updated.", listOf: "The list of {0}", theirs: "Theirs",
-  needWhom: "An entry is for nobody yet. Choose for whom it counts.", setAllTheSame: "Set it all the same",
+  setAllTheSame: "Set it all the same",
   aboutList: "For each right the first entry that names it and the person decides; else it is denied. One must also " +
     "pass through each folder above.", yours: "Yours",
   takeTheirs: "Take theirs", countsForNobody: "{0} The entry counts for nobody until the roster has that name.",
@@ -168,13 +168,13 @@ export const t = {
   davLogin: "It asks for the login and the password of this page.", inGnome: "GNOME: Files, Other Locations: {0}",
   edit: "Edit", make: "Create", replace: "Replace", save: "Save", text: "Text", notReplaced: "Nothing is saved yet.",
   appendTo: "Add text to {0}", onOwnLine: "The text is added at the end, on a line of its own.", doTo: "{0} {1}",
-  appended: "Added.", replaced: "Saved.", keptAs: "Yours is kept as {0}.", keepCopy: "Keep mine as a copy",
+  replaced: "Saved.", keptAs: "Yours is kept as {0}.", keepCopy: "Keep mine as a copy",
   theirBytes: "These are bytes that are no text.", isMade: "{0} created.", isNow: "{0} {2|is|are} now {1}.",
   goOnWithMine: "Go on with mine", yoursThen: "Everyone with access to this folder will have access to it.",
   isHeld: "{0} {1|is|are} {2|cut|copied}: Ctrl V puts {1|it|them} into the folder that is shown.",
   // move, copy, remove
   toFolder: "To the folder ", isHere: "That is where it is: choose another folder above, or another name.",
-  recent: "Recent:", moveWords: "Access will be as in the new folder, beside what it has of its own.",
+  moveWords: "Access will be as in the new folder, beside what it has of its own.",
   copyWords: "What the original had of its own does not go with it.", forGood: "It cannot be brought back.",
   intoItself: "Nothing goes into itself: choose another folder.", documents: "{0} {0|document|documents}",
   isCopied: "{0} {2|is|are} copied to {1}.", goesWith: "With it go {0} that {1|is|are} in it.",
@@ -210,11 +210,11 @@ export const t = {
   notYourUpload: "{0} is an unfinished upload {1}, and others could read what you put there: take another name.",
   uploadBy: "of {0}", wholeLeft: "A whole version that was to take a place is called {0} now: look at it.",
   isMixed: "A large file is here, and other items that are shown. Without these it is a file again.",
-  madeAnew: "Somebody could write {0}, whatever its list says, by its pieces. That is mended.",
-  prepared: "Somebody may write {0}, whatever its list says, by its pieces. Save it anew.",
+  madeAnew: "Somebody without access could change {0}. That is mended.",
+  prepared: "Somebody without access can change {0}. Save it anew.",
   otherStands: "Somebody else's version of {0} stands.", otherCame: "Another version came meanwhile: look at it.",
   ownListed: "with access of its own", noPart: "{0} is no part of a file, whatever its name: look at it.",
-  mayDamage: "Somebody may be able to damage {0}, whatever its list says:",
+  mayDamage: "Somebody without access may be able to damage {0}:",
   isLeft: "Something is left of the upload to {0}",
   // search
   search: "Search", resultsFor: "Results for “{0}”", stopped: "Stopped.", onlyIn: "Only in {0}",

@@ -372,7 +372,7 @@ def append(browser, text, before=lambda: None):
 
 def appended(browser, text):
     append(browser, text)
-    browser.sees("Added.")
+    browser.sees("Saved.")
 
 
 def edit(browser, text):

@@ -73,7 +73,7 @@ def test_a_killed_room(club, browser, log):
     append(browser, "killed", club.room.kill)
     browser.sees("The room is busy", "#busy")
     club.room.start()
-    browser.sees("Added.")
+    browser.sees("Saved.")
     assert log() == "killed\n"
 
 
@@ -160,5 +160,5 @@ def test_another_password(club, browser, log, another_password):
     back()
     club.log_in_elsewhere("ann")
     browser.script("window.dispatchEvent(new Event('focus'))")  # (as by who comes back to a window)
-    browser.sees("Added.")
+    browser.sees("Saved.")
     assert log() == "late\n"

@@ -167,7 +167,7 @@ def test_a_login_that_ends(club, browser, passwords):
     types(browser, "ann", "another word")
     browser.until("it closes", lambda: browser.tabs() == before)
     browser.turn_to(before[0])
-    browser.sees("Added.")
+    browser.sees("Saved.")
     assert club.text(PATH) == "text\ntyped\n"
 
 

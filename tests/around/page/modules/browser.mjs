@@ -61,8 +61,6 @@ export class Element {
   setAttribute(key, value) { this.attributes.set(key, String(value)); }
   getAttribute(key) { return this.attributes.get(key) ?? null; }
   removeAttribute(key) { this.attributes.delete(key); }
-  get ariaExpanded() { return this.getAttribute("aria-expanded"); }
-  set ariaExpanded(it) { this.setAttribute("aria-expanded", it); }
   addEventListener() {}
   normalize() {}
   setSelectionRange() {}
@@ -126,6 +124,12 @@ export class Element {
 
   querySelector(selector) { return this.querySelectorAll(selector)[0] ?? null; }
   contains(it) { return it === this || Boolean(it?.parentNode) && this.contains(it.parentNode); }
+}
+
+for (const name of ["AutoComplete", "Checked", "Current", "Expanded", "HasPopup", "Label", "MultiSelectable", "Selected"]) {
+  const key = `aria-${name.toLowerCase()}`;
+  Object.defineProperty(Element.prototype, `aria${name}`,
+    { get() { return this.getAttribute(key); }, set(it) { this.setAttribute(key, it); } });
 }
 
 const listeners = new Map();
