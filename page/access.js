@@ -9,11 +9,8 @@ import { FOLDER, LARGE, MANIFEST, MOST_ENTRIES, NOBODY, REACH, RIGHTS, ROOT, SET
   sentence, setBack, setList, setOf, shown, shutOut, standing, standingAt, t, tellFault, whomFault, whomOf, whomText,
   withFollows, withWhom } from "./shared.js";
 
-function knownNames(roster, entries) {
-  const seen = entries.map((it) => whomOf(it).name).filter(Boolean);
-  const names = new Set([...Object.entries(roster ?? {}).flat(2), ...seen]);
-  return make("datalist", { id: "known-names" }, [...names].sort().map((value) => make("option", { value })));
-}
+const knownNames = (roster) => make("datalist", { id: "known-names" },
+  [...new Set(Object.entries(roster ?? {}).flat(2))].sort().map((value) => make("option", { value })));
 
 let isDetailed = false; // whether the editor is open, from one list to the next
 const sentences = (entries, standing, how = {}) =>
@@ -291,5 +288,5 @@ export async function showAccess(app, place) {
   const more = make("details.exceptions", { open: isDetailed }, make("summary", t.details),
     make("p.about", ownedWords(its)), make("p", t.aboutList), view.element);
   more.ontoggle = () => { isDetailed = more.open; };
-  return [...head(place), panel.element, more, knownNames(roster, list.entries)];
+  return [...head(place), panel.element, more, knownNames(roster)];
 }

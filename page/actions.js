@@ -4,7 +4,7 @@ import { copyTo, move, putBack, remove, wayBack } from "./moving.js";
 import { ADD_FILE, ADD_FOLDER, ALL, APPEND, DELETE, DELETE_CHILD, FILE, FOLDER, LARGE, MOST_BYTES, PASS_THROUGH as PASS,
   READ, READ_LIST, ROOT, UNFINISHED, WRITE, addressOf, area, ask, button, changesIn, checkbox, clean, drawRail,
   entriesOf, faultLine, filesButton, folderOf, fromBase64, fromText, hasDav, inFolder, isStarred, isTrash, keepBeside,
-  lastName, make, makeLike, nameFault, nameInput, newVersion, offered, pathFault, placeIn, say, showAddresses, shown, t,
+  lastName, make, makeLike, nameFault, nameInput, newVersion, offered, placeIn, say, showAddresses, shown, t,
   tellFault, toBase64, toText, toldBy, turnStar, whenWords, wholeLink, withFollows } from "./shared.js";
 
 export const rightsOn = async (room, path) => await room.rights(path) ?? ALL;
@@ -151,10 +151,9 @@ export async function edit(app, path) {
 
 async function rename(app, path) {
   const to = nameInput(lastName(path), { size: 30 });
-  const isPath = () => to.value.startsWith("/");
-  const target = () => (isPath() ? clean(to.value) : inFolder(folderOf(path), clean(to.value)));
+  const target = () => inFolder(folderOf(path), clean(to.value));
   const isDone = await ask({ title: t.doTo(t.rename, shown(lastName(path))), does: t.rename,
-    fields: [[t.heads.name, to]], faultOf: () => (isPath() ? pathFault(target()) : nameFault(clean(to.value))),
+    fields: [[t.heads.name, to]], faultOf: () => nameFault(clean(to.value)),
     task: () => app.room.run("RENAME", path, { to: target() }) });
   if (!isDone) return;
   const now = target();

@@ -140,7 +140,7 @@ export function nameInput(value = "", how = {}) {
       hint.replaceChildren();
       field.focus();
     };
-    hint.replaceChildren(...isTooLong(name) && !name.startsWith("/") ?
+    hint.replaceChildren(...isTooLong(name) ?
       [nameFault(name), " ", button(t.shorten(shown(shortened(name))), take, "small")] : []);
     field.parentNode.after(hint);
   };
@@ -151,13 +151,10 @@ export const area = (value = "", rows = 16) => make("textarea", { value, rows })
 
 const inline = (text) => text.split("**").map((it, at) => (at % 2 ? make("b", it) : it));
 
-/** A line begins a paragraph, `# ` a heading. */
-const drawn = (help) => help.trim().split(/\n(?! )/).map((it) =>
-  (it.startsWith("# ") ? make("h3", it.slice(2)) : make("p", inline(it))));
-
+/** (Each line begins a paragraph.) */
 export async function showHelp() {
   const { help } = await import(`./help.${language}.js`);
-  await ask({ title: t.help, words: drawn(help), stays: t.close });
+  await ask({ title: t.help, words: help.trim().split(/\n(?! )/).map((it) => make("p", inline(it))), stays: t.close });
 }
 
 const EDGE = 8; // pixels that stay free beside it

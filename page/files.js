@@ -111,8 +111,8 @@ export class Upload {
   /** (Else anyone who may add could make such a folder, and open it to others.) */
   async needOwn() {
     const { room, path, stat: { owner } } = this;
-    const why = owner !== room.user ? t.uploadBy(owner) : ownList(await room.aside("GETLIST", path)) && t.ownListed;
-    if (why) throw new Error(t.notYourUpload(this.called, why));
+    if (owner === room.user && !ownList(await room.aside("GETLIST", path))) return;
+    throw new Error(t.notYourUpload(this.called));
   }
 
   async putPieces(at, spare = null) {

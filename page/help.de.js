@@ -1,6 +1,5 @@
 /** The help in German (dialogs.js). */
 export const help = `
-# Ordner und Dokumente
 Ein Klick auf den Namen öffnet es; der Knopf ⋯ einer Zeile zeigt, was Sie damit tun dürfen.
 **Text hinzufügen** setzt am Ende eines Dokuments Zeilen an, auch wo es jemand anderes gleichzeitig tut. **Bearbeiten**
   ersetzt alles und zeigt beide Texte, wenn es jemand inzwischen geändert hat. **Neue Fassung hochladen** ersetzt es
@@ -11,9 +10,4 @@ Tasten: **Strg /** führt zur Suche, **Alt ↑** zum Ordner darüber, **Strg Z**
   **F2** benennt um, **Entf** entfernt, **Strg A** wählt alles, **Strg X** oder **Strg C** und dann **Strg V**
   verschieben oder kopieren in den gezeigten Ordner, und Buchstaben führen zu einem Namen; **Strg S** speichert, was
   geschrieben wird.
-# Wenn keine Antwort kommt
-Jede Anfrage wird gesendet, bis eine Antwort kommt, auch nach einem Neuladen, und einmal ausgeführt. **Aufgeben**
-  beendet das: sehen Sie nach, ob es getan wurde, bevor Sie es wiederholen.
-# Wer darf was
-**Freigeben** zeigt, wer Zugriff hat, und unter **Genaue Einträge** jedes Recht.
 `;

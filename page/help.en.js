@@ -1,6 +1,5 @@
 /** The help in English (dialogs.js). */
 export const help = `
-# Folders and documents
 A name opens it; the button ⋯ of a row has what you may do with it.
 **Add text** adds lines at the end of a document, also while somebody else does. **Edit** replaces all of it, and shows
   both texts if somebody changed it meanwhile. **Upload a new version** replaces it by a file, and keeps the old one
@@ -10,9 +9,4 @@ What you make, a copy too, is yours. **Remove** moves it to your trash, where yo
 Keys: **Ctrl /** goes to the search, **Alt ↑** to the folder above, **Ctrl Z** undoes; in the list **/** searches,
   **F2** renames, **Delete** removes, **Ctrl A** chooses all, **Ctrl X** or **Ctrl C** and then **Ctrl V** move or copy
   into the folder shown, and letters go to a name; **Ctrl S** ends what is written.
-# When no answer comes
-Each request is sent again until it is answered, also after a reload, and is done once. **Give up** ends that: look
-  whether it was done before you repeat it.
-# Who may do what
-**Share** shows who has access, and below **Exact entries** each right.
 `;

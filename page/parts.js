@@ -52,16 +52,16 @@ const isFolder = async (room, path) => (await room.aside("STAT", path)).kind ===
 
 const documentAt = async (room, path) => (await isFolder(room, path) ? null : [[path]]);
 
+const namesIn = async (room, path) => (await isFolder(room, path) ? room.list(path) : null);
+
 async function piecesIn(room, path) {
-  if (!await isFolder(room, path)) return null;
-  const names = await room.list(path);
-  return names.every(form.isOurPiece) ? [names.map(([name]) => inFolder(path, name)), [path]] : null;
+  const names = await namesIn(room, path);
+  return names?.every(form.isOurPiece) ? [names.map(([name]) => inFolder(path, name)), [path]] : null;
 }
 
 export async function fileAt(room, path) {
-  if (!await isFolder(room, path)) return null;
-  const names = await room.list(path);
-  if (names.length && !form.isLarge(names) && !form.isUnfinished(names)) return null;
+  const names = await namesIn(room, path);
+  if (!names || names.length && !form.isLarge(names) && !form.isUnfinished(names)) return null;
   const paths = (isManifest) => names.filter(([name]) => (name === form.MANIFEST) === isManifest)
     .map(([name]) => inFolder(path, name));
   const parts = await Promise.all(paths(false).map((it) => piecesIn(room, it)));

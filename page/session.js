@@ -136,20 +136,10 @@ class Session {
   /** `patience` waits (busy.js), `stillUser` ends a page that is another user's by now. */
   constructor(base, key, patience, stillUser) {
     Object.assign(this, { base, key, patience, stillUser });
-    Session.#renewOldForm(key);
     this.kept = read(key) ?? fresh();
     this.lanes = Array.from({ length: SLOTS }, (_, slot) => new Lane(this, slot));
     this.free = this.lanes.slice(1, 1 + ASIDE);
     this.queue = [];
-  }
-
-  /** A session of before had one slot, and all in one text. */
-  static #renewOldForm(key) {
-    const { name, number, pending } = read(key) ?? {};
-    if (number === undefined) return;
-    if (pending) localStorage.setItem(`${key}/slot/0/body`, pending.body);
-    write(`${key}/slot/0`, { name, number, pending: pending && { number: pending.number, sent: pending.sent } });
-    localStorage.removeItem(key);
   }
 
   #keep(change) {

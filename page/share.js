@@ -136,7 +136,7 @@ export class SharePanel {
     const what = select(this.presets, "view", () => {}, { ariaLabel: t.may });
     this.fault = make("p.fault", { role: "alert" });
     const keeps = this.kind === FOLDER && this.owner && !this.shares.length &&
-      checkbox(this.owner === this.user ? t.keepMine : t.keepFull(personText(this.owner)), true, () => {});
+      checkbox(t.keepFull(personText(this.owner)), true, () => {});
     const onsubmit = onSubmit(() => {
       const found = whomBy(whom.value.trim(), this.isWhole ? this.roster : null);
       this.fault.textContent = found.fault ?? "";
@@ -159,22 +159,19 @@ export class SharePanel {
 
   tellFull(whom, name, count) {
     const same = sharesOf(this.own, this.kind).shares.filter((it) => it.whom.id === "user" && it.name === name);
-    const users = new Set([...same.map((it) => it.whom.name), whom.name]);
-    const its = whom.id === "user" && Object.hasOwn(this.roster, whom.name) ? this.roster[whom.name] : [];
-    const groups = its.map((group) => {
-      const members = Object.keys(this.roster).filter((user) => this.roster[user].includes(group));
-      const others = members.filter((it) => !users.has(it)).length;
-      return { group, others, named: members.length - others };
-    });
-    const best = groups.filter((it) => it.named > 1).sort((a, b) => b.named - a.named)[0];
+    const users = [...same.map((it) => it.whom.name), whom.id === "user" && whom.name];
+    const membersOf = (group) => Object.keys(this.roster).filter((it) => this.roster[it].includes(group));
+    const named = (group) => membersOf(group).filter((it) => users.includes(it)).length;
+    const groups = [...new Set(Object.values(this.roster).flat())].filter((it) => named(it) > 1);
+    const best = groups.filter((it) => membersOf(it).includes(users.at(-1))).sort((a, b) => named(b) - named(a))[0];
     const instead = () => {
-      const gone = same.filter((it) => this.roster[it.whom.name]?.includes(best.group)).flatMap((it) => it.entries);
-      const news = entriesOf(name, { id: "group", name: best.group }, this.kind);
+      const gone = same.filter((it) => membersOf(best).includes(it.whom.name)).flatMap((it) => it.entries);
+      const news = entriesOf(name, { id: "group", name: best }, this.kind);
       this.set([...this.own.filter((it) => !gone.includes(it)), ...news], news);
     };
     this.fault.replaceChildren(t.listFull(count, MOST_ENTRIES), " ", ...best ?
-      [t.groupHas(best.group, best.others), " ",
-        button(t.groupInstead(best.group, best.named), instead, "small")] : [t.nameGroup]);
+      [t.groupHas(best, membersOf(best).length - named(best)), " ",
+        button(t.groupInstead(best, named(best)), instead, "small")] : [t.nameGroup]);
   }
 
   ofOwner() {

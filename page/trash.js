@@ -1,5 +1,5 @@
 /** The trash: what was removed lies in a folder of the user's own in /trash (docs/FILES.md). */
-import { EXIST, FOLDER, FOLDER_FULL, ROOT, TOO_DEEP, Refusal, folderOf, inFolder, isPrivate, isTooLong, isWithin,
+import { EXIST, FOLDER, FOLDER_FULL, ROOT, Refusal, folderOf, inFolder, isPrivate, isTooLong, isWithin,
   language, lastName, nameFault, namesOf, orFault, pathFault, shortened, shown, t } from "./common.js";
 import { isSpare } from "./manifest.js";
 
@@ -21,7 +21,7 @@ export const withoutPool = (path, names) => (isTrash(path) ? names.filter((it) =
 export async function ownTrash({ room, user }) {
   for (const path of placesFor(user)) {
     const its = await room.look("STAT", path);
-    if (its?.kind === FOLDER) return its.owner === user ? { path } : { fault: t.foreignTrash(path, its.owner) };
+    if (its?.kind === FOLDER) return its.owner === user ? { path } : { fault: t.openTrash(path) };
   }
   return {};
 }
@@ -49,7 +49,6 @@ export async function placedInTrash(path, trash, task) {
     const to = inFolder(trash, nameInTrash(path, new Date(Date.now() + more * 1_000)));
     const fault = await orFault(task(to));
     if (!(fault instanceof Refusal)) return to;
-    if (fault.code === TOO_DEEP) throw new Error(t.trashDeep);
     if (fault.code === FOLDER_FULL) throw new Error(t.trashFull);
     if (fault.code !== EXIST || more === 30) throw fault;
   }

@@ -80,7 +80,7 @@ async function fitting(app, folder, chosen) {
 }
 
 const listed = (words) => [listOf(words.slice(0, MOST_TOLD)),
-  words.length > MOST_TOLD && t.andMore(words.length - MOST_TOLD)];
+  words.length > MOST_TOLD && t.others(words.length - MOST_TOLD)];
 
 function lister(room) {
   const asked = new Map();
@@ -176,10 +176,8 @@ async function overfull(wanted, folder, namesIn) {
 }
 
 function beforeWords(replaced) {
-  const [one, ...others] = replaced;
-  if (!one) return "";
-  return t.tookPlace(others.length ? t.countOf(replaced.length) : shown(lastName(one.path)),
-    one.trash ? t.keptInTrash : one.kept ? t.keptUnder(shown(lastName(one.kept))) : t.notKept);
+  const [one] = replaced;
+  return one?.kept ? t.keptUnder(replaced.length, one.trash ? t.trash : shown(lastName(one.kept))) : "";
 }
 
 async function sendAll(app, transfer, wanted, folder) {

@@ -320,7 +320,7 @@ def test_link(club, browser, frame):
     """It is copied from a row's menu."""
     browser.devtools("Browser.grantPermissions", permissions=["clipboardReadWrite", "clipboardSanitizedWrite"])
     by_menu(browser, "notes.txt", "Copy the link")
-    browser.sees("The link is copied", "#notices")
+    browser.sees("Link copied", "#notices")
     reads = "navigator.clipboard.readText().then(arguments[0], (fault) => arguments[0](String(fault)))"
     assert browser.later(reads) == club.address(f"#open/club{TOP}/notes.txt")
 

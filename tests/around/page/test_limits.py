@@ -129,7 +129,7 @@ def test_limit_of_depth_in_the_trash(club, browser):
     club.lay("/d" * 15 + "/")
     club.open("/d")
     of_folder(browser, "Remove")
-    browser.sees("In the trash something of it would have more than 16 names", "#notices")
+    browser.sees("Something would have more than 16 names", "#notices")
     assert club.names("/d" * 14) == ["d"]
 
 

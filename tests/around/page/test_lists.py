@@ -79,7 +79,7 @@ def test_two_change_a_list(club, browser):
     club.lay(path)
     club.open(path, "access")
     set_list(browser, "the user", "nobody-here", "view")
-    browser.sees("nobody-here is no user of this room's roster.", "main")
+    browser.sees("nobody-here is no user of this room.", "main")
     club.sets(path, entry("bob", 1, 0))
     browser.press("Save the list")
     browser.sees("nobody-here is no user", "dialog")

@@ -91,7 +91,7 @@ def test_search_shows_what_it_found_so_far(club, browser, school):
     club.lossy.hold('"LIST"', "class05")
     search_in(club, TOP, "plan")
     browser.sees("7 results among", "main")
-    browser.sees("8 of 9 folders that are known so far", "main")
+    browser.sees("8 of 9 folders known so far", "main")
     assert len(browser.script(FOUND)) == 7
     club.lossy.go_on()
     ends(browser, "8 results among")
@@ -103,7 +103,7 @@ def test_search_among_three_thousand_files(club, browser, school):
     club.lossy.hold('"LIST"', "2007")
     search_in(club, PAPERS, "MINUTES")
     browser.sees("550 results among 2761 names.", "main")
-    browser.sees("Looking: 12 of 13 folders that are known so far", "main")
+    browser.sees("Looking: 12 of 13 folders known so far", "main")
     browser.sees("The first 500 are shown.", "main")
     assert len(browser.script(FOUND)) == 500
     club.lossy.go_on()

@@ -236,7 +236,7 @@ def test_share_for_the_first_time_keeps_the_owners_access(club, browser, passed,
     """To what others add, unless the tick is taken away, or nothing can be added."""
     club.open(PATH, "access")
     if not keeps:
-        browser.act("//main//label[contains(., 'Keep full access for me')]/input", "click")
+        browser.act("//main//label[contains(., 'keeps full access')]/input", "click")
     share(browser, "staff", level)
     browser.sees("Sharing updated.", "#notices")
     assert [it[3] for it in club.own(PATH)] == whos

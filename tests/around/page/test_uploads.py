@@ -92,7 +92,7 @@ def replace(browser, path, words="Replace"):
 
 def test_upload_of_a_new_version_beside_the_old_one(club, browser, large):
     replace(browser, club.on_disk("new", b"ten bytes."), "Keep both")
-    browser.sees("large took the place of what was there, which is kept as large (before ", "#notices")
+    browser.sees("The old version is kept: large (before ", "#notices")
     old, = [it for it in club.names("/big") if it.startswith("large (before ")]
     assert (club.held(large), club.held(f"/big/{old}")) == (b"ten bytes.", LARGE)
 
@@ -184,7 +184,7 @@ def test_upload_that_is_stopped(club, browser, big):
     browser.sees("/big/stopped was not wholly uploaded, copied or removed as the page ended", "#notices")
     browser.until("it is shown", lambda: "unfinished upload" in row(browser, "stopped"))
     browser.follow("stopped")
-    browser.sees("was stopped, or is under way", "main")
+    browser.sees("was stopped or goes on", "main")
     writing = f"/big/stopped/{club.names('/big/stopped')[0]}"
     pieces = club.names(writing)
     assert len(pieces) >= 2
@@ -210,7 +210,7 @@ def test_upload_that_is_stopped_over_a_document(club, browser, name, told):
     """It is told. (How the next one goes on: the cases.)"""
     club.lay((f"/big/{name}", b"old"), f"/big/{beside('between')[1]}/")
     club.open("/big")
-    browser.sees(f"of a large file that was to take the place of {told}", "main")
+    browser.sees(f"of a large file that was to replace {told}", "main")
 
 
 # Folders
@@ -290,7 +290,7 @@ def test_upload_over_a_name_keeps_the_old_in_the_trash(club, browser, size):
     club.open("/twice")
     choose(browser, "Upload", club.on_disk("letter.txt", b"new" * PIECE))
     browser.press("Replace, and keep the old in the trash", DIALOG)
-    browser.sees("letter.txt took the place of what was there, which is kept in the trash.", "#notices")
+    browser.sees("The old version is kept: Trash.", "#notices")
     name, = club.names("/trash/ann")
     assert name.startswith("letter.txt~twice~")
     assert (club.held(f"/trash/ann/{name}"), club.held("/twice/letter.txt")) == (bytes(size), b"new" * PIECE)

@@ -126,7 +126,8 @@ export class Element {
   contains(it) { return it === this || Boolean(it?.parentNode) && this.contains(it.parentNode); }
 }
 
-for (const name of ["AutoComplete", "Checked", "Current", "Expanded", "HasPopup", "Label", "MultiSelectable", "Selected"]) {
+for (const name of ["AutoComplete", "Checked", "Current", "Expanded", "HasPopup", "Label", "MultiSelectable",
+  "Selected"]) {
   const key = `aria-${name.toLowerCase()}`;
   Object.defineProperty(Element.prototype, `aria${name}`,
     { get() { return this.getAttribute(key); }, set(it) { this.setAttribute(key, it); } });

@@ -58,7 +58,7 @@ test("what is removed goes to the trash, and back by one press", async () => {
 
 test("who has no private trash removes for good, and is told so", async () => {
   for (const [more, why] of [[{ list: { aclflag: 1, entries: [] } }, t.openTrash(TRASH)],
-    [{ owner: "bob", list: PRIVATE }, t.foreignTrash(TRASH, "bob")]]) {
+    [{ owner: "bob", list: PRIVATE }, t.openTrash(TRASH)]]) {
     const shelf = trashed();
     Object.assign(shelf.things.get(TRASH), more);
     const app = appOver(shelf);

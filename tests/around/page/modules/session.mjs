@@ -193,20 +193,6 @@ test("a store that is full for a time loses nothing", async () => {
   assert.equal(await logged(its), "x");
 });
 
-test("a session of before goes on, with what was under way in it", async () => {
-  const its = await begun();
-  await endsIn(() => its.session.ask(append("x")), "lose");
-  const body = localStorage.getItem(holding()[0]);
-  const { number } = JSON.parse(localStorage.getItem(holding()[0].slice(0, -5))).pending;
-  const { name } = its.session.kept;
-  kept.clear();
-  localStorage.setItem("fileroom/ann/club/0", JSON.stringify({ name, number, pending: { number, sent: 1,
-    body: JSON.parse(JSON.stringify(body)) } }));
-  const next = await tab();
-  assert.deepEqual(next.told.map(([command, reply]) => [command, reply.code]), [[append("x"), 0]]);
-  assert.equal(await logged(next), "x");
-});
-
 test("no more goes out at once than the front takes", async () => {
   const [pauses, plain, now] = [[], globalThis.setTimeout, performance.now];
   performance.now = () => 1e9;
