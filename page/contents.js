@@ -4,10 +4,11 @@ import { head } from "./heads.js";
 import { emptyTrash } from "./moving.js";
 import { ACCESS, ADD_FILE, ADD_FOLDER, FILE, FOLDER, LARGE, MANIFEST, NOBODY, PASS_THROUGH, READ, READ_LIST, ROOT,
   UNFINISHED, Refusal, Seers, addressOf, beforeWords, beside, button, byName, canShow, changesIn, checkbox, clean,
-  closedLine, faultLine, filesButton, folderOf, fromBase64, hasDav, icon, inFolder, inOrder, isInTrash, isOwnTrash,
-  isPart, isPdf, isPicture, isTrash, kindBy, lastName, latest, link, make, manifestAt, menuButton, nameAt, note,
-  nothing, offered, once, orFault, ownTrash, ownedWords, part, pointOf, preview, readFile, shown, sizeWords, stars, t,
-  toText, upload, walk, whileSo, withoutPool } from "./shared.js";
+  closedLine, faultLine, filesButton, folderOf, foldersAbove, fromBase64, givenHere, hasDav, icon, inFolder, inOrder,
+  isFor, isInTrash, isNamed, isOwnTrash, isPart, isPdf, isPicture, isTrash, kindBy, lastName, latest, link, make,
+  manifestAt, menuButton, nameAt, note, nothing, offered, once, orFault, ownOf, ownTrash, ownedWords, part, pointOf,
+  preview, readFile, shown, sizeWords, stars, t, toText, upload, walk, whileSo, whomOf,
+  withoutPool } from "./shared.js";
 import { Things } from "./things.js";
 
 const PREVIEWED = 2 ** 22; // bytes of a large file that are read unasked
@@ -166,6 +167,7 @@ class Search {
     const { app, place } = this;
     const walked = (done, known) => Object.assign(this, { done, known });
     try {
+      await this.begin?.();
       await walk(app.room, place.isHere ? place.path : ROOT, (it) => this.meet(it),
         { ...whileSo(() => !this.isStopped), walked });
       this.tell();
@@ -175,11 +177,17 @@ class Search {
     this.end.remove();
   }
 
+  fits(path) { return small(nameAt(path)).includes(small(this.place.word)); }
+
   meet({ path, kind, isShut }) {
     this.looked += 1;
     if (isShut) this.shut += 1;
-    if (small(nameAt(path)).includes(small(this.place.word)) && (this.found += 1) <= MOST) this.show(path, kind);
+    if (this.fits(path)) this.find(path, kind);
     this.tell(t.looking(this.done, this.known));
+  }
+
+  find(path, kind) {
+    if ((this.found += 1) <= MOST) this.show(path, kind);
   }
 
   show(path, kind) {
@@ -192,7 +200,44 @@ class Search {
   tell(end = "") {
     const { looked, found, shut } = this;
     const more = found > MOST ? ` ${t.firstShown(MOST)}` : "";
-    this.told.textContent = `${t.found(found, looked)}${shut ? t.shutIn(t.folders(shut)) : ""}${more} ${end}`.trim();
+    const isShut = shut ? `${t.shutIn(t.folders(shut))} ${t.byLink}` : "";
+    this.told.textContent = `${t.found(found, looked)}${isShut}${more} ${end}`.trim();
+  }
+}
+
+/** What is somebody else's, and names the caller or a group of theirs: not what is in such a folder. (No walk comes
+ * through folders that tell no names, but the caller may have been there.) */
+class Shared extends Search {
+  async begin() {
+    const { app } = this;
+    this.met = new Map();
+    this.groups = (await app.room.users())?.[app.user] ?? [];
+    for (const [path, isFolder] of [...stars(app), ...latest(app)]) {
+      for (const it of [...foldersAbove(path).slice(1), path]) {
+        if (!await this.meet({ path: it, kind: it !== path || isFolder ? FOLDER : FILE })) break;
+      }
+    }
+  }
+
+  /** (Gives whether to look into it.) */
+  meet({ path, kind, isShut }) {
+    if (isInTrash(path)) return false;
+    if (isShut) this.shut += 1;
+    return once(this.met, path, async () => {
+      this.looked += 1;
+      const isIt = await this.fits(path);
+      if (isIt) this.find(path, kind);
+      this.tell(t.looking(this.done, this.known));
+      return !isIt;
+    });
+  }
+
+  async fits(path) {
+    const { groups, app: { room, user } } = this;
+    const list = await room.look("GETLIST", path);
+    const its = ownOf(list ?? { entries: [] }).filter((it) => isNamed(whomOf(it).id) && isFor(it, {}, user, groups));
+    return (givenHere(its) & READ) !== 0 && (await room.rights(path) & READ) !== 0 &&
+      (await room.look("STAT", path))?.owner !== user;
   }
 }
 
@@ -209,6 +254,11 @@ export async function showFind(app, place) {
   part("search").querySelector("input").value = place.word;
   const title = place.word ? t.resultsFor(place.word) : t.search;
   return [...head(place, { title }), once(kept, addressOf(place), () => new Search(app, place)).element];
+}
+
+export async function showShared(app, place) {
+  const its = once(kept, addressOf(place), () => new Shared(app, place));
+  return [...head(place, { title: t.sharedWithYou }), its.element];
 }
 
 export async function showRecent(app, place) {

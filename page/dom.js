@@ -136,6 +136,7 @@ const SHAPES = {
   file: SHEET,
   room: "M4 11l8-7 8 7v9H4zM10 20v-6h4v6",
   trash: "M4 7h16M9 7V4h6v3M6 7l1 13h10l1-13M10 11v5M14 11v5",
+  shared: "M9 11a4 4 0 1 0 0-8 4 4 0 0 0 0 8zM2 20a7 7 0 0 1 14 0M16 8h6M19 5v6",
   recent: "M12 21a9 9 0 1 0 0-18 9 9 0 0 0 0 18zM12 7v5l3 2",
 };
 

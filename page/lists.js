@@ -167,7 +167,7 @@ export const ruling = (entry, kind, standing) =>
 export const sentence = (entry, kind, standing) => ruling(entry, kind, standing) +
   (kind === FOLDER || kind === LARGE && !isOfAll(entry) ? ` ${reachWords(entry.flag)}` : "");
 
-function isFor(entry, { owner, group }, user, groups) {
+export function isFor(entry, { owner, group }, user, groups) {
   const { id, name } = whomOf(entry);
   if (id === "OWNER@") return user === owner;
   if (id === "GROUP@") return groups.includes(group);

@@ -12,8 +12,8 @@ import { LANGUAGES, NOENT, ROOT, Refusal, Room, addressOf, arrive, ask, button, 
   isWithin, language, learnDav, learnNames, leave, make, namesOf, onSubmit, once, openMenu, part, pass, pathOf, placeOf,
   say, settle, showHelp, shown, standing, t, tellFault, untilClosed, warn, watch } from "./shared.js";
 
-const VIEWS = new Map(Object.entries(
-  { open: showContents, access: showAccess, who: showMatrix, find: showFind, recent: showRecent }));
+const VIEWS = { __proto__: null, open: showContents, access: showAccess, who: showMatrix, find: showFind,
+  recent: showRecent, shared: showShared };
 
 class App {
   constructor(user, rooms) {
@@ -97,7 +97,7 @@ class App {
     try {
       if (!this.rooms.includes(place.room)) throw new Error(t.noRoom(shown(place.room)));
       this.room = await this.openRoom(place.room);
-      return await (VIEWS.get(place.view) ?? showContents)(this, place);
+      return await (VIEWS[place.view] ?? showContents)(this, place);
     } catch (fault) {
       if (isRefused(fault, NOENT)) forget(this, place.path);
       return [...head(place, { hasViews: false }), closedLine(fault, place)];

@@ -1,6 +1,6 @@
 /** The ways to places; favourites and latest places, which the browser keeps until another logs in. */
-import { FILE, FOLDER, ROOT, addressOf, icon, isWithin, kindByName, lastName, link, make, nameText, part, shown,
-  t } from "./common.js";
+import { FILE, FOLDER, ROOT, addressOf, icon, isWithin, kindByName, lastName, link, make, nameText, offered, part,
+  shown, t } from "./common.js";
 import { hasDav } from "./dav.js";
 import { isInTrash, isOwnTrash, ownTrash } from "./trash.js";
 
@@ -47,18 +47,18 @@ export function follow(app, places) {
 
 /** Each a title, or none, and links, with the `kind` of an icon and what is `told` to who points at it. */
 async function sectionsOf(app, { room, path, view }) {
-  const [isRecent, its] = [view === "recent", app.room?.name];
+  const its = app.room?.name;
+  const wayTo = (kind, words) => ({ words, kind, place: { view: kind, room: its, path: ROOT }, isNow: kind === view });
+  const ways = offered([[its, wayTo("shared", t.sharedWithYou)], [hasDav(app), wayTo("recent", t.recentChanges)]]);
   const { latest: last, stars: own } = app.room ? mineOf(app) : { latest: [], stars: [] };
   const trash = app.room && (await ownTrash(app).catch(() => ({}))).path;
   const rooms = app.rooms.map((it) => ({ words: it, kind: "room", place: { room: it, path: ROOT },
-    isNow: it === room && !isInTrash(path) && !isRecent }));
+    isNow: it === room && !isInTrash(path) && !ways.some(({ isNow }) => isNow) }));
   const linksTo = (all) => all.filter(([it]) => !isInTrash(it)).map(([it, isFolder]) => ({ words: lastName(it),
     kind: kindByName(lastName(it), isFolder ? FOLDER : FILE), place: { room: its, path: it }, told: shown(it),
     isNow: it === path }));
-  const recent = { words: t.recentChanges, kind: "recent", place: { view: "recent", room: its, path: ROOT },
-    isNow: isRecent };
   const thrown = { words: t.trash, kind: "trash", place: { room: its, path: trash }, isNow: isOwnTrash(app, path) };
-  return [[t.rooms, rooms], ["", hasDav(app) ? [recent] : []], [t.favourites, linksTo(own)],
+  return [[t.rooms, rooms], ["", ways], [t.favourites, linksTo(own)],
     [t.latest, linksTo(last.filter(([it]) => it !== path).slice(0, MOST_LATEST))], ["", trash ? [thrown] : []]];
 }
 

@@ -105,8 +105,8 @@ export async function standingAt(room, path) {
   return isLarge ? { ...its, kind: LARGE } : its;
 }
 
-/** Calls `met` with each thing below a folder, a large file as a file; one may not look into what `isShut`. `walked` is
- * told how many of the known folders it has seen. */
+/** Calls `met` with each thing below a folder, a large file as a file; one may not look into what `isShut`. It goes not
+ * into what `met` gives false for. `walked` is told how many of the known folders it has seen. */
 export async function walk(room, path, met, transfer) {
   let [level, done, before] = [[path], 0, 0];
   while (level.length) {
@@ -116,10 +116,11 @@ export async function walk(room, path, met, transfer) {
       const { kind: found, names } = await lookInto(room, folder);
       transfer.walked?.(done += 1, before + level.length + next.length);
       const [kind, isShut] = [found === LARGE ? FILE : found, !names];
-      if (folder !== path || kind !== FOLDER || isShut) met({ path: folder, kind, isShut });
-      if (kind !== FOLDER || isShut) return;
+      const isMet = folder !== path || kind !== FOLDER || isShut;
+      const goesOn = !isMet || await met({ path: folder, kind, isShut });
+      if (kind !== FOLDER || isShut || goesOn === false) return;
       for (const [name, its] of names) {
-        if (its !== FOLDER) met({ path: inFolder(folder, name), kind: FILE });
+        if (its !== FOLDER) await met({ path: inFolder(folder, name), kind: FILE });
         else if (!form.isPart(name)) next.push(inFolder(folder, name));
       }
     });

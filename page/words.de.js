@@ -95,7 +95,7 @@ export const t = {
   notInRoster: "{0} ist {1|kein Benutzer|keine Gruppe} dieses Raums.", ruling: "{0|Verboten|Erlaubt} für {1}: {2}.",
   handsDown: "{0|Gilt hier und|Gilt hier nicht, aber} für {1} darin{2| und weiter unten|, weiter unten nicht}.",
   doNothing: "nichts tun", children: ["Dokumente", "Ordner"], countsHere: "Gilt nur hier.",
-  sharedWith: "Wer Zugriff hat", may: "Zugriff",
+  sharedWith: "Wer Zugriff hat", sharedWithYou: "Für Sie freigegeben", may: "Zugriff",
   groupInstead: "Für {0} freigeben, statt für {1} ihrer Mitglieder", groupMark: "Gruppe ", mayWhat: "Was {0} darf",
   severalAre: "{0} heißen mehrere. Wählen Sie den Anmeldenamen: {1}.", who: "Wer (Benutzer, Gruppe oder alle)",
   listFull: "Das wären {0} Einträge, höchstens {1} sind möglich.", noSuch: "Niemand heißt hier {0}.",

@@ -99,7 +99,7 @@ export const t = {
   handsDown: "{0|Counts here, and is|Does not count here, but is} handed down to {1} in it{2|, and further down|, " +
     "and no further}.", doNothing: "do nothing", children: ["documents", "folders"], countsHere: "Counts here alone.",
   // sharing
-  sharedWith: "Who has access", may: "Access",
+  sharedWith: "Who has access", sharedWithYou: "Shared with you", may: "Access",
   groupInstead: "Share it with {0}, in place of {1} of its members", groupMark: "group ", mayWhat: "What {0} may do",
   severalAre: "{0} are several people. Choose one by login: {1}.", who: "Who (a user, group or everyone)",
   listFull: "This would make {0} entries, and {1} are the most.", noSuch: "Nobody here is called {0}.",

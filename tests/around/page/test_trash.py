@@ -120,7 +120,7 @@ def test_who_restores_the_last_thing_stands_at_the_name(club, browser, trashes):
 
 def test_trash_that_is_not_there_has_no_way(club, browser):
     club.open()
-    browser.until("the rail", lambda: browser.script(TEXTS, "#rail a") == ["club"])
+    browser.until("the rail", lambda: browser.script(TEXTS, "#rail a") == ["club", "Shared with you"])
 
 
 def test_trash_on_a_phone(club, browser, trashes):
