@@ -39,7 +39,7 @@ async function leftWords(names) {
 
 async function tellWho(share, seers, path) {
   const found = await seers.of({ path, kind: FOLDER }).catch(() => null);
-  if (found) share.append(make("span.about", found.words));
+  if (found) share.replaceChildren(t.share, make("span.about", found.words));
 }
 
 async function folder(app, place, stat, rights, found) {
@@ -75,9 +75,15 @@ async function folder(app, place, stat, rights, found) {
     adder.show(pointOf(event));
   };
   const seers = things?.seers ?? new Seers(app);
-  if (share) tellWho(share, seers, path);
   const list = share && seers.questions.object(path).catch(() => null);
-  area.watched = { path, names: found.names, list, things, put: mayPut };
+  const tell = () => share && tellWho(share, seers, path);
+  const renew = () => {
+    seers.renew();
+    things?.renew();
+    tell();
+  };
+  tell();
+  area.watched = { path, names: found.names, list, things, put: mayPut, renew };
   return [...top, bar, ...things ? [things.bar.element] : [], area];
 }
 
@@ -146,7 +152,7 @@ export async function showContents(app, place) {
 
 const MOST = 500; // things that are shown
 const [MOST_CHANGES, MOST_FOLDERS] = [100, 20]; // that are shown, and asked about
-const kept = new Map(); // by address, until something is changed
+const kept = new Map(); // by address, until something is changed, or the page looks again
 const small = (name) => clean(name).toLowerCase();
 export const forgetFound = () => kept.clear();
 const entryOf = (path, kind) => [lastName(path), kind, folderOf(path)];

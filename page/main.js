@@ -1,7 +1,7 @@
 /** Shows the place that the address names, looks again at a shown folder, and has keys for all of it. */
 import { showAccess } from "./access.js";
 import * as busy from "./busy.js";
-import { forgetFound, searchFor, showContents, showFind, showRecent } from "./contents.js";
+import { forgetFound, searchFor, showContents, showFind, showRecent, showShared } from "./contents.js";
 import { takeDrops, useClipboard } from "./drag.js";
 import { head } from "./heads.js";
 import { logOut } from "./login.js";
@@ -186,11 +186,16 @@ const textOf = (names, list) => JSON.stringify([names, list?.entries]);
 /** (Who can see it is shown too.) */
 async function look(app) {
   const its = app.watched;
-  if (!its || !looksAgain() || isAtWork()) return;
+  if (!looksAgain() || isAtWork()) return;
+  if (app.room) app.room.roster = null;
+  forgetFound();
+  if (!its) return;
   const [had, found, list] = await Promise.all([its.list, app.room.look("LIST", its.path, { keep: false }),
     its.list && app.room.look("GETLIST", its.path)]).catch(() => [null, its]);
   const isOther = textOf(its.names, had) !== textOf(found?.names, had && list);
-  if (isOther && app.watched === its && !isAtWork()) await app.show(standing());
+  if (app.watched !== its || isAtWork()) return;
+  if (isOther) await app.show(standing());
+  else its.renew();
 }
 
 function go(event) {

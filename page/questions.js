@@ -63,6 +63,13 @@ export class Questions {
 export class Seers {
   constructor(app) { Object.assign(this, { app, questions: new Questions(app), known: new Map() }); }
 
+  /** Owners and lists are asked for anew. (Where they are as before, it is known what the room says.) */
+  renew() {
+    const { asked } = this.questions;
+    for (const key of asked.keys()) if (/^((own|stat) )?[/]/.test(key)) asked.delete(key);
+    this.known.clear();
+  }
+
   /** `{words, told}`, in which they are named, or null where it is not known. */
   async of(object) {
     const { path, kind } = object;

@@ -107,11 +107,13 @@ export class Row {
   async tellWho() {
     const { kind, isShut } = await this.look();
     const found = isShut ? null : await this.things.seers.of({ path: this.path, kind });
-    if (!found) return;
-    const href = addressOf({ view: "access", room: this.things.place.room, path: this.path });
-    this.cells.who.replaceChildren(link(href, found.words, { tabIndex: -1, title: found.told }));
+    const [{ who }, { words = "", told = "" }] = [this.cells, found ?? {}];
+    const place = { view: "access", room: this.things.place.room, path: this.path };
+    if (found && !who.firstChild) who.append(link(addressOf(place), "", { tabIndex: -1 }));
+    // (whoever stands in it stays there)
+    Object.assign(who.firstChild ?? {}, { textContent: words, title: told, hidden: !found });
     const { user, room } = this.app;
-    const own = kind === FILE && this.kindName === "text" &&
+    const own = found && kind === FILE && this.kindName === "text" &&
       await this.things.seers.questions.allowed(this.path, user, (await room.users())[user]);
     this.pen.hidden = !(own & READ && own & WRITE);
   }

@@ -186,6 +186,11 @@ export class Things {
     for (const it of this.rows) this.seen.observe(it.element);
   }
 
+  /** Each row tells anew who can see it, once it is in sight. */
+  renew() {
+    for (const it of this.rows) this.seen.observe(it.element);
+  }
+
   async tellWho() {
     if (this.isTelling || !this.columns.includes("who")) return;
     this.isTelling = true;

@@ -1,7 +1,7 @@
 """Who can see a thing, beside its name: what Share and the matrix tell, in few words."""
 import pytest
 
-from .club import ALL, GROUP, PASS, PIECE, PLACE, TOP as FRAME_TOP, VIEW, entry, search_in
+from .club import ALL, GROUP, PASS, PIECE, PLACE, TOP as FRAME_TOP, USERS, VIEW, entry, search_in
 
 TOP = "/seen"
 SEERS = ("return Object.fromEntries([...document.querySelectorAll('.things tbody tr')].map((it) => "
@@ -130,6 +130,26 @@ def test_who_comes_back_is_told_who_sees_it_now(club, browser):
     told(browser, {"a.txt": "Only you"})
     club.sets("/own", OWNER, BOB, flags=2)
     browser.until("that bob sees it", comes_back)
+
+
+def test_who_comes_back_is_told_who_sees_each_row_now(club, browser, tells):
+    """Where the folder is as it was: by a row's own list, and by users who are new."""
+    def comes_back():
+        browser.script("dispatchEvent(new Event('focus'))")
+        return browser.script(SEERS)
+    club.lay("/own/a.txt", "/own/b.txt")
+    club.sets("/", OWNER, EVERYONE, flags=2)
+    alone = entry("OWNER@", ALL, 0)
+    for name in "ab":
+        club.sets(f"/own/{name}.txt", alone, flags=2)
+    club.open("/own")
+    told(browser, {"a.txt": "Only you", "b.txt": "Only you"})
+    club.sets("/own/a.txt", alone, entry("bob", VIEW, 0), flags=2)
+    browser.until("that bob sees it", lambda: comes_back() == {"a.txt": "You, bob", "b.txt": "Only you"})
+    club.sets("/own/b.txt", alone, entry("EVERYONE@", VIEW, 0), flags=2)
+    tells("rooms/club.users.json", {**USERS, "kim": []})
+    of_b = "return document.querySelector('.things tbody tr:last-child .who a').title"
+    browser.until("that kim sees it", lambda: comes_back() and browser.script(of_b) == "ann, bob, eve and kim")
 
 
 def test_on_a_phone_it_stands_below_the_name(club, browser, frame):
