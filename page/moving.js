@@ -1,8 +1,8 @@
 /** Files and folders are moved, copied, removed to the trash or for good, and put back. */
 import { ACCESS, ADD_FILE, ADD_FOLDER, EXIST, FILE, FOLDER, MAX_NAMES, NOBODY, NOENT, NOTDIR, ROOT, TOO_DEEP, GaveUp,
   Refusal, ask, calledAt, clean, faultLine, folderOf, follow, forEach, freePath, freePaths, inFolder,
-  isInTrash, isRefused, isWithin, lastName, nameAt, nameFault, nameInput, namesOf, note, offered, orFault, readFile,
-  removeAll, shown, t, tellFaults, toTrash, toldBy, transferring, trashOf, whole, withoutPool,
+  isInTrash, isRefused, isWithin, lastName, nameAt, nameFault, nameInput, namesOf, note, noteGone, offered, orFault,
+  readFile, removeAll, shown, t, tellFaults, toTrash, toldBy, transferring, trashOf, wasAt, whole, withoutPool,
   writeFile } from "./shared.js";
 import { FolderTree } from "./tree.js";
 
@@ -140,7 +140,9 @@ export async function remove(app, paths, does = t.doTo(t.remove, shortNamed(path
     const { path: trash, fault } = isInTrash(paths[0]) ? { fault: "" } : await trashOf(app);
     if (trash) {
       const toIt = async (it) => places.set(it, await toTrash(app.room, it, trash));
-      return { gone: await withEach(t.remove, paths, toIt) };
+      const gone = await withEach(t.remove, paths, toIt);
+      noteGone(app, [...places].map((it) => it.toReversed()));
+      return { gone };
     }
     const why = fault === "" ? "" : ` ${t.askTrash(fault ?? t.noTrash)}`;
     return { words: [t.forGood + why, await contentsWords(app, inside)] };
@@ -168,7 +170,7 @@ async function whyNotBack(room, path, place) {
 }
 
 export async function putBack(app, path) {
-  const { place } = toldBy(path);
+  const place = toldBy(path).place ?? wasAt(app, path);
   const why = await app.attempt(t.doTo(t.putBack, calledAt(path)), () => whyNotBack(app.room, path, place));
   if (why === null) return;
   let to = place;
@@ -185,7 +187,7 @@ export async function putBack(app, path) {
 export async function putAllBack(app, paths) {
   if (paths.length === 1) return putBack(app, paths[0]);
   const done = await app.attempt(t.putBack, () => withEach(t.putBack, paths, async (path) => {
-    const why = await whyNotBack(app.room, path, toldBy(path)?.place);
+    const why = await whyNotBack(app.room, path, toldBy(path)?.place ?? wasAt(app, path));
     if (why) throw new Error(why);
   }));
   if (done?.length) await app.done(t.isBack(named(done), done.length));

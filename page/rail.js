@@ -6,9 +6,9 @@ import { isInTrash, isOwnTrash, ownTrash } from "./trash.js";
 
 const MOST_LATEST = 5; // that are shown
 const KEPT = "fileroom/mine/";
-const MOST = { latest: 20, stars: 20 };
+const MOST = { latest: 20, stars: 20, gone: 99 };
 const keyOf = ({ user, room }) => `${KEPT}${user}/${room.name}`;
-const mineOf = (app) => ({ latest: [], stars: [], ...JSON.parse(localStorage.getItem(keyOf(app)) ?? "{}") });
+const mineOf = (app) => ({ latest: [], stars: [], gone: [], ...JSON.parse(localStorage.getItem(keyOf(app)) ?? "{}") });
 const without = (all, path) => all.filter(([it]) => it !== path);
 
 function keep(app, kind, all) {
@@ -29,6 +29,10 @@ export const stars = (app) => mineOf(app).stars;
 export const isStarred = (app, path) => stars(app).some(([it]) => it === path);
 export const note = (app, path, isFolder) =>
   path === ROOT || isInTrash(path) || keep(app, "latest", [[path, isFolder], ...without(latest(app), path)]);
+
+/** Where what is in the trash was: a name there has no room for a long path. */
+export const noteGone = (app, places) => keep(app, "gone", [...places, ...mineOf(app).gone]);
+export const wasAt = (app, path) => mineOf(app).gone.find(([it]) => it === path)?.[1] ?? null;
 
 export function turnStar(app, path, isFolder) {
   const others = without(stars(app), path);
