@@ -83,11 +83,13 @@ async function makeNew(app, folder, { title, fields = [], faultOf = () => "", do
 }
 
 export function makeFolder(app, folder) {
-  let isMine = false;
+  let [isMine, made] = [false, null]; // (where its list was refused, it is there when this is tried again)
   const mine = checkbox(t.about(t.heads.who, t.onlyYou), false, (it) => { isMine = it; });
   const own = { aclflag: withFollows(1, false), entries: entriesOf("all", { id: "user", name: app.user }, FOLDER) };
   return makeNew(app, folder, { title: t.newFolder, fields: [["", mine]], does: async (path) => {
-    await app.room.run("MKDIR", path);
+    if (!made) await app.room.run("MKDIR", path);
+    else if (made !== path) await app.room.run("RENAME", made, { to: path });
+    made = path;
     if (isMine) await app.room.run("SETLIST", path, own);
   } });
 }

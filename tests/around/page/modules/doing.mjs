@@ -6,6 +6,7 @@ import { buttonOf, happens, page, shown } from "./browser.mjs";
 import { Shelf, appOver } from "./shelf.mjs";
 
 const { t } = await page("words");
+const { makeFolder } = await page("actions");
 const { copyInto, emptyTrash, moveInto, putBack, remove } = await page("moving");
 const { isOwnTrash, nameAt, ownTrash, toTrash, toldBy, trashOf } = await page("trash");
 const { writeCopy, writeFile } = await page("files");
@@ -54,6 +55,37 @@ test("what is removed goes to the trash, and back by one press", async () => {
   assert.deepEqual([shelf.names("/d"), toldBy(`${TRASH}/${name}`).place], [[], "/d/a.txt"]);
   await app.undo();
   assert.deepEqual([shelf.names(TRASH), shelf.text("/d/a.txt")], [[], "a"]);
+});
+
+test("what is removed from far below comes back by one press", async () => {
+  const [shelf, far] = [trashed(), `/d/${"a".repeat(40)}/${"b".repeat(40)}`];
+  for (const [it, text] of [[far.slice(0, 43)], [far], [`${far}/c.txt`, "c"]]) shelf.put(it, text);
+  const app = appOver(shelf);
+  await remove(app, [`${far}/c.txt`]);
+  const [name] = shelf.names(TRASH);
+  assert.equal(toldBy(`${TRASH}/${name}`).place, null); // (its name has no room for it)
+  await putBack(app, `${TRASH}/${name}`);
+  assert.deepEqual([shelf.names(TRASH), shelf.text(`${far}/c.txt`)], [[], "c"]);
+});
+
+test("a private folder whose list was refused is the one that is tried again", async () => {
+  const shelf = new Shelf();
+  let left = 2;
+  shelf.refuses = ({ cmd }) => (cmd === "SETLIST" && (left -= 1) >= 0 ? 5 : 0);
+  const done = makeFolder(appOver(shelf), "/");
+  await comes(t.make);
+  const [dialog] = shown("dialog");
+  const field = dialog.querySelector("input");
+  const mine = dialog.querySelectorAll("input").find((it) => it.getAttribute("type") === "checkbox");
+  mine.checked = true;
+  mine.onchange();
+  for (const name of ["mine", "mine", "ours"]) {
+    field.value = name;
+    await press(t.make);
+    for (let times = 0; times < 20; times += 1) await soon();
+  }
+  await done;
+  assert.deepEqual([shelf.names("/"), shelf.things.get("/ours").list.aclflag], [["ours"], 2]);
 });
 
 test("who has no private trash removes for good, and is told so", async () => {
