@@ -74,15 +74,18 @@ export class SharePanel {
     Object.assign(this, { kind, owner, group, own, roster: roster ?? {}, isWhole: roster !== null, shares, ...does });
     this.presets = Object.keys(presetsOf(kind)).map((it) => [it, levelOfPreset(it)[0]]);
     [this.told, this.from] = [new Map(), new Map()]; // elements by whom, which tell who is shut out, and what is above
-    const above = byWhom(handed.filter((it) => !isDeny(it))).filter(([{ id }]) => !(owner && id === "OWNER@"));
+    const isOwner = ({ id, name }) => owner && (id === "OWNER@" || id === "user" && name === owner);
+    const above = byWhom(handed.filter((it) => !isDeny(it))).filter(([whom]) => !isOwner(whom));
     const denied = byWhom([...own, ...handed].filter(isDeny));
     const ofOthers = shares.filter((it) => !this.isOwners(it));
     const isAlone = !ofOthers.length && !others.length && !above.length;
     this.isAll = ofOthers.length < shares.length;
+    const named = { ariaLabel: t.sharedWith };
     this.element = make("section.share", { ariaLabel: t.share }, make("h2", t.sharedWith),
-      make("ul.given", owner && make("li", make("span", personText(owner)), this.isAll ? t.isOwnerOfAll : t.isOwner)),
-      ofOthers.length > 0 && make("ul.shares", ofOthers.map((it) => this.row(it))),
-      make("ul.given", others.filter(({ entries }) => !entries.every(isDeny)).map((it) => this.custom(it)),
+      make("ul.given", named,
+        owner && make("li", make("span", personText(owner)), this.isAll ? t.isOwnerOfAll : t.isOwner)),
+      ofOthers.length > 0 && make("ul.shares", named, ofOthers.map((it) => this.row(it))),
+      make("ul.given", named, others.filter(({ entries }) => !entries.every(isDeny)).map((it) => this.custom(it)),
         above.map(([whom, its]) => this.above(whom, its)), denied.map(([whom]) =>
           make("li.denied", make("span", this.wordsOf(whom)), button(t.denied, this.detail)))),
       isAlone && make("p", owner ? t.ownerAlone : t.whom[""]), this.set ? this.form() : make("p", this.changers),

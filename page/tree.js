@@ -1,6 +1,6 @@
 /** A field that holds a folder: a tree that opens as it is walked, and folders that were chosen before. */
 import { FOLDER, LARGE, NOTDIR, ROOT, GaveUp, ask, button, byName, calledIn, clean, foldersAbove, icon, inFolder,
-  isPart, isWithin, kindBy, latest, lookInto, make, nameFault, nameIn, nameInput, nameText, shown, t,
+  isInTrash, isPart, isWithin, kindBy, latest, lookInto, make, nameFault, nameIn, nameInput, nameText, shown, t,
   tellIt } from "./shared.js";
 
 const MOST_RECENT = 4;
@@ -34,7 +34,7 @@ export class FolderTree {
   }
 
   nameOf = (path) => nameIn(this.app.room.name, path);
-  isBarred = (path) => this.barred.some((it) => isWithin(path, it));
+  isBarred = (path) => isInTrash(path) || this.barred.some((it) => isWithin(path, it));
 
   tell() {
     this.legend.replaceChildren(t.toFolder, make("b", nameText(calledIn(this.app.room.name, this.value))));

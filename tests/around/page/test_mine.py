@@ -68,6 +68,15 @@ def test_latest_places_are_at_hand(club, browser, plans):
     assert browser.script(TEXTS, "dialog .chooser p button.small") == ["minutes", "New folder"]
 
 
+def test_trash_is_no_goal_of_a_move(club, browser, plans):
+    club.make_trash()
+    club.open("/plans")
+    by_menu(browser, "2026", "Move")
+    names = "dialog .tree li > span"
+    browser.until("the tree", lambda: {"minutes", "plans"} <= {*browser.script(TEXTS, names)})
+    assert "trash" not in browser.script(TEXTS, names)
+
+
 def test_the_top_is_no_latest_place(club, browser, plans):
     """Also where something was moved to it: the room stands above."""
     club.open("/plans")

@@ -294,6 +294,16 @@ def test_share_with_the_folders_owner(club, browser, board):
     browser.until("it is said no more", lambda: "cannot yet open" not in browser.shown())
 
 
+def test_the_owner_stands_once(club, browser, board):
+    """Also whom the list of a folder above names; and each list of the panel has a name."""
+    club.sets(TOP, entry("ann", ALL), entry("bob", VIEW), flags=2)
+    club.open(PATH, "access")
+    browser.until("bob", lambda: any("bob" in it for it in browser.script(TEXTS, ".given li")))
+    assert sum("ann" in it for it in browser.script(TEXTS, ".share li")) == 1
+    assert set(browser.script("return [...document.querySelectorAll('.share ul:not([role])')].map((it) => "
+                              "it.ariaLabel)")) == {"Who has access"}
+
+
 def test_share_with_more_than_a_list_holds(club, browser):
     """A list's 17th name is told before, and one group is offered in the place of its members."""
     path = "/shared"
