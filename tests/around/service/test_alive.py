@@ -44,7 +44,7 @@ def test_one_session_for_good(machine, plans):
 
 
 @pytest.mark.parametrize("what, number, user, count", [
-    ("not written down", 2, "ann", 1), ("another room's", 9, "ann", 2), ("a user who is gone", 3, "zed", 2),
+    ("not written down", 2, "ann", 1), ("another room's", 1234, "ann", 2), ("a user who is gone", 3, "zed", 2),
     ("no number", None, "ann", 1)])
 def test_it_goes_on_whatever_became_of_the_file(machine, plans, what, number, user, count):
     for _ in range(3):

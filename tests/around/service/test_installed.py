@@ -89,6 +89,36 @@ def test_the_site_goes_with_what_serves_it(machine, pair, reads):
     assert (admin("front")[0], machine.files() == before) == (0, True)
 
 
+def test_another_copy_goes_alone(machine):
+    """The site is served by the one whose page it shows."""
+    tops = [os.path.join(machine.folder, it) for it in ("usr", "old")]
+    does = lambda *words: said(os.path.join(SERVICE, "install"), *words, **machine.env, ETC=machine.at("etc"),
+                               RUN=machine.at("run"))
+    for it in tops:
+        does("", it)
+    machine.does("front", first=[os.path.join(tops[0], "bin/fileroom-admin")])
+    os.makedirs(machine.at("run/systemd/system"))  # (systemd runs)
+    before = machine.files()
+    machine.told()
+    assert does("--remove", "", tops[1])[0] == 0
+    assert (machine.told(), machine.files() == before, below(tops[1])) == ([], True, [])
+
+
+def test_a_package_starts_what_was_enabled(machine):
+    """(A room that was switched off is not; nor is one with a standby, which the cluster starts.)"""
+    for it in "systemd-sysusers", "py3compile", "systemd-tmpfiles", "fileroom-admin":
+        machine.stand_in(it, "")
+    machine.stand_in("deb-systemd-invoke", TOLD)
+    machine.breaks("fileroom@club.service\nfileroom-dav.socket\nfileroom-roster.timer\n")
+    os.makedirs(machine.at("run/systemd/system"))
+    machine.told()
+    text = re.sub("/(etc|run)/", rf"{machine.root}/\1/", text_of(os.path.join(SERVICE, "deb/postinst")))
+    assert said("sh", "-c", text, "postinst", "configure", **machine.env)[::2] == (0, "")
+    assert [it.partition(" start ")[2] for it in machine.told() if " start " in it] == [
+        "fileroom-ports.service fileroom@plans.service fileroom-backup@plans.timer fileroom-try@plans.timer",
+        "fileroom-signin.socket"]
+
+
 def test_versions(top):
     for name, word in ("fileroom", "--version"), ("fileroom", "-V"), ("room", "--version"):
         assert said(os.path.join(top, "bin", name), word) == (0, f"{name} {newest()}\n", "")

@@ -9,7 +9,7 @@ from fileroom_admin import changes
 from fileroom_admin.places import Fault
 from given import each
 from nginx import certified
-from served import text_of
+from served import put_file, text_of
 
 from .stopped import stopped, stops, undone
 
@@ -87,6 +87,14 @@ def test_another_site_is_broken(machine):
     assert machine.does("room", "add", "new", "ann", "eng")[0] == 1
     assert machine.files() == before
     is_aside(machine)
+
+
+def test_an_update_keeps_the_logs(machine):
+    logs = {machine.at(it): it for it in ("var/log/fileroom/changes.log", "var/log/nginx/fileroom-logins.log")}
+    for it in logs:
+        put_file(it, "a line\n")
+    assert machine.does("front")[0] == machine.does("room", "add", "school", "ann", "eng")[0] == 0
+    assert {text_of(it) for it in logs} == {"a line\n"}
 
 
 def test_a_link_is_no_room(machine):

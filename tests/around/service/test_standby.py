@@ -1,6 +1,7 @@
 """A room with a standby: what is left where its volume cannot be made, what reaches another host, and how its room
 rests for a backup."""
 import os
+import re
 import runpy
 import subprocess
 import time
@@ -30,6 +31,14 @@ def test_a_volume_that_cannot_be_made(folder, etc):
     hosts = [f"127.0.0.{it}" for it in (2, 3, 4)]
     assert said(TOOL, "make", "plans", *hosts, ETC=etc, PATH=path)[0] == 1
     assert os.listdir(os.path.join(etc, "fileroom")) == ["plans.toml"]
+
+
+def test_files_go_to_each_other_host(folder, etc):
+    """Also to one whose address is the beginning of another's, or its end."""
+    put_file(os.path.join(etc, "fileroom/plans.hosts"), "10.0.0.1\n10.0.0.12\n110.0.0.12\n")
+    path = stand_in(folder, "ip", "echo '2: eth0    inet 10.0.0.12/24 brd 10.0.0.255 scope global eth0'")
+    lines = said(TOOL, "copy", "plans", ETC=etc, PATH=path)[1]
+    assert re.findall(r"ssh root@(\S+)", lines) == ["10.0.0.1", "110.0.0.12"]
 
 
 def test_words_of_others_that_are_no_text(folder):
@@ -73,7 +82,7 @@ class Manager:
         stand_in(folder, "systemctl", 'if [ "$2" = -q ]; then exit 1; fi; echo active')
         stand_in(folder, "crm_resource", "")
         path = f"{folder}/stand-in-systemctl:{folder}/stand-in-crm_resource:{PATH}"
-        self.env = {**os.environ, "ETC": folder, "RUN": folder, "CIB_file": self.cib, "PATH": path}
+        self.env = {**os.environ, "ETC": folder, "RUN": folder, "CIB_file": self.cib, "PATH": path, "TZ": "XXX5"}
         put_file(self.cib, self.does("cibadmin", "--empty"))
         off = "<nvpair id='s' name='stonith-enabled' value='false'/>"
         self.does("cibadmin", "--create", "-o", "resources", "--xml-text", "<group id='plans'><primitive "
@@ -96,7 +105,7 @@ class Manager:
 
 def test_at_rest_for_its_backup(folder):
     """By a rule of Pacemaker's: once it ends, or half an hour is over, as where the machine died meanwhile, the manager
-    starts the room."""
+    starts the room. (This machine's clock is five hours behind.)"""
     it = Manager(folder)
     assert (it.starts(), os.path.exists(it.ran)) == (True, False)
     for night in range(2):

@@ -32,6 +32,19 @@ def test_the_owner_of_a_room_without_a_backup_stays(machine, plans):
     assert plans.askers == set()
 
 
+def test_who_stays_is_held_on(machine, plans):
+    """Whoever goes, or comes."""
+    held = lambda: sorted(os.listdir(machine.at("etc/nginx/fileroom/held")))
+    machine.does("user", "add", "plans", "kim")
+    for user in "bob", "kim":
+        machine.does("user", "hold", "plans", user)
+    for table, left in ("ann,plans\nbob,plans\nkim,plans\nlou,plans\n", ["bob@plans", "kim@plans"]), (
+            "ann,plans\nbob,plans\nlou,plans\n", ["bob@plans"]):
+        machine.write("../table.csv", f"user,rooms\n{table}")
+        status, _, faults = machine.does("user", "import", "--sync", os.path.join(machine.folder, "table.csv"))
+        assert (status, held()) == (0, left), faults
+
+
 def test_what_those_own_who_go_is_told_by_numbers(machine, plans):
     """Of many one line each, and with a large file as one thing."""
     entry = {"type": 0, "flag": 3, "mask": 0x1F07FF}
