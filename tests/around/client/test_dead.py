@@ -30,6 +30,23 @@ def test_at_an_address_at_which_nobody_is(desk):
     assert "no answer yet (timed out): " in said[0] and "it is sent again" in said[0], said
 
 
+def test_an_answer_may_take_longer_than_a_connection():
+    """Of which several are tried in the patience of one request."""
+    with socket.create_server(("127.0.0.1", 0)) as server, mock.patch("room_client.line.LONGEST_CONNECT", 0.2):
+        def answers():
+            with server.accept()[0] as peer:
+                peer.recv(1 << 16)
+                time.sleep(0.5)
+                peer.sendall(b'HTTP/1.1 200 OK\r\ncontent-length: 10\r\n\r\n{"code":0}')
+        answer = threading.Thread(target=answers)
+        answer.start()
+        line = Line(Settings(url=f"http://127.0.0.1:{server.getsockname()[1]}", room_user="ann"))
+        line.open(60)
+        assert line.ask("POST", "/", b"{}").status == 200
+        answer.join()
+        line.close()
+
+
 @pytest.mark.skipif(os.geteuid() != 0, reason="it wants root")
 @pytest.mark.within("unshare", "--net")
 def test_a_peer_that_goes_silent():

@@ -116,13 +116,15 @@ ADDS = 'printf " two" >>"$1"'
     ("adds", ADDS, 0, "/a.txt: 7 bytes\n", "", "one two", []),
     ("nothing", ":", 0, "nothing was changed\n", "", "one", []),
     ("fails", f"{ADDS}; exit 3", 5, "", "ended with status 3: nothing was put; it is in {tmp}", "one", [b"one two"]),
-    ("is slow", f"{ADDS}; meanwhile", 7, "", "what you wrote is in {tmp}", "theirs", [b"one two"])])
+    ("is slow", f"{ADDS}; {{bob}} put theirs /a.txt >&2", 7, "", "what you wrote is in {tmp}", "theirs", [b"one two"]),
+    ("is shut out", f'{ADDS}; {{bob}} acl /a.txt add "deny EVERYONE@ write" >&2', 1, "", "what you wrote is in {tmp}",
+     "one", [b"one two"])])
 def test_edit(desk, does, status, out, says, stands, left):
     with desk.room() as room:
         room.create("/a.txt", b"one")
         room.set_list("/", 1, [EVERYBODY])
-    words = [sys.executable, COMMAND, *Desk.words_of(desk, "bob"), "put", desk.file("theirs", b"theirs"), "/a.txt"]
-    editor = does.replace("meanwhile", f"{' '.join(words)} >&2")
+    desk.file("theirs", b"theirs")
+    editor = does.replace("{bob}", " ".join([sys.executable, COMMAND, *Desk.words_of(desk, "bob")]))
     tmp = desk.path("tmp")
     os.mkdir(tmp)
     with mock.patch.object(tempfile, "tempdir", tmp), mock.patch.dict(os.environ, VISUAL=f"sh -c '{editor}' x"):
