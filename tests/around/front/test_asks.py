@@ -11,7 +11,7 @@ import threading
 import pytest
 from given import each
 from nginx import FOLDER, certified
-from served import WAIT, until
+from served import WAIT, text_of, until
 
 sys.path.append(os.path.join(FOLDER, "..", "signin"))
 from fileroom_signin import app, known
@@ -216,6 +216,13 @@ def test_no_answer(service, may_count, asked):
     assert (len(service.directory.asked), service.directory.noted[0]) == (asked, "away")
 
 
+def test_whose_question_fails_leaves_the_place(service):
+    service.directory.down = Down("away")
+    assert {service.ask(f"u{at}", "x") for at in range(app.THREADS)} == {503}
+    service.directory.down = None
+    assert service.ask("ann", "ann-word") == 204
+
+
 @each("its, name", [
     ("none", "", ""), ("another kind", "Bearer ann", "ann"), ("no name", field("", "x"), ""),
     ("no base64", "Basic !", "ann"), ("another letter behind it", field("ann", "ann-word") + "\u00ff", "ann"),
@@ -349,6 +356,18 @@ def test_no_password_goes_in_the_clear(speaks):
     with pytest.raises(Down):
         directory.is_right("ann", "ann-word")
     assert got and b"ann-word" not in b"".join(got)
+
+
+def test_where_an_authority_is_named_no_other_counts(speaks, pair, tmp_path, monkeypatch):
+    other, _ = certified(str(tmp_path / "other"), "IP:127.0.0.1")
+    directory, got = speaks(BIND, 0)
+    monkeypatch.setenv("SSL_CERT_FILE", pair[0])  # (of this machine)
+    conf = {"servers": directory.servers, "binds": ["{}"]}
+    assert Asked(conf, lambda words: None).is_right("ann", "ann-word")
+    got.clear()
+    with pytest.raises(Down):
+        Asked({**conf, "ca": text_of(other)}, lambda words: None).is_right("ann", "ann-word")
+    assert b"ann-word" not in b"".join(got)
 
 
 def test_a_fault_is_told_once_in_a_while(clock):

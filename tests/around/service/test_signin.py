@@ -70,6 +70,13 @@ def test_stopped_at_a_step(machine, words):
     stops(machine, *words, broken="fileroom-signin.socket")
 
 
+def test_one_server_that_answers_is_enough(machine, words):
+    """That another is away is told by `check`."""
+    status, _, faults = machine.does(*words, "ldaps://127.0.0.1:9")
+    assert status == 0, faults
+    assert "server ldaps://127.0.0.1:9 does not answer" in machine.does("signin", "check")[1]
+
+
 def test_a_directory_that_does_not_answer_changes_nothing(machine, words, people, tmp_path):
     before, (other, _) = machine.files(), certified(str(tmp_path / "other"), "IP:127.0.0.1")
     for at, its in (-1, "ldaps://127.0.0.1:9"), (-1, f"ldaps://localhost:{people.port}"), (-2, other):
