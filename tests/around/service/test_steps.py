@@ -105,17 +105,19 @@ def test_a_room_comes_back_after_its_backup(machine, folder, state, want):
     assert asked == ["is-active", "stop", *want]
 
 
-@pytest.mark.parametrize("hosts", ["", "10.0.0.1\n10.0.0.2\n"], ids=["no standby", "a standby"])
+@pytest.mark.parametrize("hosts", [[], ["10.0.0.1\n10.0.0.2\n"], ["10.0.0.1\n10.0.0.2\n", "10.0.0.3\n"]],
+                         ids=["no standby", "a standby", "two"])
 def test_ports(machine, folder, hosts):
-    """All rules by one call: between two, whoever comes would meet none."""
+    """All rules by one call: between two, whoever comes would meet none. The hosts of each room may come."""
     machine.stand_in("nft", f'echo "$@" >>"{folder}/nft"; cat >>"{folder}/rules"')
     os.mkdir(os.path.join(folder, "standby"))
     for it in "service/fileroom-ports", "front/fileroom.nft", "service/standby/gluster.nft":
         shutil.copy(os.path.join(HERE, "..", it), os.path.join(folder, "standby" * ("standby" in it)))
-    machine.write("etc/fileroom/plans.hosts", hosts)
+    for room, its in zip(("plans", "club"), hosts):
+        machine.write(f"etc/fileroom/{room}.hosts", its)
     env = {**machine.env, "ROOMS": machine.at("etc/fileroom")}
     subprocess.run([os.path.join(folder, "fileroom-ports")], env=env, check=True)
     rules = text_of(os.path.join(folder, "rules"))
     assert text_of(os.path.join(folder, "nft")) == "-f -\n"
-    assert rules.count("add element inet fileroom hosts") == len(hosts.splitlines())
+    assert {*re.findall(r"add element inet fileroom hosts { (\S+) }", rules)} == {*"".join(hosts).split()}
     assert "table inet fileroom" in rules
