@@ -10,6 +10,7 @@ import tempfile
 import time
 
 from . import rosters
+from .changes import keep
 from .owned import of_backups
 from .places import Fault
 
@@ -26,13 +27,14 @@ NEW_HERE = os.O_WRONLY | os.O_CREAT | os.O_EXCL | os.O_NOFOLLOW | os.O_CLOEXEC
 
 @contextlib.contextmanager
 def new_file(path):
-    """One that its maker alone may read, which is whole or not there."""
+    """One that its maker alone may read, which is whole or not there. The disk has it, and its name."""
     file = open(os.open(path, NEW_HERE, 0o600), "wb")
     try:
         with file:
             yield file
             file.flush()
             os.fsync(file.fileno())
+        keep(os.path.abspath(path))
     except BaseException:
         os.unlink(path)
         raise

@@ -16,13 +16,14 @@ def test_an_archive(exported):
     assert exported.machine.does("room", "export", "plans", exported.path)[0] == 1  # (over a file)
 
 
-def test_an_archive_is_on_the_disk(tmp_path):
-    """All of it, before what removes the room goes on."""
+def test_an_archive_is_on_the_disk(tmp_path, monkeypatch):
+    """All of it, and its name, before what removes the room goes on."""
+    monkeypatch.chdir(tmp_path)
     kept = []
-    with mock.patch("os.fsync", lambda handle: kept.append(os.fstat(handle).st_size)), \
-            archives.new_file(str(tmp_path / "plans.tar")) as file:
+    with mock.patch("os.fsync", lambda handle: kept.append(os.fstat(handle))), archives.new_file("plans.tar") as file:
         file.write(b"all of it")
-    assert kept == [9]
+    assert [it.st_ino for it in kept] == [os.stat(it).st_ino for it in ("plans.tar", ".")]
+    assert kept[0].st_size == 9
 
 
 def test_no_login_of_another_room_is_in_it(exported):
