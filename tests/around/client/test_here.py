@@ -99,6 +99,20 @@ def test_find_tells_what_does_not_go_into_the_room(tmp_path):
     assert not tree.is_known("link/below")
 
 
+def test_find_knows_nothing_of_a_folder_that_it_may_not_read(here):
+    """So `sync --delete` removes nothing of it from the room."""
+    told, plain = [], os.scandir
+
+    def scandir(at):
+        if os.path.basename(at) == "outside":
+            raise PermissionError(13, "Permission denied")
+        return plain(at)
+    with mock.patch("os.scandir", scandir):
+        tree = local.tree_here(str(here), told.append)
+    assert told == [f"what is in it is left out: {here}/outside: Permission denied"]
+    assert [tree.is_known(it) for it in ("outside", "outside/secret", "top")] == [False, False, True]
+
+
 # Keeping: what is sent next is on the disk before it goes out, for one process alone
 
 @pytest.fixture
