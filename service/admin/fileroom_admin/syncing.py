@@ -84,6 +84,9 @@ def against(places, room, step, given):
         yield f"the room {room} would have {len(step.rows)} users, and {rosters.USERS} are the most"
     if owner in step.gone:
         yield f"{owner} is not in the table, and owns the room {room}"
+    if step.gone and owner is None:
+        yield (f"no backup here tells who owns {room}, and the room does not answer, so none of its users may go: "
+               f"systemctl start fileroom-backup@{room}")
     if len(step.gone) > max(FEW, len(step.there) // 5) and not given.many:
         yield f"{len(step.gone)} of {len(step.there)} users of {room} would go; if that is right: --many"
     if step.new and not given.again and places.copies(room):

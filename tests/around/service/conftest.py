@@ -62,6 +62,14 @@ def machine(machine_like, begun):
 
 
 @pytest.fixture
+def both_backed_up(machine):
+    """Each of its rooms has a backup, which tells its owner."""
+    for it in "club", "plans":
+        machine.backed_up(it)
+    return machine
+
+
+@pytest.fixture
 def asks_nginx(machine):
     machine.stand_in("nginx", STAND_INS["nginx"])
 

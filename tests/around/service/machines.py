@@ -46,6 +46,7 @@ if [ "$1" = is-failed ]; then grep -qsxF -- "failed ${@: -1}" "$ROOT/../broken";
     "nft": TOLD + '[ ! -e "$ROOT/../broken" ] || ! grep -qxF nft "$ROOT/../broken"',
     "room": 'exec "$FILEROOM" --version',
     "fileroom-admin": f'umask 077; exec {sys.executable} -B {ADMIN} --root "$ROOT" "$@"',
+    "fileroom-backup": f'exec {SERVICE}/fileroom-backup "$@"',
     "fits": f'exec {sys.executable} -B {FOLDER}/fits.py "$@"',
     "fileroom-standby": TOLD + "exit 1",
     # (the same files, with the root's folders in the place of the machine's, and ports that need no root)

@@ -167,9 +167,10 @@ def on_places(machine):
     return Places(machine.root)
 
 
-def test_names_that_differ_by_capitals_alone(machine, words, tmp_path):
+def test_names_that_differ_by_capitals_alone(both_backed_up, words, tmp_path):
     """A directory takes them for one: so where one is asked, no such name comes, by no command, and none is there
     before; and where they came by hand, that is told."""
+    machine = both_backed_up
     assert machine.does("user", "add", "plans", "ANN")[0] == 0
     status, _, faults = machine.does(*words)
     assert (status, faults) == (1, "fileroom-admin: ANN and ann are one account for a directory: fileroom-admin user "

@@ -3,20 +3,22 @@ import os
 
 from served import text_of
 
+from .machines import Served
 from .stopped import stops
 
 
-def test_what_is_typed_and_said(machine):
-    machine.plays("tables.txt")
+def test_what_is_typed_and_said(both_backed_up):
+    both_backed_up.plays("tables.txt")
 
 
-def test_stopped_at_a_step(machine):
+def test_stopped_at_a_step(both_backed_up):
+    machine = both_backed_up
     machine.write("../table.csv", "user,rooms,groups,name\nann,club plans,eng,Ann\nkim,plans club,staff,Kim\n")
     stops(machine, "user", "import", "--sync", os.path.join(machine.folder, "table.csv"))
 
 
 def test_the_owner_of_a_room_without_a_backup_stays(machine, plans):
-    """The room itself says whose it is; and who owns it later, the backup."""
+    """The room itself says whose it is, and where it is down nobody does; and who owns it later, the backup."""
     machine.write("../table.csv", "user,rooms\nbob,plans\n")
     path = os.path.join(machine.folder, "table.csv")
     before = text_of(machine.at("etc/fileroom/plans.toml"))
@@ -24,10 +26,12 @@ def test_the_owner_of_a_room_without_a_backup_stays(machine, plans):
         1, "", "fileroom-admin: ann is not in the table, and owns the room plans\n"
         f"fileroom-admin: nothing was changed: 1 faults in {path}\n")
     assert text_of(machine.at("etc/fileroom/plans.toml")) == before
-    plans.room.kill()
+    plans.end()
+    assert machine.does("user", "import", "--sync", path)[2].startswith(
+        "fileroom-admin: no backup here tells who owns plans, and the room does not answer")
+    assert text_of(machine.at("etc/fileroom/plans.toml")) == before
     machine.backed_up()
-    plans.room.start()
-    plans.askers.clear()
+    plans = Served(machine)
     assert machine.does("user", "import", "--sync", path)[0] == 1
     assert plans.askers == set()
 

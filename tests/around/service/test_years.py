@@ -35,7 +35,8 @@ def test_a_rename_stopped_at_a_step(machine):
     stops(machine, "user", "rename", "bob", "bob.ray")
 
 
-def test_a_sync_stopped_at_a_step(machine):
+def test_a_sync_stopped_at_a_step(both_backed_up):
+    machine = both_backed_up
     machine.does("user", "name", "bob", "Bob Ray")
     machine.write("../table.csv", "user,groups,name\nann,eng,Ann\nkim,eng staff,Kim Öz\n")
     stops(machine, "user", "import", "--sync", "plans", os.path.join(machine.folder, "table.csv"))
