@@ -149,6 +149,12 @@ def test_how_long_numbers_last(machine, counts, want, is_told):
     assert [it for it in machine.does("check")[1].splitlines() if it.startswith(told[:30])] == [told + days] * is_told
 
 
+def test_until_the_certificate_ends(looked_at):
+    """By the clock of no place. (It was made of 23 days, not long ago.)"""
+    looked_at.env.update(TZ="Asia/Tokyo")
+    assert 22.9 < float(looked_at.numbers()["fileroom_certificate_seconds"]) / 86400 <= 23
+
+
 def test_panels_and_rules_name_numbers_that_there_are():
     names = set(re.findall(r'"([a-z_]+)": "', text_of(os.path.join(SERVICE, "admin/fileroom_admin/numbers.py"))))
     board = json.loads(text_of(os.path.join(SERVICE, "grafana.json")))
