@@ -1,5 +1,6 @@
 -- A command that changes bytes alone leaves rooms that look alike so.
-use Rattle.room_commands.proofs.Common.{◌⊎◌, inl, inr, ◌≡◌, ℕ, ◌+◌, refl, ap, sym, ◌∙◌, Bool, true, false, not, ◌&&◌, ◌||◌, List, ◌++◌}
+use Rattle.room_commands.proofs.Common.{◌⊎◌, inl, inr, ◌≡◌, ℕ, ◌+◌, refl, ap, sym, ◌∙◌, Bool, true, false, not, ◌&&◌}
+use Rattle.room_commands.proofs.Common.{◌||◌, List, ◌++◌}
 use Rattle.room_commands.proofs.Common.{length, Option, None, Some, ◌==◌, cond, option_map, length-append, is_none}
 use Rattle.room_commands.proofs.Common.{Result, Kind, File, Folder, read_data, list_directory, add_file, append_data}
 use Rattle.room_commands.proofs.Common.{add_subdirectory, read_attributes, read_acl, delete_object, delete_child}

@@ -19,7 +19,8 @@ use Rattle.room_commands.proofs.RoomsRenamed.{rest_below, one_continues, away, o
 use Rattle.room_commands.proofs.RoomLaws.{room_if_passed}
 use Rattle.room_commands.proofs.Looks.{walk_end}
 use Rattle.room_commands.proofs.EffectIsRoom.{effect_is_room}
-use Rattle.room_commands.proofs.BytesAlone.{attributes_sized, Facts, facts_at, sight_with, size_with, view_with, view_by_facts}
+use Rattle.room_commands.proofs.BytesAlone.{attributes_sized, Facts, facts_at, sight_with, size_with, view_with}
+use Rattle.room_commands.proofs.BytesAlone.{view_by_facts}
 use Rattle.room_commands.proofs.SameParts.{children_same, depth_same, walk_same}
 use Rattle.room_commands.proofs.Staying.{Off, Below_p, Below_t, Away, place, child_off, prefix_out, walk_out, facts_out}
 use Rattle.room_commands.proofs.CommandsStay.{apart_from, own_fronts, moved_fronts}

@@ -7,7 +7,8 @@ use Rattle.room_commands.proofs.Common.{delete_object, SubjectModel, allowed_of,
 use Rattle.room_commands.proofs.Common.{Room, list_of, standing_of, parent_of, some_is, none_is_some}
 use Rattle.room_commands.proofs.Common.{lists_by_objects_above, CommandModel, RoomFull, Refusal}
 use Rattle.room_commands.proofs.Common.{NotDone, Entries, Allowed}
-use Rattle.room_commands.proofs.Common.{RoomCheck, run_check, checks_of, subst, map, first_refusal, checks, check_right, walk}
+use Rattle.room_commands.proofs.Common.{RoomCheck, run_check, checks_of, subst, map, first_refusal, checks, check_right}
+use Rattle.room_commands.proofs.Common.{walk}
 use Rattle.room_commands.proofs.Common.{refuse_if}
 use Rattle.room_commands.proofs.Common.{check_room_full, refusal_without_place, object_or_default, right_to_add, effect}
 use Rattle.room_commands.proofs.Common.{effect_by, changed, reply}

@@ -14,7 +14,8 @@ use Rattle.room_commands.specs.CommandModel as C
 use Rattle.room_commands.proofs.Renaming.{at_behind}
 use Rattle.room_commands.proofs.RoomsObject.{after_change, elsewhere_unchanged, kinds_stay, children_stay, depth_stays}
 use Rattle.room_commands.proofs.Looks.{then_alike, walk_end, walk_to_folder, decision_in, decided_by_rights}
-use Rattle.room_commands.proofs.BytesAlone.{attributes_with, same_or_hidden, Facts, facts_at, sight_with, view_with, view_by_facts}
+use Rattle.room_commands.proofs.BytesAlone.{attributes_with, same_or_hidden, Facts, facts_at, sight_with, view_with}
+use Rattle.room_commands.proofs.BytesAlone.{view_by_facts}
 use Rattle.room_commands.proofs.Staying.{Off, Below_p, Below_t, Away, place, list_out}
 use Rattle.room_commands.proofs.Elsewhere.{nothing_seen}
 use Rattle.room_commands.proofs.Shorthands.{if_reached, right_on}

@@ -12,7 +12,8 @@ use Rattle.room_commands.proofs.Renaming.{at_behind}
 use Rattle.room_commands.proofs.EffectIsRoom.{effect_is_room}
 use Rattle.room_commands.proofs.Looks.{walk_to_folder}
 use Rattle.room_commands.proofs.NothingShows.{AlikeAt, reply_at}
-use Rattle.room_commands.proofs.BytesAlone.{attributes_with, same_or_hidden, Facts, facts_at, sight_with, view_with, view_by_facts}
+use Rattle.room_commands.proofs.BytesAlone.{attributes_with, same_or_hidden, Facts, facts_at, sight_with, view_with}
+use Rattle.room_commands.proofs.BytesAlone.{view_by_facts}
 use Rattle.room_commands.proofs.Staying.{Off, in_folder}
 use Rattle.room_commands.proofs.Elsewhere.{Leaves, by_result, view_off, view_named, by_place, depth_out, depth_stays}
 use Rattle.room_commands.proofs.Shorthands.{if_reached, seen_less}
@@ -42,8 +43,8 @@ unnamed_same : (caller : SubjectModel) (facts : Facts) (names : List (Name × Ki
 unnamed_same caller facts names (Some r) o unnamed = refl
 unnamed_same caller facts names None None unnamed = refl
 unnamed_same caller facts names None (Some o) unnamed =
-    let attributes = same_or_hidden (facts.may read_attributes) (attributes_with names o) (attributes_with facts.names o)
-    (inr (unnamed refl).1) in
+    let attributes = same_or_hidden (facts.may read_attributes) (attributes_with names o)
+    (attributes_with facts.names o) (inr (unnamed refl).1) in
     let listed = same_or_hidden (not (is_file o.kind) && facts.may list_directory) names facts.names
     (inr (and_right (not (is_file o.kind)) (facts.may list_directory) (unnamed refl).0)) in
     (λ i. if_reached None (Some (record (sight_with caller facts o) { attributes = attributes i; names = listed i })))

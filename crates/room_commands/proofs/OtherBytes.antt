@@ -9,7 +9,8 @@ use Rattle.room_commands.proofs.Common.{max_names, max_children, Name, Path, pat
 use Rattle.room_commands.proofs.Common.{child_in, by_name, list_of, standing_of, parent_of, without_bytes}
 use Rattle.room_commands.proofs.Common.{lists_without_bytes, CommandModel, Refusal, About, Names, Size, Bytes, Entries}
 use Rattle.room_commands.proofs.Common.{Allowed, NotEmpty, Exist, TooDeep, FolderFull, own_entries_of_setlist}
-use Rattle.room_commands.proofs.Common.{RoomCheck, run_check, checks_of, first_refusal, checks, refuse_if, check_right, check_size}
+use Rattle.room_commands.proofs.Common.{RoomCheck, run_check, checks_of, first_refusal, checks, refuse_if, check_right}
+use Rattle.room_commands.proofs.Common.{check_size}
 use Rattle.room_commands.proofs.Common.{check_folder_full}
 use Rattle.room_commands.proofs.Common.{check_lawful, right_to_add, bytes_at, is_at_or_below}
 use Rattle.room_commands.proofs.Common.{depth_in, effect, effect_by, changed, reply, attributes_of, size_of, with_new}

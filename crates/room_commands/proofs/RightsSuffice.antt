@@ -6,7 +6,8 @@ use Rattle.room_commands.proofs.Common.{add_file, add_subdirectory, execute, del
 use Rattle.room_commands.proofs.Common.{delete_object, IsMask, Path}
 use Rattle.room_commands.proofs.Common.{Object, Room, object_at, list_of, standing_of, parent_of, RefusalCode, Access}
 use Rattle.room_commands.proofs.Common.{NoEnt, CommandModel, ReplyModel, Refusal, NotDone, IsNotDone}
-use Rattle.room_commands.proofs.Common.{map, RoomCheck, run_check, checks_of, first_refusal, checks, check_right, check_removal, denied_at, walk, refuse_if}
+use Rattle.room_commands.proofs.Common.{map, RoomCheck, run_check, checks_of, first_refusal, checks, check_right}
+use Rattle.room_commands.proofs.Common.{check_removal, denied_at, walk, refuse_if}
 use Rattle.room_commands.proofs.Common.{prefix_refusal, proper_prefixes, check_exists, check_folder, right_to_add, may}
 use Rattle.room_commands.proofs.Common.{object_or_default, check_lawful, check_folder_full}
 use Rattle.room_commands.proofs.Common.{effect, effect_by, HasRight, HasRemoval, HasWay}
@@ -127,27 +128,33 @@ module _ (room : Room) (caller : SubjectModel) where
 
   no_denial : (command : CommandModel) → NeedsAllowed room caller command
       → IsNoDenial (first_refusal (checks room caller command))
-  no_denial (C.Stat path) (right, way, _) = all_plain (checks_of (C.Stat path)) (also way (also tt (also (refl, right) tt)))
+  no_denial (C.Stat path) (right, way, _) =
+      all_plain (checks_of (C.Stat path)) (also way (also tt (also (refl, right) tt)))
   no_denial (C.ListNames path) (right, way, _) =
       all_plain (checks_of (C.ListNames path)) (also way (also tt (also tt (also (refl, right) tt))))
   no_denial (C.Mkdir path) (right, way, _) =
       all_plain (checks_of (C.Mkdir path)) (also tt (also way (also tt (also (refl, right) (also tt (also tt tt))))))
   no_denial (C.Create bytes path) (right, way, _) =
-      all_plain (checks_of (C.Create bytes path)) (also tt (also way (also tt (also (refl, right) (also tt (also tt (also tt tt)))))))
-  no_denial (C.Read path) (right, way, _) = all_plain (checks_of (C.Read path)) (also way (also tt (also tt (also (refl, right) tt))))
+      all_plain (checks_of (C.Create bytes path))
+      (also tt (also way (also tt (also (refl, right) (also tt (also tt (also tt tt)))))))
+  no_denial (C.Read path) (right, way, _) =
+      all_plain (checks_of (C.Read path)) (also way (also tt (also tt (also (refl, right) tt))))
   no_denial (C.Write bytes path) (right, way, _) =
       all_plain (checks_of (C.Write bytes path)) (also way (also tt (also tt (also (refl, right) (also tt tt)))))
   no_denial (C.Append bytes path) (right, way, _) =
       all_plain (checks_of (C.Append bytes path)) (also way (also tt (also tt (also (refl, right) (also tt tt)))))
-  no_denial (C.Remove path) (removal, way, _) = all_plain (checks_of (C.Remove path)) (also tt (also way (also tt (also removal (also tt tt)))))
+  no_denial (C.Remove path) (removal, way, _) =
+      all_plain (checks_of (C.Remove path)) (also tt (also way (also tt (also removal (also tt tt)))))
   no_denial (C.Rename path to) ((removal, adds), way, way_to) =
       first_by (run_check room caller (K.MovesOutside path to)) _ (granted_plain (K.MovesOutside path to) tt)
       (λ _. first_by (walk room caller path) _ (way_plain path way)
       (λ _. first_by (check_exists room path) _ (granted_plain (K.IsThere path) tt) (λ there.
       let (o, is) = exists_there room path there in
       all_plain (K.Walks to ∷ K.IsFree to ∷ K.MayRemove path ∷ K.MayMoveTo path to ∷ K.DepthFits path to
-      ∷ K.FolderTakesMoved path to ∷ []) (also way_to (also tt (also removal (also (added_plain path to o is (adds o is)) (also tt (also tt tt)))))))))
-  no_denial (C.GetList path) (right, way, _) = all_plain (checks_of (C.GetList path)) (also way (also tt (also (refl, right) tt)))
+      ∷ K.FolderTakesMoved path to ∷ [])
+      (also way_to (also tt (also removal (also (added_plain path to o is (adds o is)) (also tt (also tt tt)))))))))
+  no_denial (C.GetList path) (right, way, _) =
+      all_plain (checks_of (C.GetList path)) (also way (also tt (also (refl, right) tt)))
   no_denial (C.SetList aclflag entries path) (right, way, _) =
       all_plain (checks_of (C.SetList aclflag entries path)) (also way (also tt (also (refl, right) (also tt tt))))
   no_denial (C.Chown group owner path) (right, way, _) =

@@ -112,7 +112,8 @@ module _ (room : Room) (caller : SubjectModel) (path : Path) (s : Sight) (seen :
         let (way, o, there, is) = parts in
         let (right, same) = by_test (may room caller path read_attributes) (attributes_of room path o)
         (ap (λ (x : Sight). x.attributes) is ∙ h) in
-        reply_if_passed room caller (C.Stat path) (pass _ _ way (pass _ _ (exists o there) (pass _ _ (none_of _ right) refl)))
+        reply_if_passed room caller (C.Stat path)
+        (pass _ _ way (pass _ _ (exists o there) (pass _ _ (none_of _ right) refl)))
         ∙ ap (λ found. About (attributes_of room path (or_no_object found))) there ∙ ap About same
 
     pub names_told : (names : List (Name × Kind)) → s.names ≡ Some names
@@ -142,7 +143,8 @@ module _ (room : Room) (caller : SubjectModel) (path : Path) (s : Sight) (seen :
         let (way, o, there, is) = parts in
         let (right, same) = by_test (may room caller path read_acl) (o.aclflag, list_of room path)
         (ap (λ (x : Sight). x.entries) is ∙ h) in
-        reply_if_passed room caller (C.GetList path) (pass _ _ way (pass _ _ (exists o there) (pass _ _ (none_of _ right) refl)))
+        reply_if_passed room caller (C.GetList path)
+        (pass _ _ way (pass _ _ (exists o there) (pass _ _ (none_of _ right) refl)))
         ∙ ap (λ found. Entries (or_no_object found).aclflag (list_of room path)) there
         ∙ ap (λ (p : ℕ × List EntryModel). Entries p.0 p.1) same
 
@@ -156,7 +158,8 @@ module _ (room : Room) (caller : SubjectModel) (path : Path) (s : Sight) (seen :
           let small : length o.bytes ≤ max_document = (object_there_is_lawful room lawful path o there).small in
           let fits : check_size (length o.bytes + 0) ≡ None =
           ap (λ b. refuse_if b FBig) (le-ltb max_document (length o.bytes + 0) (omega (arith, small))) in
-          reply_if_passed room caller (C.Append [] path) (pass _ _ way (pass _ _ (exists o there) (pass _ _ (no_folder o there file) (pass _ _ (none_of _ right)
+          reply_if_passed room caller (C.Append [] path)
+          (pass _ _ way (pass _ _ (exists o there) (pass _ _ (no_folder o there file) (pass _ _ (none_of _ right)
           (pass _ _ (ap (λ found. check_size (length (or_no_object found).bytes + 0)) there ∙ fits) refl)))))
           ∙ ap (λ found. Size (length (or_no_object found).bytes + 0)) there
           ∙ (let n : length o.bytes + 0 ≡ size = omega (arith, same) in ap Size n)

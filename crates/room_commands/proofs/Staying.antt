@@ -15,7 +15,8 @@ use Rattle.room_commands.proofs.RoomsRenamed.{rest_below, below_more}
 use Rattle.room_commands.proofs.RoomsNew.{same_or_other_path}
 use Rattle.room_commands.proofs.ChecksTell.{folder_of_kind, walk_ends_in_folder}
 use Rattle.room_commands.proofs.Looks.{walk_end, walk_to_folder, way_alike, kinds_alike, walk_to_other, right_alike}
-use Rattle.room_commands.proofs.BytesAlone.{attributes_with, shown_map, Facts, facts_at, sight_with, size_with, view_with, view_by_facts}
+use Rattle.room_commands.proofs.BytesAlone.{attributes_with, shown_map, Facts, facts_at, sight_with, size_with}
+use Rattle.room_commands.proofs.BytesAlone.{view_with, view_by_facts}
 use Rattle.room_commands.proofs.SameParts.{right_same, prefix_same, walk_same, children_same, depth_same, Region}
 use Rattle.room_commands.proofs.SameParts.{list_in, same_in, view_in, handed_in, list_by_handed}
 use Rattle.room_commands.proofs.Shorthands.{handed_by, if_reached, there_seen, or_no_object}
