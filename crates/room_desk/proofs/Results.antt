@@ -1,5 +1,5 @@
 -- Facts on a result that several clauses say apart.
-use Rattle.room_desk.proofs.Common.{IfOk, OnOk, Result, Ok, Err}
+use Rattle.room_desk.proofs.Common.{IfOk, Result, Ok, Err}
 use Rattle.std.proofs.lemmas.Result.{MatchResult-weaker}
 
 -- what holds of an Ok gives more
@@ -11,9 +11,3 @@ pub if_ok_both : {X E : Type 0} (r : Result X E) {P Q R : X → Type 0} → IfOk
     → ((x : X) → P x → Q x → R x) → IfOk r R
 if_ok_both (Ok x) p q both = both x p q
 if_ok_both (Err e) p q both = tt
-
--- what follows from a fact that an Ok tells
-pub if_ok_after : {X E : Type 0} (r : Result X E) {A : Type 0} {P Q : X → Type 0} → OnOk r A → (A → IfOk r P)
-    → ((x : X) → P x → Q x) → IfOk r Q
-if_ok_after (Ok x) a p then = then x (p a)
-if_ok_after (Err e) a p then = tt
