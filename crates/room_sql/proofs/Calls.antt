@@ -130,23 +130,6 @@ module _ {S : Type 0} (store : Ghosts S) where
     undone = λ there laid. ap (λ (d : Database). records_of d.trees) (kept there.0 there.1);
   }
 
--- a query that answered, and a result by whose fault the shelf forgets all that it knows
-module _ {S : Type 0} (store : Ghosts S) where
-  pub read_told : {T U : Type 0} {failures more : ℕ} {known mid after : Facts} {query : Result U Error} {x : U}
-      (result : Result T ShelfFault) (old new : Held S) → query ≡ Ok x
-      → QueryFrame (state store old) (state store new) query
-      → (IsTrue (state store old).is_open → (state store old).now ≡ (state store old).committed)
-      → (HasCleanDisk (state store new) → IsRoomOfVersion2 (state store old).now
-      → AreTrueOf known (state store old).now.trees → AreTrueOf mid (state store old).now.trees)
-      → OnOk result (after ≡ mid) → OnErr result (KnowsNothing after) → failures ≤ more
-      → (result ≢ Err Store → more ≡ failures) → (result ≡ Err Store → FailureCounted failures more)
-      → ShelfRead (view_of store old failures known) (view_of store new more after) (fault_in result)
-  read_told (Ok value) old new ok frame settled true_of kept nothing never quiet counted =
-      rw (kept, quiet (λ is. absurd (let bad = is in cc))) (read_ok store old new (rw ok at frame) true_of)
-  read_told (Err fault) old new ok frame settled true_of kept nothing never quiet counted =
-      read_err store old new frame settled nothing never (λ other. quiet (λ is. other (let e = is in cc)))
-      (λ is. counted (ap Err is))
-
 -- a query whose answer is handed on
 module _ {S : Type 0} (store : Ghosts S) where
   pub read_asked : {T : Type 0} {failures more : ℕ} {known after : Facts} (result : Result T ShelfFault)

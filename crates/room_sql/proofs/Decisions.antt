@@ -1,23 +1,19 @@
 -- A decision over the rows that were read so far, and the frame of a query whose rows are read one at a time.
-use Rattle.room_sql.proofs.Common.{◌≡◌, ◌⊎◌, ℕ, pos, false, List, [], ◌∷◌, ◌++◌, map, Result, Ok, Err, IsErr, OnOk, ◌<◌}
-use Rattle.room_sql.proofs.Common.{◌-◌, ◌^◌, length, refl, sym, ap, subst, ◌∙◌, append-nil, length-append, arith}
-use Rattle.room_sql.proofs.Common.{AllByRecursion, IfOk-from_err, map-append, append_assoc, Int, Row, Database}
-use Rattle.room_sql.proofs.Common.{IsDatabase, State, HasCleanDisk, IsLive, IsUnchanged, IsRolledBack, Survives, Shown}
-use Rattle.room_sql.proofs.Common.{Begins, Error, survives_then, EntryModel, IsRoomDatabase, entry_of, entry_rows}
-use Rattle.room_sql.proofs.Common.{ShowsEntry, AreEntries, read_entries_text, left_open, left_now, QueryFrame}
+use Rattle.room_sql.proofs.Common.{◌≡◌, ◌⊎◌, ℕ, pos, false, List, [], ◌∷◌, ◌++◌, map, Result, IsErr, ◌<◌, ◌-◌, ◌^◌}
+use Rattle.room_sql.proofs.Common.{length, refl, sym, ap, subst, ◌∙◌, append-nil, length-append, arith, AllByRecursion}
+use Rattle.room_sql.proofs.Common.{IfOk-from_err, map-append, append_assoc, Int, Row, Database, IsDatabase, State}
+use Rattle.room_sql.proofs.Common.{HasCleanDisk, IsLive, IsUnchanged, IsRolledBack, Survives, Shown, Begins, Error}
+use Rattle.room_sql.proofs.Common.{survives_then, EntryModel, IsRoomDatabase, entry_of, entry_rows, ShowsEntry}
+use Rattle.room_sql.proofs.Common.{AreEntries, read_entries_text, left_open, left_now, QueryFrame}
 use Rattle.room_acl.specs.declared.subject.Standing.{Standing}
 use Rattle.room_acl.specs.SubjectModel.{SubjectModel}
 use Rattle.room_acl.specs.Access.{decision}
 use Rattle.room_acl.specs.Pending.{PendingModel, decision_with}
 use Rattle.room_tables.proofs.EntryRows.{next_shows}
 use Rattle.room_tables.proofs.Reading.{read_begins, read_ends}
-use Rattle.room_sql.proofs.Frames.{was_clean}
+use Rattle.room_sql.proofs.Frames.{was_clean, on_ok}
 
 -- ---- frames
-
-on_ok : {T : Type 0} (r : Result T Error) (P : Type 0) → P → OnOk r P
-on_ok (Ok x) P p = p
-on_ok (Err e) P p = tt
 
 -- the connection is as it was
 pub frame_same : {T : Type 0} {old new : State} {r : Result T Error} → Survives old new (λ _. ⊥)
@@ -27,7 +23,7 @@ frame_same {r = r} survives mode same = record {
   clean = was_clean survives;
   was_open = λ clean is. (same clean).0.was_open;
   mode = mode;
-  answered = λ clean. on_ok r _ ((same clean).0.is_open, (same clean).0.now_is);
+  answered = λ clean. on_ok r ((same clean).0.is_open, (same clean).0.now_is);
   same = λ clean is settled. (same clean).0.now_is;
   crash = survives;
 }

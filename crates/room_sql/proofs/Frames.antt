@@ -14,6 +14,15 @@ use Rattle.sqlite.specs.declared.transaction.Transaction.{Transaction}
 use Rattle.sqlite.proofs.InsideLemmas.{keeps_then, unchanged_keeps}
 use Rattle.room_sql.specs.Faults.{ErrMeans}
 
+-- what holds of the value of each Ok
+pub each : {T E : Type 0} {Q : T → Type 0} (r : Result T E) → ((value : T) → r ≡ Ok value → Q value) → IfOk r Q
+each (Ok value) holds = holds value refl
+each (Err e) holds = tt
+
+pub on_ok : {X E P : Type 0} (r : Result X E) → P → OnOk r P
+on_ok (Ok x) holds = holds
+on_ok (Err e) holds = tt
+
 -- what holds after an Ok
 pub ok_then : {X E P Q : Type 0} (r : Result X E) → OnOk r P → (P → Q) → OnOk r Q
 ok_then (Ok x) h f = f h
@@ -51,6 +60,30 @@ asked text args {old = old} {new = new} {r = r} selects ok err mode survives =
       same = λ clean is settled. query_left items text args old new r selects (ok clean) (err clean) is settled;
       crash = query_keeps text args old new selects survives;
     }
+
+-- whatever is made of an answer
+pub made : {T U : Type 0} {old new : State} {q : Result T Error} {x : T} {r : Result U Error} → q ≡ Ok x
+    → QueryFrame old new q → QueryFrame old new r
+made {r = r} is frame = record {
+  clean = frame.clean;
+  was_open = frame.was_open;
+  mode = frame.mode;
+  answered = λ clean. on_ok r (rw is at (frame.answered clean));
+  same = frame.same;
+  crash = frame.crash;
+}
+
+-- an error that is handed on
+pub failed : {T U : Type 0} {old new : State} {q : Result T Error} {r : Result U Error} → IsErr r
+    → QueryFrame old new q → QueryFrame old new r
+failed {r = r} err frame = record {
+  clean = frame.clean;
+  was_open = frame.was_open;
+  mode = frame.mode;
+  answered = λ clean. IfOk-from_err r _ err;
+  same = frame.same;
+  crash = frame.crash;
+}
 
 -- a text that only asks, inside a transaction: the database is as it was after an answer
 pub asked_now : (text : List ℕ) (args : Row) (a b : State) (r : Result (Vec Answer Global) Error)

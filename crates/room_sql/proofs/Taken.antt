@@ -1,23 +1,19 @@
 -- A room of version 1 that is upgraded, by the rows that were read before.
-use Rattle.room_sql.proofs.Common.{◌≡◌, ◌∙◌, ℕ, List, [], ◌∷◌, option_map, unwrap_or, refl, sym, ap, IsPermutation}
-use Rattle.room_sql.proofs.Common.{false, true≢false, IsTrue, Row, column, Trees, Database, State, Shown, Layout}
-use Rattle.room_sql.proofs.Common.{with_last, room_schema, first_schema, last_tables, slot_table, has_room}
-use Rattle.room_sql.proofs.Common.{has_first_room, only, number_in, next_rows, IsVersion, records_of, IsRoomOfVersion1}
-use Rattle.room_sql.proofs.Common.{IsUpgraded, MayBeUpgraded, MayBeMovedWith, find_version_selects, told_version}
-use Rattle.room_sql.proofs.Common.{told_another, only_permuted, shown_still}
+use Rattle.room_sql.proofs.Common.{◌≡◌, ◌∙◌, ℕ, List, [], ◌∷◌, sym, ap, false, true≢false, IsTrue, Row, Trees, Database}
+use Rattle.room_sql.proofs.Common.{State, Shown, Layout, with_last, room_schema, first_schema, last_tables, slot_table}
+use Rattle.room_sql.proofs.Common.{has_room, has_first_room, IsVersion, records_of, IsRoomOfVersion1, IsUpgraded}
+use Rattle.room_sql.proofs.Common.{MayBeUpgraded, MayBeMovedWith, find_version_selects, told_version, told_another}
+use Rattle.room_sql.proofs.Common.{shown_still}
 use Rattle.sqlite.specs.Table.{Table}
 use Rattle.room_tables.specs.Versions.{find_version_text, TellsVersion}
 use Rattle.room_tables.proofs.Meaning.{room_has_room, first_has_first, first_has_no_kept}
 use Rattle.room_sql.specs.Taken.{SaysFirst, HasItsVersion, HasAnotherVersion}
 
 -- the number that was read is the one that is next
-pub next_is : {a b : Database} {next : ℕ} (rows : List Row) → b ≡ a
-    → ((more : List Table) → a.schema ≡ with_last more
-    → IsPermutation (next_rows a.trees) rows)
-    → next ≡ unwrap_or (option_map (λ row. number_in (column row 0)) (only rows)) 0 → IsRoomOfVersion1 a
-    → (records_of b.trees).objects.next ≡ next
-next_is rows now read is room =
-    rw (now, is, only_permuted _ _ (read (slot_table ∷ []) room.schema)) refl
+pub next_is : {a b : Database} {next : ℕ} → b ≡ a
+    → ((more : List Table) → a.schema ≡ with_last more → next ≡ (records_of a.trees).objects.next)
+    → IsRoomOfVersion1 a → (records_of b.trees).objects.next ≡ next
+next_is now is room = rw now (sym (is (slot_table ∷ []) room.schema))
 
 -- what a commit may leave, as seen before the rows were read
 pub may_be : {a b : Database} {next : ℕ} (db : Trees) → b ≡ a

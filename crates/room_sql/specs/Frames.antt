@@ -1,5 +1,5 @@
 -- What calls of the connection leave, whatever they do: the frames of functions that are not public.
-use Rattle.std.specs.Prelude.{◌≡◌, ◌⊎◌, ℕ, suc, true, false, List, Result, Ok, OnOk, IsTrue}
+use Rattle.std.specs.Prelude.{◌≡◌, ◌⊎◌, ℕ, suc, true, false, List, Result, Ok, IfOk, OnOk, IsTrue}
 use Rattle.sqlite_value.specs.Order.{Row}
 use Rattle.sqlite_trees.specs.declared.store.Store.{Ghosts}
 use Rattle.sqlite_trees.specs.Tree.{Trees}
@@ -8,6 +8,7 @@ use Rattle.sqlite.specs.Effect.{Database}
 use Rattle.sqlite.specs.Held.{Held, state}
 use Rattle.sqlite.specs.declared.error.Error.{Error}
 use Rattle.sqlite.specs.declared.transaction.Transaction.{Transaction}
+use Rattle.room_tables.specs.Layout.{IsRoomDatabase}
 
 -- the frame of a query outside a transaction
 pub record QueryFrame {T : Type 0} (old new : State) (result : Result T Error) : Type 0 where
@@ -23,6 +24,10 @@ pub record QueryFrame {T : Type 0} (old new : State) (result : Result T Error) :
   pub same : HasCleanDisk new → IsTrue new.is_open → old.now ≡ old.committed → new.now ≡ old.now
   -- nothing is committed, and a crash leaves no more than before
   pub crash : Survives old new (λ _. ⊥)
+
+-- what a query tells of the trees, where they are a room's
+abbrev pub TellsRoom : {T : Type 0} → State → State → Result T Error → (Trees → T → Type 0) → Type 0
+TellsRoom old new result Tells = HasCleanDisk new → IsRoomDatabase old.now → IfOk result (Tells old.now.trees)
 
 module _ {S : Type 0} (store : Ghosts S) where
   -- the first text changed rows, or it changed none, and the other ran behind it with the same parameters

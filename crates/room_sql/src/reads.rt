@@ -1,165 +1,212 @@
-//! The queries, outside a transaction.
+//! What a room's rows tell, outside a transaction: each read is one query, and its rows as values of a room.
 
-ghost use Rattle.std.specs.Prelude.{◌≡◌, List, [], ◌∷◌, length, IfOk, IsPermutation};
-ghost use Rattle.std.specs.List.{AllByRecursion};
-ghost use Rattle.sqlite_trees.specs.Tree.{IsAscending};
+ghost use Rattle.std.specs.Prelude.{◌≡◌, List, [], IfOk, unwrap_or, length, true};
 ghost use Rattle.sqlite.specs.State.{HasCleanDisk};
 ghost use Rattle.sqlite.specs.Held.{state};
 ghost use Rattle.sqlite.specs.Table.{Table};
+ghost use Rattle.room_slots.specs.Slots.{kept_seq};
+ghost use Rattle.room_records.specs.Shelf.{AreChildren, IsChildNamed};
 ghost use Rattle.room_tables.specs.Tables.{with_last};
-ghost use Rattle.room_tables.specs.Layout.{IsRoomDatabase};
-ghost use Rattle.room_tables.specs.Rows.{node_rows, named_rows, child_rows, entry_rows, doc_rows, session_rows};
-ghost use Rattle.room_tables.specs.Rows.{slot_rows, seq_rows, size_rows, next_rows, HasEntryColumns};
-ghost use Rattle.room_tables.specs.Names.{ByName, AreNameRows, counted_row};
-ghost use Rattle.room_sql.specs.Frames.{QueryFrame};
+ghost use Rattle.room_tables.specs.Rows.{records_of};
+ghost use Rattle.room_sql.specs.Frames.{QueryFrame, TellsRoom};
+ghost use Rattle.room_sql.specs.NodeFacts.{AreListed};
+ghost use Rattle.room_sql.specs.NodeRows.{in_folder};
+ghost use Rattle.room_sql.specs.ReadLists.{IsStored};
 
-use sqlite::{Alter, Connection, Error, Row, params};
+use crate::rows::{
+    StoredList, all_entries, all_names, all_nodes, first_node, one_count, one_doc, one_kept,
+    one_node, one_number, one_seq, one_session, one_size,
+};
+use room_acl::Kind;
+use room_records::{FileName, Node, SessionRow, Sid};
+use room_slots::Kept;
+use sqlite::{Alter, Connection, Error, params};
+use std::alloc::Global;
 
-/// The rows of the node with the number: none, or one.
-pub(crate) fn node_rows<S: Alter>(conn: &mut Connection<S>, id: u32) -> Result<Vec<Row>, Error>
+/// The node with the number.
+pub(crate) fn node<S: Alter>(
+    alloc: Global,
+    conn: &mut Connection<S>,
+    id: u32,
+) -> Result<Option<Node>, Error>
     ensures frame { QueryFrame (state S.Store conn.old) (state S.Store conn.new) result }
-    ensures rows { HasCleanDisk (state S.Store conn.new) → IsRoomDatabase (state S.Store conn.old).now
-        → IfOk result (λ rows. IsPermutation (node_rows (state S.Store conn.old).now.trees id) rows.items) }
+    ensures value { TellsRoom (state S.Store conn.old) (state S.Store conn.new) result
+        (λ trees found. found ≡ (records_of trees).objects.node id) }
 {
-    conn.query_all(
+    let rows = conn.query_all(
         "SELECT id, parent, name, kind, owner, grp, aclflag FROM node WHERE id = ?1",
         params![id],
-    )
+    )?;
+    one_node(alloc, rows.as_slice())
 }
 
-/// The rows of a folder with a name: none, or one.
-pub(crate) fn named_rows<S: Alter>(
+/// The node in a folder that has a name.
+pub(crate) fn child<S: Alter>(
+    alloc: Global,
     conn: &mut Connection<S>,
     parent: u32,
-    name: &str,
-) -> Result<Vec<Row>, Error>
+    name: &FileName,
+) -> Result<Option<Node>, Error>
     ensures frame { QueryFrame (state S.Store conn.old) (state S.Store conn.new) result }
-    ensures rows { HasCleanDisk (state S.Store conn.new) → IsRoomDatabase (state S.Store conn.old).now →
-        IfOk result (λ rows. IsPermutation (named_rows (state S.Store conn.old).now.trees parent name.now) rows.items) }
+    ensures value { TellsRoom (state S.Store conn.old) (state S.Store conn.new) result
+        (λ trees found. IsChildNamed (records_of trees).objects parent name.now found) }
 {
-    conn.query_all(
+    let rows = conn.query_all(
         "SELECT id, parent, name, kind, owner, grp, aclflag FROM node WHERE parent = ?1 AND name = ?2",
-        params![parent, name],
-    )
+        params![parent, name.text()],
+    )?;
+    first_node(alloc, rows.as_slice())
 }
 
-/// The rows of a folder, in order of their names.
-pub(crate) fn child_rows<S: Alter>(conn: &mut Connection<S>, parent: u32) -> Result<Vec<Row>, Error>
+/// The nodes in a folder, in order of their names.
+pub(crate) fn children<S: Alter>(
+    alloc: Global,
+    conn: &mut Connection<S>,
+    parent: u32,
+) -> Result<Vec<Node>, Error>
     ensures frame { QueryFrame (state S.Store conn.old) (state S.Store conn.new) result }
-    ensures rows { HasCleanDisk (state S.Store conn.new) → IsRoomDatabase (state S.Store conn.old).now
-        → IfOk result (λ rows. IsPermutation (child_rows (state S.Store conn.old).now.trees parent) rows.items
-        × IsAscending ByName rows.items) }
+    ensures value { TellsRoom (state S.Store conn.old) (state S.Store conn.new) result
+        (λ trees found. AreChildren (records_of trees).objects parent found.items) }
 {
-    conn.query_all(
+    let rows = conn.query_all(
         "SELECT id, parent, name, kind, owner, grp, aclflag FROM node WHERE parent = ?1 ORDER BY name",
         params![parent],
-    )
+    )?;
+    all_nodes(alloc, rows.as_slice())
 }
 
-/// The names and kinds of a folder's rows, in order of the names. No other column is read.
-pub(crate) fn name_rows<S: Alter>(conn: &mut Connection<S>, parent: u32) -> Result<Vec<Row>, Error>
+/// The names and kinds in a folder, in order of the names. No other column is read.
+pub(crate) fn names<S: Alter>(
+    alloc: Global,
+    conn: &mut Connection<S>,
+    parent: u32,
+) -> Result<Vec<(FileName, Kind)>, Error>
     ensures frame { QueryFrame (state S.Store conn.old) (state S.Store conn.new) result }
-    ensures rows { HasCleanDisk (state S.Store conn.new) → IsRoomDatabase (state S.Store conn.old).now
-        → IfOk result (λ rows. AreNameRows (state S.Store conn.old).now.trees parent rows.items) }
+    ensures value { TellsRoom (state S.Store conn.old) (state S.Store conn.new) result
+        (λ trees found. AreListed parent (trees 1) found.items) }
 {
-    conn.query_all(
+    let rows = conn.query_all(
         "SELECT name, kind FROM node WHERE parent = ?1 ORDER BY name",
         params![parent],
-    )
+    )?;
+    all_names(alloc, rows.as_slice())
 }
 
-/// How many rows a folder has, as one row.
-pub(crate) fn count_rows<S: Alter>(conn: &mut Connection<S>, parent: u32) -> Result<Vec<Row>, Error>
+/// How many rows a folder has.
+pub(crate) fn child_count<S: Alter>(conn: &mut Connection<S>, parent: u32) -> Result<u64, Error>
     ensures frame { QueryFrame (state S.Store conn.old) (state S.Store conn.new) result }
-    ensures rows { HasCleanDisk (state S.Store conn.new) → IsRoomDatabase (state S.Store conn.old).now → IfOk result
-        (λ rows. rows.items ≡ counted_row (length (child_rows (state S.Store conn.old).now.trees parent)) ∷ []) }
+    ensures value { TellsRoom (state S.Store conn.old) (state S.Store conn.new) result
+        (λ trees count. count ≡ in_folder parent (trees 1)) }
 {
-    conn.query_all(
+    let rows = conn.query_all(
         "SELECT count(*) FROM node WHERE parent = ?1",
         params![parent],
-    )
+    )?;
+    one_count(rows.as_slice())
 }
 
-/// The rows of an object's entries, in their order.
-pub(crate) fn entry_rows<S: Alter>(conn: &mut Connection<S>, id: u32) -> Result<Vec<Row>, Error>
+/// The entries of an object, in their order.
+pub(crate) fn entries<S: Alter>(
+    alloc: Global,
+    conn: &mut Connection<S>,
+    id: u32,
+) -> Result<StoredList, Error>
     ensures frame { QueryFrame (state S.Store conn.old) (state S.Store conn.new) result }
-    ensures rows { HasCleanDisk (state S.Store conn.new) → IsRoomDatabase (state S.Store conn.old).now
-        → IfOk result (λ rows.
-        AllByRecursion HasEntryColumns rows.items → rows.items ≡ entry_rows (state S.Store conn.old).now.trees id) }
+    ensures value { TellsRoom (state S.Store conn.old) (state S.Store conn.new) result
+        (λ trees list. list.entries.items ≡ (records_of trees).objects.entries id) }
+    ensures stored { TellsRoom (state S.Store conn.old) (state S.Store conn.new) result
+        (λ trees list. list.is_placed ≡ true → IsStored id list.entries.items trees) }
 {
-    conn.query_all(
+    let rows = conn.query_all(
         "SELECT place, type, flag, mask, who FROM entry WHERE node = ?1 ORDER BY place, type, flag, mask, who",
         params![id],
-    )
+    )?;
+    all_entries(alloc, rows.as_slice())
 }
 
-/// The rows of a document: none, or one.
-pub(crate) fn doc_rows<S: Alter>(conn: &mut Connection<S>, id: u32) -> Result<Vec<Row>, Error>
+/// The bytes of a document, none where it is not there.
+pub(crate) fn doc<S: Alter>(
+    alloc: Global,
+    conn: &mut Connection<S>,
+    id: u32,
+) -> Result<Vec<u8>, Error>
     ensures frame { QueryFrame (state S.Store conn.old) (state S.Store conn.new) result }
-    ensures rows { HasCleanDisk (state S.Store conn.new) → IsRoomDatabase (state S.Store conn.old).now
-        → IfOk result (λ rows. IsPermutation (doc_rows (state S.Store conn.old).now.trees id) rows.items) }
+    ensures value { TellsRoom (state S.Store conn.old) (state S.Store conn.new) result
+        (λ trees found. found.items ≡ unwrap_or ((records_of trees).objects.document id) []) }
 {
-    conn.query_all("SELECT bytes FROM doc WHERE node = ?1", params![id])
+    let rows = conn.query_all("SELECT bytes FROM doc WHERE node = ?1", params![id])?;
+    one_doc(alloc, rows.as_slice())
 }
 
-/// How long a document is, in rows: none, or one. The bytes are not read.
-pub(crate) fn size_rows<S: Alter>(conn: &mut Connection<S>, id: u32) -> Result<Vec<Row>, Error>
+/// How long a document is, 0 where it is not there. The bytes are not read.
+pub(crate) fn doc_size<S: Alter>(conn: &mut Connection<S>, id: u32) -> Result<u64, Error>
     ensures frame { QueryFrame (state S.Store conn.old) (state S.Store conn.new) result }
-    ensures rows { HasCleanDisk (state S.Store conn.new) → IsRoomDatabase (state S.Store conn.old).now
-        → IfOk result (λ rows. IsPermutation (size_rows (state S.Store conn.old).now.trees id) rows.items) }
+    ensures value { TellsRoom (state S.Store conn.old) (state S.Store conn.new) result
+        (λ trees found. found ≡ length (unwrap_or ((records_of trees).objects.document id) [])) }
 {
-    conn.query_all("SELECT length(bytes) FROM doc WHERE node = ?1", params![id])
+    // The database is sound, so the column holds bytes.
+    let _live = conn.schema();
+    let rows = conn.query_all("SELECT length(bytes) FROM doc WHERE node = ?1", params![id])?;
+    one_size(rows.as_slice())
 }
 
-/// The rows of a session name: none, or one.
-pub(crate) fn session_rows<S: Alter>(conn: &mut Connection<S>, sid: &str) -> Result<Vec<Row>, Error>
+/// The session of a name.
+pub(crate) fn session<S: Alter>(
+    alloc: Global,
+    conn: &mut Connection<S>,
+    sid: &Sid,
+) -> Result<Option<SessionRow>, Error>
     ensures frame { QueryFrame (state S.Store conn.old) (state S.Store conn.new) result }
-    ensures rows { HasCleanDisk (state S.Store conn.new) → IsRoomDatabase (state S.Store conn.old).now
-        → IfOk result (λ rows. IsPermutation (session_rows (state S.Store conn.old).now.trees sid.now) rows.items) }
+    ensures value { TellsRoom (state S.Store conn.old) (state S.Store conn.new) result
+        (λ trees found. found ≡ (records_of trees).session sid.now) }
 {
-    conn.query_all(
+    let rows = conn.query_all(
         "SELECT owner, slots, open FROM session WHERE sid = ?1",
-        params![sid],
-    )
+        params![sid.text()],
+    )?;
+    one_session(alloc, sid, rows.as_slice())
 }
 
-/// The rows of a slot: none, or one.
-pub(crate) fn slot_rows<S: Alter>(
+/// What a slot keeps.
+pub(crate) fn slot<S: Alter>(
     conn: &mut Connection<S>,
-    sid: &str,
+    sid: &Sid,
     slot: u32,
-) -> Result<Vec<Row>, Error>
+) -> Result<Option<Kept>, Error>
     ensures frame { QueryFrame (state S.Store conn.old) (state S.Store conn.new) result }
-    ensures rows { HasCleanDisk (state S.Store conn.new) → IsRoomDatabase (state S.Store conn.old).now
-        → IfOk result (λ rows. IsPermutation (slot_rows (state S.Store conn.old).now.trees sid.now slot) rows.items) }
+    ensures value { TellsRoom (state S.Store conn.old) (state S.Store conn.new) result
+        (λ trees found. found ≡ (records_of trees).slot sid.now slot) }
 {
-    conn.query_all(
+    let rows = conn.query_all(
         "SELECT seq, request, reply FROM kept WHERE sid = ?1 AND slot = ?2",
-        params![sid, slot],
-    )
+        params![sid.text(), slot],
+    )?;
+    one_kept(rows.as_slice())
 }
 
-/// The number in the rows of a slot: none, or one. What else the slot keeps is not read.
-pub(crate) fn seq_rows<S: Alter>(
+/// The number that a slot keeps. What else it keeps is not read.
+pub(crate) fn slot_seq<S: Alter>(
     conn: &mut Connection<S>,
-    sid: &str,
+    sid: &Sid,
     slot: u32,
-) -> Result<Vec<Row>, Error>
+) -> Result<Option<u32>, Error>
     ensures frame { QueryFrame (state S.Store conn.old) (state S.Store conn.new) result }
-    ensures rows { HasCleanDisk (state S.Store conn.new) → IsRoomDatabase (state S.Store conn.old).now
-        → IfOk result (λ rows. IsPermutation (seq_rows (state S.Store conn.old).now.trees sid.now slot) rows.items) }
+    ensures value { TellsRoom (state S.Store conn.old) (state S.Store conn.new) result
+        (λ trees found. found ≡ kept_seq ((records_of trees).slot sid.now slot)) }
 {
-    conn.query_all(
+    let rows = conn.query_all(
         "SELECT seq FROM kept WHERE sid = ?1 AND slot = ?2",
-        params![sid, slot],
-    )
+        params![sid.text(), slot],
+    )?;
+    one_seq(rows.as_slice())
 }
 
-/// The row with the next number.
-pub(crate) fn next_rows<S: Alter>(conn: &mut Connection<S>) -> Result<Vec<Row>, Error>
+/// The next number, in the tables of any version.
+pub(crate) fn next_id<S: Alter>(conn: &mut Connection<S>) -> Result<u32, Error>
     ensures frame { QueryFrame (state S.Store conn.old) (state S.Store conn.new) result }
-    ensures rows { HasCleanDisk (state S.Store conn.new) → (more : List Table) → conn.old.schema ≡ with_last more
-        → IfOk result (λ rows. IsPermutation (next_rows (state S.Store conn.old).now.trees) rows.items) }
+    ensures value { HasCleanDisk (state S.Store conn.new) → (more : List Table) → conn.old.schema ≡ with_last more
+        → IfOk result (λ next. next ≡ (records_of (state S.Store conn.old).now.trees).objects.next) }
 {
-    conn.query_all("SELECT next FROM room WHERE one = 1", &[])
+    let rows = conn.query_all("SELECT next FROM room WHERE one = 1", &[])?;
+    one_number(rows.as_slice())
 }

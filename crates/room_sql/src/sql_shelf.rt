@@ -10,10 +10,6 @@ ghost use Rattle.room_sql.specs.Facts.{KnowsNothing};
 ghost use Rattle.room_sql.specs.Resting.{rests_prop};
 
 use crate::facts::Facts;
-use crate::rows::{
-    all_entries, all_names, all_nodes, first_node, one_count, one_doc, one_kept, one_node,
-    one_number, one_seq, one_session, one_size,
-};
 use crate::{commits, deciding, reads};
 use room_acl::{Decision, Entry, Kind, Mask, Standing, Subject};
 use room_records::{Change, FileName, Node, SessionRow, Shelf, ShelfFault, Sid, copy_names};
@@ -140,28 +136,22 @@ impl<S: Alter> Shelf for SqlShelf<S> {
 
     fn node(&mut self, id: u32) -> Result<Option<Node>, ShelfFault> {
         let _outside = self.conn.is_autocommit();
-        let rows = reads::node_rows(&mut self.conn, id);
+        let found = reads::node(self.alloc, &mut self.conn, id);
         let _rests = self.conn.is_autocommit();
-        let rows = or_fault(&mut self.failures, &mut self.known, rows)?;
-        let found = one_node(self.alloc, rows.as_slice());
         or_fault(&mut self.failures, &mut self.known, found)
     }
 
     fn child(&mut self, parent: u32, name: &FileName) -> Result<Option<Node>, ShelfFault> {
         let _outside = self.conn.is_autocommit();
-        let rows = reads::named_rows(&mut self.conn, parent, name.text());
+        let found = reads::child(self.alloc, &mut self.conn, parent, name);
         let _rests = self.conn.is_autocommit();
-        let rows = or_fault(&mut self.failures, &mut self.known, rows)?;
-        let found = first_node(self.alloc, rows.as_slice());
         or_fault(&mut self.failures, &mut self.known, found)
     }
 
     fn children(&mut self, parent: u32) -> Result<Vec<Node>, ShelfFault> {
         let _outside = self.conn.is_autocommit();
-        let rows = reads::child_rows(&mut self.conn, parent);
+        let found = reads::children(self.alloc, &mut self.conn, parent);
         let _rests = self.conn.is_autocommit();
-        let rows = or_fault(&mut self.failures, &mut self.known, rows)?;
-        let found = all_nodes(self.alloc, rows.as_slice());
         or_fault(&mut self.failures, &mut self.known, found)
     }
 
@@ -171,10 +161,8 @@ impl<S: Alter> Shelf for SqlShelf<S> {
             return Ok(copy_names(self.alloc, names.names().as_slice())?);
         }
         let _outside = self.conn.is_autocommit();
-        let rows = reads::name_rows(&mut self.conn, parent);
+        let found = reads::names(self.alloc, &mut self.conn, parent);
         let _rests = self.conn.is_autocommit();
-        let rows = or_fault(&mut self.failures, &mut self.known, rows)?;
-        let found = all_names(self.alloc, rows.as_slice());
         let names = or_fault(&mut self.failures, &mut self.known, found)?;
         self.known.nodes.keep_names(parent, &names);
         Ok(names)
@@ -185,10 +173,8 @@ impl<S: Alter> Shelf for SqlShelf<S> {
             return Ok(count);
         }
         let _outside = self.conn.is_autocommit();
-        let rows = reads::count_rows(&mut self.conn, parent);
+        let found = reads::child_count(&mut self.conn, parent);
         let _rests = self.conn.is_autocommit();
-        let rows = or_fault(&mut self.failures, &mut self.known, rows)?;
-        let found = one_count(rows.as_slice());
         let count = or_fault(&mut self.failures, &mut self.known, found)?;
         self.known.nodes.keep_count(parent, count);
         Ok(count)
@@ -196,10 +182,8 @@ impl<S: Alter> Shelf for SqlShelf<S> {
 
     fn entries(&mut self, id: u32) -> Result<Vec<Entry>, ShelfFault> {
         let _outside = self.conn.is_autocommit();
-        let rows = reads::entry_rows(&mut self.conn, id);
+        let found = reads::entries(self.alloc, &mut self.conn, id);
         let _rests = self.conn.is_autocommit();
-        let rows = or_fault(&mut self.failures, &mut self.known, rows)?;
-        let found = all_entries(self.alloc, rows.as_slice());
         let list = or_fault(&mut self.failures, &mut self.known, found)?;
         self.known.lists.keep(id, &list);
         Ok(list.entries)
@@ -221,57 +205,43 @@ impl<S: Alter> Shelf for SqlShelf<S> {
 
     fn doc(&mut self, id: u32) -> Result<Vec<u8>, ShelfFault> {
         let _outside = self.conn.is_autocommit();
-        let rows = reads::doc_rows(&mut self.conn, id);
+        let found = reads::doc(self.alloc, &mut self.conn, id);
         let _rests = self.conn.is_autocommit();
-        let rows = or_fault(&mut self.failures, &mut self.known, rows)?;
-        let found = one_doc(self.alloc, rows.as_slice());
         or_fault(&mut self.failures, &mut self.known, found)
     }
 
     fn doc_size(&mut self, id: u32) -> Result<u64, ShelfFault> {
         let _outside = self.conn.is_autocommit();
-        // The database is sound, so the column holds bytes.
-        let _live = self.conn.schema();
-        let rows = reads::size_rows(&mut self.conn, id);
+        let found = reads::doc_size(&mut self.conn, id);
         let _rests = self.conn.is_autocommit();
-        let rows = or_fault(&mut self.failures, &mut self.known, rows)?;
-        let found = one_size(rows.as_slice());
         or_fault(&mut self.failures, &mut self.known, found)
     }
 
     fn session(&mut self, sid: &Sid) -> Result<Option<SessionRow>, ShelfFault> {
         let _outside = self.conn.is_autocommit();
-        let rows = reads::session_rows(&mut self.conn, sid.text());
+        let found = reads::session(self.alloc, &mut self.conn, sid);
         let _rests = self.conn.is_autocommit();
-        let rows = or_fault(&mut self.failures, &mut self.known, rows)?;
-        let found = one_session(self.alloc, sid, rows.as_slice());
         or_fault(&mut self.failures, &mut self.known, found)
     }
 
     fn slot(&mut self, sid: &Sid, slot: u32) -> Result<Option<Kept>, ShelfFault> {
         let _outside = self.conn.is_autocommit();
-        let rows = reads::slot_rows(&mut self.conn, sid.text(), slot);
+        let found = reads::slot(&mut self.conn, sid, slot);
         let _rests = self.conn.is_autocommit();
-        let rows = or_fault(&mut self.failures, &mut self.known, rows)?;
-        let found = one_kept(rows.as_slice());
         or_fault(&mut self.failures, &mut self.known, found)
     }
 
     fn slot_seq(&mut self, sid: &Sid, slot: u32) -> Result<Option<u32>, ShelfFault> {
         let _outside = self.conn.is_autocommit();
-        let rows = reads::seq_rows(&mut self.conn, sid.text(), slot);
+        let found = reads::slot_seq(&mut self.conn, sid, slot);
         let _rests = self.conn.is_autocommit();
-        let rows = or_fault(&mut self.failures, &mut self.known, rows)?;
-        let found = one_seq(rows.as_slice());
         or_fault(&mut self.failures, &mut self.known, found)
     }
 
     fn next_id(&mut self) -> Result<u32, ShelfFault> {
         let _outside = self.conn.is_autocommit();
-        let rows = reads::next_rows(&mut self.conn);
+        let found = reads::next_id(&mut self.conn);
         let _rests = self.conn.is_autocommit();
-        let rows = or_fault(&mut self.failures, &mut self.known, rows)?;
-        let found = one_number(rows.as_slice());
         or_fault(&mut self.failures, &mut self.known, found)
     }
 

@@ -10,8 +10,7 @@ ghost use Rattle.room_tables.specs.Upgrade.{others_than, LeavesFewer, IsShared, 
 ghost use Rattle.room_tables.specs.Upgrade.{IsMoved, IsUpgraded, MayBeUpgraded, MayBeMovedWith};
 ghost use Rattle.room_sql.specs.Frames.{InsideFrame, CommitFrame};
 
-use crate::reads::next_rows;
-use crate::rows::one_number;
+use crate::reads::next_id;
 use crate::tables::make_kept;
 use crate::writes::{put_next, run};
 use sqlite::{Alter, Connection, Error, ErrorCode, Transaction, params};
@@ -150,8 +149,7 @@ pub(crate) fn upgrade<S: Alter>(conn: &mut Connection<S>) -> Result<(), Error>
         → (state S.Store conn.old).now ≡ (state S.Store conn.old).committed
         → OnErr result ((state S.Store conn.new).now ≡ (state S.Store conn.old).now) }
 {
-    let rows = next_rows(conn)?;
-    let next = one_number(rows.as_slice())?;
+    let next = next_id(conn)?;
     // Outside a transaction what is seen is what was committed.
     let _outside = conn.is_autocommit();
     commit_move(conn, next)

@@ -5,18 +5,16 @@ use Rattle.room_sql.proofs.upgrade.upgrade.Goals as goal
 
 pub returns-clause-frame : goal.returns-clause-frame
 returns-clause-frame g c =
-    let frame = c.in_ok-rows.ensures.frame in
+    let frame = c.in_ok-next.ensures.frame in
     committed_then frame c.commit_move.ensures.frame (λ clean db may.
     let early = was_clean c.commit_move.ensures.frame.crash clean in
     let now = (frame.answered early).1 in
-    may_be db now (next_is c.as_slice.result.now now (rw c.as_slice.ensures.value (c.in_ok-rows.ensures.rows early))
-    c.in_ok-next.ensures.value) may)
+    may_be db now (next_is now (c.in_ok-next.ensures.value early)) may)
 
 pub returns-clause-ok : goal.returns-clause-ok
 returns-clause-ok g c clean =
     let early = was_clean c.commit_move.ensures.frame.crash clean in
-    let now = (c.in_ok-rows.ensures.frame.answered early).1 in
-    let is = next_is c.as_slice.result.now now (rw c.as_slice.ensures.value (c.in_ok-rows.ensures.rows early))
-    c.in_ok-next.ensures.value in
-    IfOk-weaker c.commit_move.result _ _ (λ _ done. (done.0, upgraded_from now is done.1))
+    let now = (c.in_ok-next.ensures.frame.answered early).1 in
+    IfOk-weaker c.commit_move.result _ _
+    (λ _ done. (done.0, upgraded_from now (next_is now (c.in_ok-next.ensures.value early)) done.1))
     (c.commit_move.ensures.ok clean)

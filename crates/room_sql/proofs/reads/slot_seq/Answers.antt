@@ -1,0 +1,22 @@
+use Rattle.room_sql.proofs.Common.{◌∙◌, IfOk-weaker, find_seq_selects, asks_seq, only_permuted, same_seq}
+use Rattle.room_sql.proofs.Frames.{asked, made, failed}
+use Rattle.room_sql.proofs.reads.slot_seq.Goals as goal
+
+pub returns-clause-frame : goal.returns-clause-frame
+returns-clause-frame g c =
+    made c.in_ok-rows.was (asked _ _ find_seq_selects c.query_all.ensures.ok c.query_all.ensures.err
+    c.query_all.ensures.mode c.query_all.ensures.survives)
+
+pub returns-in_err-rows-clause-frame : goal.returns-in_err-rows-clause-frame
+returns-in_err-rows-clause-frame g c =
+    failed c.from_residual.ensures.0 (asked _ _ find_seq_selects c.query_all.ensures.ok c.query_all.ensures.err
+    c.query_all.ensures.mode c.query_all.ensures.survives)
+
+pub returns-clause-value : goal.returns-clause-value
+returns-clause-value g c clean room =
+    let shown = rw (c.in_ok-rows.was, c.params-to_sql.ensures, c.params-to_sql-2.ensures, c.text.ensures.value)
+    at (c.query_all.ensures.ok clean) in
+    IfOk-weaker c.one_seq.result _ _ (λ _ is. is
+    ∙ rw (c.as_slice.ensures.value, only_permuted _ _ (asks_seq _ _ c.args.sid.now c.args.slot _ room shown))
+    (same_seq _))
+    c.one_seq.ensures.value
