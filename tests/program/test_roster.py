@@ -10,6 +10,7 @@ from served import Room, message, run, session, slot, whole
 
 ANN, BOTH = "[users]\nann = [\"eng\"]\n", "[users]\nann = [\"eng\"]\nkim = [\"eng\"]\n"
 BOB = "[users]\nbob = []\n"
+MOST = 16 * 1024 * 1024  # bytes of its file
 BAD, UNREAD = "fileroom: bad roster\n", "fileroom: cannot read roster\n"
 UNKNOWN, OPENED = whole(b'{"code":42,"error":"UNKNOWN_USER"}', 403), whole(b'{"code":0,"slots":3}')
 
@@ -156,6 +157,34 @@ def test_a_start_takes_no_bad_roster(told):
     told.kill()
     put(told, "no roster")
     assert run("serve", told.db, told.roster, str(told.port), "1") == (1, b"", BAD.encode())
+
+
+def pipe(room):
+    """The file is a pipe that nobody writes to, so that an open of it would wait for ever."""
+    os.unlink(room.roster)
+    os.mkfifo(room.roster)
+
+
+def of_size(room, size):
+    """The file is ann's and kim's roster, with a remark behind it up to this size."""
+    put(room, BOTH + "#" + "." * (size - len(BOTH) - 1))
+
+
+def test_a_pipe_is_no_roster(told):
+    pipe(told)
+    assert (let_in(told, "ann", "kim"), lines_of(told)) == (["ann"], UNREAD)
+    put(told, BOTH)
+    assert (let_in(told, "ann", "kim"), lines_of(told)) == (["ann", "kim"], UNREAD)
+    pipe(told)
+    told.kill()
+    assert run("serve", told.db, told.roster, str(told.port), "1") == (1, b"", UNREAD.encode())
+
+
+def test_a_roster_has_at_most_16_mib(told):
+    of_size(told, MOST + 1)
+    assert (let_in(told, "ann", "kim"), lines_of(told)) == (["ann"], UNREAD)
+    of_size(told, MOST)
+    assert (let_in(told, "ann", "kim"), lines_of(told)) == (["ann", "kim"], UNREAD)
 
 
 def test_nobody_is_refused_while_users_come(told):

@@ -13,9 +13,12 @@ use crate::network::{accept, serve_stream};
 use room_records::{Roster, write_whole};
 use sqlite::{Connection, Error, ErrorCode, FileFrom, FileStore, Start};
 use sqlite_disk::Disk;
-use std::fs;
+use std::fs::{self, File};
 use std::io::{self, ErrorKind, Read, Write};
 use std::net::{Ipv4Addr, Shutdown, SocketAddrV4, TcpListener, TcpStream};
+
+/// Bytes in a file of text. It is our own rule, and far above what a roster needs.
+const MAX_TEXT: u64 = 16_777_216;
 
 /// A connection to a file and its log, where `S` stands for what the two held as they were opened.
 pub type FileConnection<S> = Connection<FileStore<FileFrom<S>>>;
@@ -72,6 +75,21 @@ fn local(port: u16) -> SocketAddrV4
     SocketAddrV4::new(Ipv4Addr::LOCALHOST, port)
 }
 
+/// The text of the file at this path. What is no file is not opened: an open of a pipe may wait for ever.
+fn text_at(rt: &HostRuntime, path: &str) -> io::Result<String> {
+    if !fs::metadata(rt, path)?.is_file() {
+        return Err(io::Error::from(ErrorKind::InvalidInput));
+    }
+    let mut text = String::new(rt.alloc());
+    let read = File::open(rt, path)?
+        .take(MAX_TEXT + 1)
+        .read_to_string(&mut text)?;
+    if read as u64 > MAX_TEXT {
+        return Err(io::Error::from(ErrorKind::InvalidData));
+    }
+    Ok(text)
+}
+
 /// Opens a store, or tells what is left of its files once they were opened, and else what was left before.
 fn open<S: Start>(
     rt: &HostRuntime,
@@ -112,7 +130,7 @@ impl<'a, S: Start> Machine<FileConnection<S>> for Host<'a, S> {
     ghost does = { λ old call new. ActsOn (image_at S.Start) call old.left new.left };
 
     fn read_text(&mut self, path: &str) -> io::Result<String> {
-        fs::read_to_string(self.rt, path)
+        text_at(self.rt, path)
     }
 
     fn is_begun(&mut self, path: &str) -> io::Result<bool> {
