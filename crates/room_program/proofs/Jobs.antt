@@ -2,8 +2,10 @@
 use Rattle.room_program.proofs.Common.{◌≡◌, ℕ, List, false, Option, String, Result, Ok, Err, refl, sym, subst}
 use Rattle.room_program.proofs.Common.{inr, string_bytes, IfOk, IfErr, Init, Replay, Serve, Report, ReportKind, Held}
 use Rattle.room_program.proofs.Common.{Fault, Call, opens, leaves, InitEnds, OpensStore, Reports, ServesRoom, Ends}
-use Rattle.room_program.proofs.Common.{Means, RunsJob, streams}
+use Rattle.room_program.proofs.Common.{Means, RunsJob, streams, means, Exchange, SqlShelf, sql_view, Known, cached_view}
+use Rattle.room_program.proofs.Common.{Takes, Made, Unmade}
 use Rattle.std.specs.declared.alloc.Global.{Global}
+use Rattle.sqlite_trees.specs.declared.store.Store.{Ghosts}
 use Rattle.room_words.specs.declared.job.Job.{Job}
 use Rattle.room_program.specs.declared.fault.Fault.TheVariants.{StoreFailed}
 use Rattle.room_program.specs.Replays.{Replays}
@@ -26,6 +28,13 @@ opened_outside does path old begun new opened did (Ok c) (same, still, outside) 
     (subst (λ k. does old (opens path (Ok k)) begun) (sym same) did)
 opened_outside does path old begun new opened did (Err why) kept (is, gone) =
     subst (λ f. OpensStore does path old new (Err f)) (sym is) (inr (opened, begun, did, gone))
+
+-- a run over tables in stores
+abbrev pub over_tables : {S M : Type 0} (store : Ghosts S) → (does : M → Call (Held S) → M → Type 0)
+    → (connects : M → Exchange → M → Type 0) → (fails : M → M → Type 0) → Means M (Held S) (SqlShelf S store × Known)
+over_tables {S} store does connects fails = means does connects fails
+    (λ (opened : Held S) (taken : Result (SqlShelf S store × Known) (Fault × Held S)). Takes store opened taken)
+    (λ shelf. shelf.0.conn) (Made store) (Unmade store) (cached_view (sql_view store))
 
 module _ {M C Shelf : Type 0} (m : Means M C Shelf) (before later : M) where
   pub ran_init : (job : Job) (db owner group : String Global) (d o g : List ℕ)

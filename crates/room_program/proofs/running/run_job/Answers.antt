@@ -1,16 +1,9 @@
-use Rattle.room_program.proofs.Common.{Result, Held, SqlShelf, sql_view, Known, cached_view, Takes, Made, Unmade, Fault}
-use Rattle.room_program.proofs.Common.{means}
-use Rattle.room_program.proofs.Jobs.{ran_init, ran_report, ran_replay, ran_serve}
+use Rattle.room_program.proofs.Jobs.{over_tables, ran_init, ran_report, ran_replay, ran_serve}
 use Rattle.room_program.proofs.running.run_job.Goals as goal
 
 pub returns-in-Init : goal.returns-in-Init
 returns-in-Init g c =
-    let m = means g.M.Machine.does g.M.Listener.accepts g.M.Listener.fails
-    (λ (opened : Held g.row.S.Denot)
-    (taken : Result (SqlShelf g.row.S.Denot g.S.Store × Known) (Fault × Held g.row.S.Denot)).
-    Takes g.S.Store opened taken)
-    (λ (shelf : SqlShelf g.row.S.Denot g.S.Store × Known). shelf.0.conn)
-    (Made g.S.Store) (Unmade g.S.Store) (cached_view (sql_view g.S.Store)) in
+    let m = over_tables g.S.Store g.M.Machine.does g.M.Listener.accepts g.M.Listener.fails in
     ran_init m c.args.machine.now c.run_init.new.machine c.args.job.now
     c.in-Init.db c.in-Init.owner c.in-Init.group _ _ _
     (g.R.Read.remaining c.args.input.now) (g.W.Write.contents c.args.output.now)
@@ -19,12 +12,7 @@ returns-in-Init g c =
 
 pub returns-in-Report : goal.returns-in-Report
 returns-in-Report g c =
-    let m = means g.M.Machine.does g.M.Listener.accepts g.M.Listener.fails
-    (λ (opened : Held g.row.S.Denot)
-    (taken : Result (SqlShelf g.row.S.Denot g.S.Store × Known) (Fault × Held g.row.S.Denot)).
-    Takes g.S.Store opened taken)
-    (λ (shelf : SqlShelf g.row.S.Denot g.S.Store × Known). shelf.0.conn)
-    (Made g.S.Store) (Unmade g.S.Store) (cached_view (sql_view g.S.Store)) in
+    let m = over_tables g.S.Store g.M.Machine.does g.M.Listener.accepts g.M.Listener.fails in
     ran_report m c.args.machine.now c.run_report.new.machine c.args.job.now
     c.in-Report.db c.in-Report.roster c.in-Report.kind _ _ (g.R.Read.remaining c.args.input.now)
     (g.W.Write.contents c.args.output.now) (g.W.Write.contents c.run_report.new.output)
@@ -33,12 +21,7 @@ returns-in-Report g c =
 
 pub returns-in-Replay : goal.returns-in-Replay
 returns-in-Replay g c =
-    let m = means g.M.Machine.does g.M.Listener.accepts g.M.Listener.fails
-    (λ (opened : Held g.row.S.Denot)
-    (taken : Result (SqlShelf g.row.S.Denot g.S.Store × Known) (Fault × Held g.row.S.Denot)).
-    Takes g.S.Store opened taken)
-    (λ (shelf : SqlShelf g.row.S.Denot g.S.Store × Known). shelf.0.conn)
-    (Made g.S.Store) (Unmade g.S.Store) (cached_view (sql_view g.S.Store)) in
+    let m = over_tables g.S.Store g.M.Machine.does g.M.Listener.accepts g.M.Listener.fails in
     ran_replay m c.args.machine.now c.run_replay.new.machine c.args.job.now
     c.in-Replay.roster c.in-Replay.owner c.in-Replay.group _ _ _
     (g.R.Read.remaining c.args.input.now) (g.R.Read.remaining c.run_replay.new.input)
@@ -49,12 +32,7 @@ returns-in-Replay g c =
 
 pub returns-in-Serve : goal.returns-in-Serve
 returns-in-Serve g c =
-    let m = means g.M.Machine.does g.M.Listener.accepts g.M.Listener.fails
-    (λ (opened : Held g.row.S.Denot)
-    (taken : Result (SqlShelf g.row.S.Denot g.S.Store × Known) (Fault × Held g.row.S.Denot)).
-    Takes g.S.Store opened taken)
-    (λ (shelf : SqlShelf g.row.S.Denot g.S.Store × Known). shelf.0.conn)
-    (Made g.S.Store) (Unmade g.S.Store) (cached_view (sql_view g.S.Store)) in
+    let m = over_tables g.S.Store g.M.Machine.does g.M.Listener.accepts g.M.Listener.fails in
     ran_serve m c.args.machine.now c.run_serve.new.machine c.args.job.now
     c.in-Serve.db c.in-Serve.roster c.in-Serve.port c.in-Serve.count _ _
     (g.R.Read.remaining c.args.input.now) (g.W.Write.contents c.args.output.now)
