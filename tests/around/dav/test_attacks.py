@@ -11,7 +11,7 @@ import pytest
 from fileroom_dav import app, bodies, faults, memory, passing, props, tree
 from nginx import hashed, login
 
-from .desk import BOB_READS, BOB_WRITES, HERS, PASSWORDS, make_folders, stop
+from .desk import BOB_READS, BOB_WRITES, EXCLUSIVE, HERS, PASSWORDS, make_folders, stop
 
 HOW = {"is_lossy": False}
 BOB_ADDS = {"flag": 0, "mask": 0x1200A3, "type": 0, "who": "bob"}
@@ -265,6 +265,13 @@ def test_many_attributes_of_a_long_name():
     attributes = "".join(f' x:a{at}=""' for at in range(500))
     with pytest.raises(faults.Answered):
         bodies.parsed(f'<a xmlns:x="{"n" * 50_000}"{attributes}/>'.encode())
+
+
+def test_a_long_owner_of_a_lock():
+    """What is kept of it is XML for all who list the folder."""
+    words = "a" * (bodies.MOST_OWNER - 2) + "&amp;" * 9
+    _, owner = bodies.lockinfo_of(EXCLUSIVE.replace(b"me &amp; mine", words.encode()))
+    assert bodies.parsed(f"<x>{owner}</x>".encode()).text == words[:bodies.MOST_OWNER - 2] + "&&"
 
 
 def test_shared_locks_of_many(tmp_path):

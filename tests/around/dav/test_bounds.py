@@ -150,7 +150,8 @@ def test_a_range_reads_its_pieces(desk, data):
     size = len(data)
     for told, first, last, pieces in (("0-0", 0, 0, 1), ("65535-65536", 65535, 65536, 2),
                                       (f"{size - 1}-", size - 1, size - 1, 1), ("-5", size - 5, size - 1, 1),
-                                      ("-100", size - 100, size - 1, 2), ("70000-99999999", 70000, size - 1, 20)):
+                                      ("-100", size - 100, size - 1, 2), ("70000-99999999", 70000, size - 1, 20),
+                                      ("70000-599999", 70000, 599999, 9)):
         before = desk.loser.count
         got = desk.does("ann", "GET", "/parts", 206, Range=f"bytes={told}")
         assert desk.loser.count - before <= pieces + 2, told

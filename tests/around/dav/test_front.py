@@ -1,4 +1,5 @@
 """The gateway's connections to the front: they are kept for whoever asks next, and a session's files stay open."""
+import base64
 import contextlib
 import shutil
 import socket
@@ -58,9 +59,9 @@ def standing(tmp_path):
         it.listener.close()
 
 
-def asks(connections, user="ann"):
+def asks(connections, user="ann", password="word"):
     """The status of one request, as a visit asks."""
-    line = front.FrontLine(connections, Settings(url="http://localhost/rooms/plans", login=user, password="word"))
+    line = front.FrontLine(connections, Settings(url="http://localhost/rooms/plans", login=user, password=password))
     line.open(60.0)
     try:
         return line.ask("POST", "/v1/x", b"{}").status
@@ -75,6 +76,14 @@ def test_a_connection_is_kept_for_the_next(standing):
     assert peer.count == 1
     names = [it.decode().partition("Authorization: ")[2].partition("\r")[0] for it in peer.heard]
     assert names[0] == names[2] != names[1]
+
+
+def test_a_password_goes_on_as_it_came(standing):
+    """In UTF-8, by which the front looks it up."""
+    peer, connections = standing(WHOLE)
+    assert asks(connections, password="w\u00f6rd \u20ac:") == 200
+    pair = peer.heard[0].partition(b"Authorization: Basic ")[2].partition(b"\r")[0]
+    assert base64.b64decode(pair).decode() == "ann:w\u00f6rd \u20ac:"
 
 
 @each("answers", [("said so", [CLOSING] * 2), ("closed it", [WHOLE])])

@@ -70,6 +70,14 @@ def test_who_is_held_reads_on(desk):
     desk.does("ann", "MKCOL", "/more", 201)
 
 
+def test_a_lock_that_nobody_was_told(desk):
+    """What it was to be on was made, and no answer came: its caller does not know the token, and is not held off."""
+    desk.loser.fate = lambda message: "answer" if b'"CREATE"' in message else "none"
+    desk.locked("ann", "/untold", 503)
+    desk.loser.settle()
+    desk.does("ann", "PUT", "/untold", 204, b"x")
+
+
 def test_what_may_have_acted_is_not_sent_in_a_new_session(desk):
     """A new version is written, and no answer comes; somebody else writes theirs; then the room knows no session any
     more. Theirs stands."""

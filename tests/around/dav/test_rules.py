@@ -73,13 +73,30 @@ def test_who_may_remove_is_told_that_it_is_locked(desk):
     desk.does("bob", "DELETE", "/both/kept", 204)
 
 
-@pytest.mark.parametrize("method", ["MOVE", "COPY"])
-def test_what_is_replaced_goes_to_the_trash(desk, method):
+@pytest.fixture
+def trash(desk):
+    """What is in ann's trash."""
     with desk.room() as room:
         if "trash" not in room.children("/"):
             for it in "/trash", "/trash/ann":
                 room.mkdir(it)
             room.set_list("/trash/ann", 2, [HERS | {"flag": 0}, HERS | {"who": "ann"}])
+    return lambda: [*desk.wire("ann", "LIST", "/trash/ann")["names"]]
+
+
+@pytest.mark.parametrize("name, is_kept", [
+    ("~notes.txt", True), ("a~b", True), (".notes", True), ("notes.tmpl", True), ("#1 notes", True),
+    ("~$notes.docx", False), ("~WRL0001.tmp", False), ("notes.txt~", False), (".~lock.notes.odt#", False)])
+def test_what_is_removed_goes_to_the_trash(desk, trash, name, is_kept):
+    """But not what a program lays beside a document."""
+    desk.does("ann", "PUT", f"/{name}", 201, b"x")
+    desk.does("ann", "DELETE", f"/{name}", 204)
+    assert any(it.startswith(f"{name}~") for it, _ in trash()) == is_kept
+
+
+@pytest.mark.parametrize("method", ["MOVE", "COPY"])
+@pytest.mark.usefixtures("trash")
+def test_what_is_replaced_goes_to_the_trash(desk, method):
     for folder, name in (f"/new-{method}", "new"), (f"/old-{method}", "old"):
         desk.does("ann", "MKCOL", folder, 201)
         desk.does("ann", "PUT", f"{folder}/{name}", 201, b"x")
@@ -105,6 +122,14 @@ def test_a_refused_move_comes_back(desk):
     before = desk.names("bob", "/both")
     desk.does("bob", "MOVE", "/both/mine", 403, to="/both/theirs")
     assert (desk.get("bob", "/both/mine"), desk.names("bob", "/both")) == (b"his", before)
+
+
+def test_a_name_as_long_as_may_be(desk):
+    """What has it lies under another name while it takes a place: that one has room for it."""
+    name = "/" + "\u0436" * 32
+    desk.play(f"ann PUT {name} 201 > new; ann PUT /short 201 > old; ann MOVE {name} 204 > /short")
+    assert desk.get("ann", "/short") == b"new"
+    desk.does("ann", "GET", name, 404)
 
 
 def test_the_time_of_the_next_version(desk):
