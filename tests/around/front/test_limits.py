@@ -172,9 +172,9 @@ def test_the_answer_to_one_that_took_less(front, peer, form, much, is_held):
     assert ("room-long: u01" in peer.got[-1][0]) == (form == FORMS[0])
 
 
-def all_by_the_gateway(front, user, count):
+def all_by_the_gateway(front, user, count, *asked):
     """The statuses of so many requests at once, at that socket."""
-    asks = lambda *more: message(None, "GET", "/whoami", fields=front.fields(user, more))
+    asks = lambda *more: message(None, *asked or ("GET", "/whoami"), fields=front.fields(user, more))
     path = os.path.join(front.folder, "work", "dav.sock")
     assert until(lambda: os.path.exists(path))  # (nginx makes it behind its port)
     with socket.socket(socket.AF_UNIX) as line:
@@ -189,6 +189,13 @@ def test_the_gateway_is_no_address(fronted, memory):
     front = fronted(users=users, dav=os.path.join(memory, "no.sock"), rate="1r/s")
     assert [all_by_the_gateway(front, it, BY_GATEWAY) for it in users] == [{200}] * len(users)
     assert 429 in all_by_the_gateway(front, "u01", MANY - 1)
+
+
+def test_the_gateway_is_no_login(fronted, memory):
+    """What it asks of a room counts for whose login it has."""
+    front, asked = fronted(dav=os.path.join(memory, "no.sock"), rate="1r/s"), ("POST", f"{SLOT}1", b'{"cmd":"STAT"}')
+    assert [all_by_the_gateway(front, it, BY_GATEWAY, *asked) for it in ("u01", "u02")] == [{200}] * 2
+    assert 429 in all_by_the_gateway(front, "u01", BY_GATEWAY, *asked)
 
 
 # Spread over the second
