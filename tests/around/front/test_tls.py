@@ -30,7 +30,7 @@ def encrypted(fronted, memory, cert):
     """A front by TLS; `http` is a port for who comes without, `trusted` the certificate that callers trust."""
     shutil.copytree(os.path.dirname(cert), os.path.join(memory, "front", "tls"))
     http = free_port()
-    front = fronted(http=http, names=f"{NAME} www.{NAME}")
+    front = fronted(http=http, names=f"{NAME} www.{NAME}", dav=os.path.join(memory, "no.sock"))
     front.http, front.trusted = http, cert
     return front
 
@@ -51,9 +51,13 @@ def in_the_clear(port, target, *fields, name=NAME):
 def test_a_login_by_tls(encrypted):
     got = ask(encrypted, "/whoami", RIGHT)
     assert (got.status, got.body) == (200, b'"u01"\n')
-    told = values(got, ["strict-transport-security", "content-security-policy"])
-    assert told.pop("strict-transport-security") == ["max-age=15768000"]
-    assert len(told["content-security-policy"]) == 1
+    assert len(values(got, ["content-security-policy"])["content-security-policy"]) == 1
+
+
+@each("target", [("the site", "/whoami"), ("WebDAV", "/dav/plans/x")])
+def test_by_tls_alone_from_then_on(encrypted, target):
+    name = "strict-transport-security"
+    assert values(ask(encrypted, target, RIGHT), [name]) == {name: ["max-age=15768000"]}
 
 
 @each("fields, status", [("no login", [], 401), ("a wrong one", [wrong("u01")], 401),
