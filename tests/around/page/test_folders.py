@@ -107,6 +107,13 @@ def test_search(club, browser, tree):
     assert browser.script(FOUND) == ["/t/sub/large.bin"]
 
 
+def test_search_finds_a_name_however_its_letters_are_written(club, browser):
+    club.lay("/t/mu\u0308ll/")
+    search_in(club, "/t", "M\u00dcLL")
+    ends(browser, "1 result among")
+    assert browser.script(FOUND) == ["/t/mu\u0308ll"]
+
+
 def test_search_field_is_empty_elsewhere(club, browser, tree):
     """What is typed there begins anew; who comes back finds the words again."""
     field = "return document.querySelector('header input').value"

@@ -16,6 +16,8 @@ SHOWN = "return document.querySelector('.picture > :is(img, canvas):not([hidden]
 WIDTH = "const it = document.querySelector('.picture img'); return it && [it.complete, it.naturalWidth]"
 DOT = ("return [...document.querySelector('.picture canvas').getContext('2d').getImageData(0, 0, 1, 1).data]"
        ".slice(0, 3)")
+PRESS = ("return document.body.dispatchEvent(new KeyboardEvent('keydown',"
+         " {bubbles: true, cancelable: true, ...arguments[0]}))")  # (true: it is left to the browser)
 PLAYS = "return document.querySelector('.picture button') !== null"
 HEAD = "return document.querySelector('h1').textContent"
 MOVING = {"a.gif": gif(0, 1), "b.png": apng(), "c.webp": webp()}
@@ -111,13 +113,14 @@ def test_a_picture_of_very_many_pixels_is_not_shown(club, browser):
 
 
 def test_pictures_turn(club, browser):
-    """By a click and by an arrow."""
-    lay(club, {"one.png": PNG, "two.png": PNG})
-    club.open(f"{TOP}/one.png")
+    """By a click and by an arrow; with Alt it is the browser's, for the way back."""
+    lay(club, {"one.png": PNG, "two.png": PNG, "zoo.png": PNG})
+    club.open(f"{TOP}/two.png")
     browser.follow("Next picture ›")
-    browser.until("the next one", lambda: browser.script(HEAD) == "two.png")
-    browser.keys("left")
-    browser.until("the one before", lambda: browser.script(HEAD) == "one.png")
+    browser.until("the next one", lambda: browser.script(HEAD) == "zoo.png")
+    assert browser.script(PRESS, {"key": "ArrowLeft", "altKey": True}) is True
+    assert browser.script(PRESS, {"key": "ArrowLeft"}) is False
+    browser.until("the one before", lambda: browser.script(HEAD) == "two.png")
 
 
 @pytest.mark.parametrize("data", [PDF, PDF + bytes(PIECE)], ids=["small", "large"])

@@ -12,7 +12,7 @@ from .club import DIALOG, PLACE, append, of_user
 from .test_elsewhere import club_in
 
 PATH = "/plans/june.txt"
-ODD = 'p\u00e4ss%41:w@rd/"#?+ \u20ac'
+ODD = ' p\u00e4ss%41:w@rd/"#?+ \u20ac '
 WHOAMI = ("const [done] = arguments; fetch('/whoami', {signal: AbortSignal.timeout(5000)})"
           ".then((it) => done(it.status), () => done('waits for a login'))")
 FORGET = "const [done] = arguments; import('/login.js').then((it) => it.logOut()).then(done)"

@@ -6,7 +6,7 @@ import { buttonOf, happens, page, shown } from "./browser.mjs";
 import { Shelf, appOver } from "./shelf.mjs";
 
 const { t } = await page("words");
-const { makeFolder } = await page("actions");
+const { edit, makeFolder } = await page("actions");
 const { copyInto, emptyTrash, moveInto, putBack, remove } = await page("moving");
 const { isOwnTrash, nameAt, ownTrash, toTrash, toldBy, trashOf } = await page("trash");
 const { writeCopy, writeFile } = await page("files");
@@ -179,6 +179,40 @@ test("a move goes back by one press", async () => {
   assert.deepEqual([shelf.names("/d"), shelf.names("/e")], [[], ["a.txt"]]);
   await app.undo();
   assert.deepEqual([shelf.names("/d"), shelf.names("/e")], [["a.txt"], []]);
+});
+
+test("a place is followed as its folder is moved, and none whose name begins alike", async () => {
+  const shelf = new Shelf("mia");
+  const app = appOver(shelf);
+  for (const it of ["/d", "/d/a", "/d 2", "/e"]) shelf.put(it);
+  for (const it of ["/d 2", "/d/a", "/d"]) note(app, it, true);
+  await moveInto(app, ["/d"], "/e");
+  assert.deepEqual(latest(app).map(([it]) => it), ["/e/d", "/e/d/a", "/d 2"]);
+});
+
+test("of several things that are moved, one that is refused stays, and the way back is of the others", async () => {
+  const shelf = new Shelf("lea");
+  const app = appOver(shelf);
+  for (const it of ["/d", "/e"]) shelf.put(it);
+  for (const it of ["/d/a", "/d/b", "/e/a"]) shelf.put(it, it);
+  note(app, "/d/a", false);
+  await moveInto(app, ["/d/a", "/d/b"], "/e");
+  assert.deepEqual([shelf.names("/d"), shelf.names("/e"), latest(app)], [["a"], ["a", "b"], [["/d/a", false]]]);
+  shelf.REMOVE({ path: "/d/a" });
+  await app.undo();
+  assert.deepEqual([shelf.names("/d"), shelf.names("/e"), shelf.text("/e/a")], [["b"], ["a"], "/e/a"]);
+});
+
+test("a text has its mark of UTF-8 and its ends of lines as before, once it is edited", async () => {
+  const [shelf, before] = [new Shelf(), "\u00ef\u00bb\u00bfa;b\r\n"];
+  shelf.put("/a.csv", before);
+  const done = edit(appOver(shelf), "/a.csv");
+  await comes(t.save);
+  const [field] = shown("textarea");
+  field.value = `${field.value.replaceAll("\r", "")}c;d\n`; // (as such a field has it)
+  await press(t.save);
+  await done;
+  assert.equal(shelf.text("/a.csv"), `${before}c;d\r\n`);
 });
 
 test("a copy goes on in its room, whichever is shown by then", async () => {
