@@ -45,9 +45,11 @@ def filled(size: int, fill: Callable[[Callable[[int, bytes], None]], bool]) -> M
     """So many bytes, which `fill` puts in their places, in any order; None where it says that they are not all there.
     (What it leaves out takes no space.)"""
     with disk(), tempfile.TemporaryFile(buffering=0) as file:
+        def put(at: int, data: bytes) -> None:
+            if os.pwrite(file.fileno(), data, at) < len(data):
+                raise OSError(errno.ENOSPC, os.strerror(errno.ENOSPC))
         os.ftruncate(file.fileno(), size)
-        is_whole = fill(lambda at, data: os.pwrite(file.fileno(), data, at))
-        return mapped(file.fileno(), size) if is_whole else None
+        return mapped(file.fileno(), size) if fill(put) else None
 
 
 class Sent:

@@ -282,9 +282,12 @@ def test_times_on_a_full_disk(tmp_path):
         assert its.times("plans", sums).keys() == sums.keys()
 
 
-def test_an_answer_on_a_full_disk():
-    with mock.patch.object(os, "pwrite", side_effect=OSError(errno.ENOSPC, "")), pytest.raises(faults.Busy):
-        spool.filled(9, lambda put: put(0, b"x"))
+@pytest.mark.parametrize("how", [{"side_effect": OSError(errno.ENOSPC, "")}, {"return_value": 1}],
+                         ids=["none of it", "a part"])
+def test_an_answer_on_a_full_disk(how):
+    """Also where the disk takes a part of a piece, and says so by its count alone."""
+    with mock.patch.object(os, "pwrite", **how), pytest.raises(faults.Busy):
+        spool.filled(9, lambda put: put(0, b"xy"))
 
 
 def test_no_file_is_of_two_users(tmp_path):
