@@ -136,7 +136,7 @@ def test_an_odd_password(club, browser, passwords):
     passwords(bob=ODD)
     browser.go(club.address())
     types(browser, "bob", ODD)
-    browser.until("bob", lambda: "bob" in browser.text_of("#user"))
+    browser.until("bob", lambda: "bob" in (browser.text_of("#user") or ""))
 
 
 def test_another_password_of_the_same_name(club, browser, passwords):
