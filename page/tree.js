@@ -88,8 +88,8 @@ export class FolderTree {
   }
 
   close(it) {
+    for (const inside of it.querySelectorAll("li")) this.items.delete(inside.path);
     it.querySelector("ul")?.remove();
-    for (const path of this.items.keys()) if (path !== it.path && path.startsWith(it.path)) this.items.delete(path);
     it.ariaExpanded = "false";
   }
 

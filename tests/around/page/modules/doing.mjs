@@ -15,6 +15,7 @@ const { PIECE } = await page("manifest");
 const { useClipboard } = await page("drag");
 const { upload } = await page("uploads");
 const { latest, note } = await page("rail");
+const { FolderTree } = await page("tree");
 const { helpThem, setBack } = await page("questions");
 const TRASH = "/trash/@d/ann";
 const PRIVATE = { aclflag: 2, entries: [{ type: 0, flag: 3, mask: 0x1f07ff, who: "OWNER@" }] };
@@ -179,6 +180,16 @@ test("a move goes back by one press", async () => {
   assert.deepEqual([shelf.names("/d"), shelf.names("/e")], [[], ["a.txt"]]);
   await app.undo();
   assert.deepEqual([shelf.names("/d"), shelf.names("/e")], [["a.txt"], []]);
+});
+
+test("a folder is chosen whatever folder is closed whose name begins its own", async () => {
+  const shelf = new Shelf();
+  for (const it of ["/pro", "/pro/x", "/projects"]) shelf.put(it);
+  const tree = new FolderTree(appOver(shelf), [], "/pro/x");
+  for (let times = 0; times < 50; times += 1) await soon();
+  tree.close(tree.items.get("/pro"));
+  await tree.goTo("/projects");
+  assert.deepEqual([tree.value, [...tree.items.keys()]], ["/projects", ["/", "/pro", "/projects"]]);
 });
 
 test("a place is followed as its folder is moved, and none whose name begins alike", async () => {
