@@ -148,7 +148,9 @@ def user_rename(call, old, new):
     change.happen()
     for room in rooms:
         held.let_go(places, room, old)
-    call.say(f"{old} is {new} in {', '.join(rooms)}, with the same password")
+    own = ", with the same password" if new in now.logins(places) else ""
+    its = f"; the directory lets {new} in once it has that name" if signin.is_on(places) else ""
+    call.say(f"{old} is {new} in {', '.join(rooms)}{own}{its}")
     call.say(f"a room keeps by whose name it is who owns a thing, who is named in a list, and whose a session is: "
              f"that stays {old}'s, also what page or client of {old} had not sent yet")
     call.say(f"to have {new} own it: " + "; ".join([

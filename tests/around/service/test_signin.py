@@ -116,6 +116,9 @@ def test_passwords_of_this_machine(on):
     status, said, _ = on.does("user", "add", "plans", "eve", "eng")
     assert (status, "eve logs in by the directory\n" in said, "password of" in said) == (0, True, False)
     assert users() == {"ann", "bob"}
+    assert on.does("user", "rename", "eve", "eva")[1].startswith(
+        "eve is eva in plans; the directory lets eva in once it has that name\n")
+    assert on.does("user", "rename", "eva", "eve")[0] == 0
     assert "plans  eve  eng  directory\n" in on.does("user", "list", "plans")[1]
     assert on.does("user", "passwd", "--none", "bob")[1] == "bob logs in by the directory alone\n"
     assert users() == {"ann"}
