@@ -83,7 +83,7 @@ def user_remove(call, user, *rooms, to=None):
         f"; the login stays, for {', '.join(elsewhere)}" if elsewhere else ", and has no login"))
     owned_by = f"lists and sessions name {user}" if to else f"what {user} owned still belongs to {user}"
     call.say(f"{owned_by}: give that name to nobody else; to bring {user} back: {'; '.join(back)}")
-    people.user_owns(call, user, *(rooms if elsewhere else places.rooms()), given=rooms if to else ())
+    people.user_owns(call, user, *rooms, given=rooms if to else (), are_all=not elsewhere)
 
 
 def hand_over_all(call, leaving, to):

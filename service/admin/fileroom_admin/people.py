@@ -158,7 +158,7 @@ def user_rename(call, old, new):
         f"fileroom-admin user remove --all --to {new} {old}"]))
     for room in rooms:
         trash_for(call, room, new)
-    user_owns(call, old, *rooms, given=rooms)
+    user_owns(call, old, *rooms, given=rooms, are_all=False)
 
 
 def user_name(call, user, words):
@@ -196,16 +196,24 @@ def user_without(call, user):
     call.say(f"{user} logs in by the directory alone")
 
 
-def user_owns(call, user, *rooms, to=None, given=()):
+def user_owns(call, user, *rooms, to=None, given=(), are_all=True):
     """What the latest backups say that a user owns, but in rooms where it was given away, and which lists name the
-    user, with the line that hands it over."""
-    for room in rooms or call.places.rooms():
+    user, with the line that hands it over. Other rooms than the user's, which have nothing of them, share a line."""
+    its, without = rooms or now.rooms_of(call.places, user), []
+    for room in call.places.rooms() if are_all else rooms:
         try:
             lines = owned.told(call.places, room, user, to, is_given=room in given)
+            is_bare = len(lines) == 1 and room not in its
         except (Fault, OSError) as fault:
             lines = [f"what {user} owns in {room} is not known: {fault}; {owned.anew(room, user)}"]
+            is_bare = False
+        if is_bare:
+            without.append(room)
+            continue
         for it in lines:
             call.say(it)
+    if without:
+        call.say(f"by the latest backups nothing is {user}'s, and no list names {user}, in {', '.join(without)}")
 
 
 # The commands for many.

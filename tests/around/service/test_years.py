@@ -73,10 +73,11 @@ def test_what_is_not_known(machine):
 
 @pytest.mark.parametrize("user", ["bob", "nobody"])
 def test_what_somebody_owns(machine, owned, user):
-    first, *more = owns(owned)
+    """Who never was in a room, and has nothing there, is told no list of it."""
     assert machine.does("user", "owns", user)[1].splitlines() == [
         f"what {user} owns in club is not known: club has no backup; {ANEW.format('club', user)}",
-        first.replace("bob", user), *(more if user == "bob" else [])]
+        *(owns(owned) if user == "bob" else [
+            "by the latest backups nothing is nobody's, and no list names nobody, in plans"])]
 
 
 def test_what_is_owned_by_who_leaves_is_handed_over(machine, plans, owned):
