@@ -194,13 +194,13 @@ def child_of(table, node, name):
     return row and Node(table, row, f"{node.path.rstrip('/')}/{name}")
 
 
-def way_to(table, path):
-    """The objects from the root to a path."""
+def way_to(table, path, without=None):
+    """The objects from the root to a path; `without` is what to say where there is none."""
     way = [Node(table, table.execute(f"{NODES} WHERE parent IS NULL").fetchone(), "/")]
     for name in filter(None, path.split("/")):
         way.append(child_of(table, way[-1], name))
         if way[-1] is None:
-            raise Fault(f"there is no {path}")
+            raise Fault(without or f"there is no {path}")
     return way
 
 
@@ -215,9 +215,9 @@ def giver(entry, above):
                  if not one["flag"] & INHERITED and content(one) == content(entry)), "nowhere")
 
 
-def why(table, subject, path):
+def why(table, subject, path, without):
     """What decides each right at one path."""
-    *above, its = way_to(table, path)
+    *above, its = way_to(table, path, without)
     manifest = child_of(table, its, NAME)
     kind = LARGE if manifest else its.kind
     shut = next((it.path for it in above if not it.allowed(subject) & TRAVERSE), None)
@@ -245,8 +245,9 @@ def decisions(subject, its, kind, above):
 def look(places, room, user, groups, path):
     """Lines about a room, or about one path in it."""
     name, subject = owned.latest(places, room), Subject(user, groups)
+    without = f"the backup {name} has no {path}; of what was made since, after: systemctl start fileroom-backup@{room}"
     with owned.opened(places, room, name, is_whole=True) as table:
-        lines = [*(whole(table, subject) if path is None else why(table, subject, path))]
+        lines = [*(whole(table, subject) if path is None else why(table, subject, path, without))]
     return [f"{room}, by the backup {name}, with {user} in {', '.join(groups) or 'no group'}:", *lines]
 
 

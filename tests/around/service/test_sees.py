@@ -145,11 +145,12 @@ def test_trashes_of_many_others_are_one_line(machine, room):
 
 
 @each("words, said, faults", [
-    ("no such path", "kim plans /class/no", "what kim may do in plans is not known: there is no /class/no\n", ""),
+    ("no such path", "kim plans /class/no", "what kim may do in plans is not known: the backup SCHOOL has no "
+     "/class/no; of what was made since, after: systemctl start fileroom-backup@plans\n", ""),
     ("no user", "zed", "", "fileroom-admin: zed is no user of a room\n"),
     ("no user of it", "kim club", "", "fileroom-admin: kim is no user of the room club\n")])
 def test_what_is_not_known(machine, school, words, said, faults):
-    assert machine.does("sees", *words.split()) == (1, said, faults)
+    assert machine.does("sees", *words.split()) == (1, said.replace("SCHOOL", school), faults)
 
 
 def test_rooms_without_a_backup_hide_no_other(machine, school):
