@@ -9,7 +9,7 @@ import subprocess
 import tarfile
 import time
 
-from . import archives, dav, held, now, owned, people, rosters
+from . import archives, dav, held, now, owned, people, rosters, signin
 from .archives import ABOUT, CERT, DB, KEY, LOG, LOGINS, NAMES, NEW_HERE, ROSTER, add, add_file, new_file
 from .changes import AS_ROOMS, FOLDER, MOST_SAID, Change, begun, own_folder, put_aside
 from .front import put_front, put_room, tls
@@ -184,7 +184,8 @@ def tell_logins(call, users, had, odd):
     has, odd = now.logins(call.places), [it for it in odd if it not in had]
     for what, found in (("these have the password of this machine", [it for it in users if it in had]),
                         ("these have no login, since the archive's has a form that is not written here", odd),
-                        ("these have no login", [it for it in users if it not in {*has, *odd}])):
+                        ("these log in by the directory" if signin.is_on(call.places) else "these have no login", [
+                            it for it in users if it not in {*has, *odd}])):
         if found:
             more = f" and {len(found) - NAMED} more" if len(found) > NAMED else ""
             call.say(f"{what}: {', '.join(found[:NAMED])}{more}")

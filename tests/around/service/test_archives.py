@@ -243,18 +243,22 @@ def test_logins(there, exported, path):
         f"{it}:{its_hash}\n" for it, its_hash in OURS.items())
 
 
-def test_users_who_are_here(there, exported, path):
+@pytest.mark.parametrize("is_asked, told", [
+    (False, "these have no login: dee\n"), (True, "these log in by the directory: dee\n")])
+def test_users_who_are_here(there, exported, path, is_asked, told):
     """Who is a user of a room that is here, and has no login or no name as people write it, gets none by an archive:
     its maker would have the login's rooms, or choose by which name others there see somebody."""
     users = "etc/nginx/fileroom/users"
     there.does("user", "add", "club", "dee")
+    if is_asked:
+        there.write("etc/nginx/fileroom/signin/directory.toml", "")
     before = "".join(it for it in text_of(there.at(users)).splitlines(True) if it[:4] != "dee:")
     there.write(users, before)
     packed(path, exported.its | {"roster.toml": b"[users]\ndee = []\npam = []\n",
                                  "logins": "".join(f"{it}:{OURS['bob']}\n" for it in ("dee", "pam")).encode(),
                                  "names.json": b'{"dee": "Pam Poe", "pam": "Pam Poe"}'})
     status, said, faults = there.does("room", "import", path)
-    assert (status, "these have no login: dee\n" in said) == (0, True), faults
+    assert (status, told in said) == (0, True), said + faults
     assert text_of(there.at(users)) == f"{before}pam:{OURS['bob']}\n"
     assert json.loads(text_of(there.at("etc/nginx/fileroom/names.json"))) == {"pam": "Pam Poe"}
 
