@@ -21,8 +21,8 @@ export const t = {
   noSpace: "Dieser Browser kann nicht mehr Anfragen aufbewahren: schließen Sie andere Tabs. ({0})",
   waits: "{0} {1|Die Anfrage ist|{1} Anfragen sind} aufbewahrt und {1|wird|werden} gesendet, bis eine Antwort kommt. " +
     "Bisher {2} Versuche.", roomGone: "Der Server kennt diesen Raum nicht mehr.",
-  held: "Ihr Tageslimit für diesen Raum ist erreicht. Sie können lesen, und morgen wieder ändern, oder sobald Ihre " +
-    "IT Sie freischaltet.", tooMuch: "Das ist mehr, als der Server auf einmal durchlässt.",
+  held: "Sie können in diesem Raum zurzeit nur lesen: Ihr Tageslimit ist erreicht (bis morgen), oder Ihre IT hat Sie " +
+    "gesperrt.", tooMuch: "Das ist mehr, als der Server auf einmal durchlässt.",
   restarting: "Der Raum ist beschäftigt oder startet neu.", unreachable: "Der Raum ist nicht zu erreichen.",
   status: "Der Server antwortet mit {0}.", sentBefore: "Eine Anfrage von vorher, {0} von {1}: {2}", about: "{0}: {1}",
   leftAt: "{0} ist nicht fertig hochgeladen, kopiert oder entfernt, da die Seite endete: tun Sie es noch einmal.",
@@ -53,7 +53,7 @@ export const t = {
     "Sie Ihre IT um Platz.", someDays: "noch etwa {0} {0|Tag|Tage}", untilTomorrow: "Bis morgen ausblenden",
   numbersEnd: "Dieser Raum kann {0} lang neue Dateien aufnehmen. Bitten Sie Ihre IT, ihn zu erneuern.",
   diskEnds: "Dieser Raum hat {0} lang Platz auf seinem Datenträger. Bitten Sie Ihre IT um mehr.",
-  areHeld: "Tageslimit erreicht: {0}. Bis morgen geht nur Lesen, wenn niemand vorher freischaltet.",
+  areHeld: "Nur lesen, wegen des Tageslimits oder von der IT gesperrt: {0}.",
   lessThanADay: "weniger als einen Tag",
   isUnproved: "Dies ist der Schnellbau zum Ausprobieren: nichts ist darin bewiesen.", blank: "leer",
   notComposed: "nicht zusammengesetzt", nameWanted: "Es fehlt ein Name; . und .. sind keine.",

@@ -22,8 +22,8 @@ export const t = {
   noSpace: "This browser can keep no more requests: close other tabs. ({0})",
   waits: "{0} {1|The request is|{1} requests are} kept, and sent again until {1|it is|they are} answered. Tried {2} " +
     "times so far.", roomGone: "The front knows this room no more.",
-  held: "You reached your daily limit in this room. You can read, and change things again tomorrow, or once your " +
-    "administrator lets you.", tooMuch: "That is more than the front lets through at once.",
+  held: "You can only read in this room for now: you reached your daily limit, which ends tomorrow, or your " +
+    "administrator holds you.", tooMuch: "That is more than the front lets through at once.",
   restarting: "The room is busy, or is being started again.", unreachable: "The room cannot be reached.",
   status: "The front answers with status {0}.", sentBefore: "A request from before, {0} of {1}: {2}", about: "{0}: {1}",
   leftAt: "{0} was not wholly uploaded, copied or removed as the page ended: do it again.",
@@ -54,7 +54,7 @@ export const t = {
     "administrator to make room.", someDays: "about {0} more {0|day|days}", untilTomorrow: "Hide until tomorrow",
   numbersEnd: "This room can take new files for {0}. Ask your administrator to renew it.",
   diskEnds: "This room has space on its disk for {0}. Ask your administrator for more.",
-  areHeld: "{0} reached the daily limit, and can only read till tomorrow, unless your administrator lets them go.",
+  areHeld: "Can only read for now, by the daily limit or held by your administrator: {0}.",
   lessThanADay: "less than a day", isUnproved: "This is the quick build: nothing is proved in it.",
   // names
   blank: "blank", notComposed: "not composed", nameWanted: "A name is wanted, other than . and ..",

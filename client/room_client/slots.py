@@ -25,8 +25,8 @@ FRONT = {
     403: "the front does not let you in, or you began too many sessions: wait a minute, or ask who runs it",
     404: "the front knows no room there: correct the URL",
     413: "that is larger than the front takes: split it",
-    429: "you are held, since you asked this room for more in a day than your bound: read on, and change things "
-         "tomorrow, or ask who runs it to release you",
+    429: "you are held: you asked this room for more in a day than your bound, or who runs it holds you. Read on, and "
+         "change things tomorrow, or ask them to release you",
 }
 
 

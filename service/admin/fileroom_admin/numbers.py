@@ -24,7 +24,7 @@ ABOUT = {
     "numbers_used": "of the 1,000,000 numbers that the room has for objects, by its latest backup",
     "numbers_left_days": "until they end, as they were used in the last days",
     "users": "users of the roster",
-    "held": "logins that asked for more in a day than their bound",
+    "held": "logins that only read, by their bound of a day or by hand",
     "backups": "backups that are kept",
     "backup_age_seconds": "since the latest backup",
     "restore_age_seconds": "since a backup was restored and served, as a trial",

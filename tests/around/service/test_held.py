@@ -102,7 +102,7 @@ def test_what_a_held_login_may(ground):
     assert ground.does("user", "hold", "plans", "sue")[0] == 0
     told = sue.asks({"cmd": "MKDIR", "path": "/sue-more"})
     assert (told.status, [it for it in told.fields if it.lower().startswith("room-held")]) == (429, ["Room-Held: 1"])
-    assert told.body.startswith(b"held: this login")
+    assert told.body.startswith(b"held: this login") and told.body.endswith(b"; or an administrator holds it\n")
     for body, status in ((STAT, 200), ({"cmd": "LIST", "path": "/"}, 200), (PADDED, 429),
                          ({"cmd": "REMOVE", "path": "/sue-1"}, 429), ({"cmd": "WRITE", "path": "/x", "data": ""}, 429)):
         assert sue.asks(body).status == status, body
