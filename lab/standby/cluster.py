@@ -20,7 +20,7 @@ NEEDED = ("pcs", "pacemakerd", "corosync", "crm_mon", "nginx", "openssl", "sshd"
           "modprobe", "fuser", "curl", "logrotate")
 PAGE = os.path.join(TOP, "service", "standby", "fileroom-standby.1")
 ROFF = {r"\-": "-", r"\(aq": "'", r"\(ti": "~", r"\(ha": "^", r"\e": "\\"}
-INSTALLED = ("client", "front", "page", "service")  # what `make install` takes from
+INSTALLED = ("client", "dav", "front", "page", "service", "signin")  # what `make install` takes from
 BOARD = "fence_ipmilan ip=.. username=.. password_script=/etc/fileroom/fence-password"
 INSTEAD = {BOARD: f"fence_laboratory ip={BRIDGE.partition('/')[0]}"}
 ADDRESS, SITE = "192.0.2.100", "room.example"
