@@ -50,7 +50,8 @@ def test_a_removal_from_all_rooms_stopped_at_a_step(machine):
 @pytest.fixture
 def owned(machine, plans):
     """What bob has in plans, and the name of its backup."""
-    for path in "/of-bob", "/of-bob/a\u202eb", *(f"/of-bob/.room-pieces-0123456789abcdef{it}" for it in ("", "/00")):
+    for path in "/of-bob", "/of-bob/a\u202eb", *(
+            f"/of-bob/.room-{it}" for it in ("pieces-0123456789abcdef", "pieces-0123456789abcdef/00", "file")):
         plans.holds("ann", "SETLIST", "/", aclflag=1, entries=[ALL | {"who": it} for it in ("OWNER@", "EVERYONE@")])
         plans.holds("bob", "MKDIR", path)
     plans.holds("ann", "MKDIR", "/of-ann")
@@ -90,7 +91,7 @@ def test_what_is_owned_by_who_leaves_is_handed_over(machine, plans, owned):
     words = ["--url", f"http://127.0.0.1:{plans.room.port}", "--room-user", "ann", "--state", machine.at("../state")]
     line = owns(owned)[-1].partition(": room ")[2].replace("USER:GROUP", "ann:eng").split()
     done = subprocess.run([sys.executable, "-B", CLIENT, *words, *line], capture_output=True, text=True)
-    assert (done.returncode, done.stdout[:13]) == (0, "/: 4 objects "), done.stderr
+    assert (done.returncode, done.stdout[:13]) == (0, "/: 5 objects "), done.stderr
     assert plans.holds("ann", "STAT", "/of-bob")["owner"] == "ann"
 
 
