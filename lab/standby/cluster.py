@@ -365,7 +365,7 @@ def backed_up(cluster, load, tally):
         told = it.status("fileroom-admin", "check")[1].splitlines()
         told[:1] = [told[0][:20]]  # (the certificate is of two days)
         tally.differs(f"fileroom-admin check on {it.name}", told,
-                      ["the certificate expi", "    fileroom-admin tls, with a new one"])
+                      ["the certificate expi", "    fileroom-admin tls, with a new one (docs/RUNNING.md, HTTPS)"])
 
 
 FINDINGS = {
