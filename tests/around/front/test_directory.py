@@ -12,7 +12,7 @@ from served import Line, free_port, least, message, put_file, text_of, until
 from slapd import People, SignIn, conf_of
 
 from .conftest import started
-from .sides import LEAST, ROOM, SLOT, at_once, log_of, standing, values
+from .sides import LEAST, ROOM, SLOT, at_once, log_of, said_long, standing, values
 
 ODD = 'p\u00e4ss%41:w@rd/"# \u20ac'
 LONG, LONGEST = "w" * 130, "w" * 256  # (in a message both are written by two bytes of length)
@@ -22,6 +22,7 @@ ROSTER = json.dumps(dict.fromkeys(["ann", "bob", "dora", "Eva", "kim", "u01", "l
 SECOND = '{"ann": [], "kim": [], "Eva": []}'
 LOCAL = "u01", "dora"
 KEEP = 2  # seconds
+LIMIT_OF_A_FILE = 1 << 24  # bytes
 SLOW = 12  # seconds until a directory is given up: as many as may be, since this machine may be slow
 PUBLIC = {"/health", "/sign-in", "/organisation"}
 PATHS = ["/", "/index.html", "/whoami", "/log-in", "/rooms.json", "/names.json", "/dav.json", "/warnings.json", "/none",
@@ -143,6 +144,16 @@ def test_what_webdav_it_speaks(behind):
     logins = [], [login("kim", "no")], [login("u01", "word of u01")], [login("ann", "ann-word")]
     for path, more in itertools.product(("/dav/", "/dav/plans/x"), logins):
         assert least(lambda its=(path, *more): seconds(*its), LEAST) < LEAST
+
+
+def test_large_files_by_webdav(behind):
+    """Pass for whoever the directory lets in as for whoever this machine does; what is too large is refused."""
+    it, at = behind(), "/dav/plans/x"
+    for user, word in ("ann", "ann-word"), ("u01", "word of u01"):
+        its = [login(user, word)]
+        assert it.front.status(None, "PUT", at, bytes(LIMIT_OF_A_FILE), its) == 200
+        assert said_long(it.front, at, LIMIT_OF_A_FILE + 1, its) == 413
+    assert said_long(it.front, at, LIMIT_OF_A_FILE + 1, [login("ann", "no")]) == 401
 
 
 def test_whom_a_room_is_told(behind):
