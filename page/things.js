@@ -55,7 +55,7 @@ const nearest = (all, at) => all[Math.max(Math.min(at, all.length - 1), 0)];
 class GridKeys {
   constructor(things) {
     Object.assign(this, { things, letters: "", typedAt: 0, at: null });
-    things.table.onkeydown = (event) => !event.target.closest("[popover]") && this.key(event);
+    things.table.onkeydown = (event) => event.target.closest("[popover]") || this.key(event); // (false stops a key)
     things.table.onfocusin = (event) => this.stand(event.target);
     this.stand(things.shown[0].link);
   }

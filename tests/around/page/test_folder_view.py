@@ -290,6 +290,18 @@ def test_menu_of_a_row(browser, frame):
     assert browser.script(FOCUS) == "More for attic"
 
 
+@pytest.mark.parametrize("key", ["enter", "space"])
+def test_a_menu_of_a_row_is_pressed_by_keys(browser, frame, key):
+    browser.sees("notes.txt", ".things")
+    browser.script("document.querySelector('[aria-label=\"More for notes.txt\"]').focus()")
+    browser.keys("enter")
+    browser.until("a menu", lambda: browser.find(MENU))
+    browser.keys("m")
+    browser.until("it is stood on", lambda: browser.script(FOCUS) == "Move")
+    browser.keys(key)
+    browser.sees("Move notes.txt", "dialog")
+
+
 def test_menu_on_a_phone(club, browser, frame):
     """A sheet from below."""
     browser.size(360, 740)
