@@ -7,7 +7,7 @@ import { ACCESS, ADD_FILE, ADD_FOLDER, FILE, FOLDER, LARGE, MANIFEST, NOBODY, PA
   closedLine, faultLine, filesButton, folderOf, foldersAbove, fromBase64, givenHere, hasDav, icon, inFolder, inOrder,
   isFor, isInTrash, isNamed, isOwnTrash, isPart, isPdf, isPicture, isTrash, kindBy, lastName, latest, link, make,
   manifestAt, menuButton, nameAt, note, nothing, offered, once, orFault, ownOf, ownTrash, ownedWords, part, pointOf,
-  preview, readFile, shown, sizeWords, stars, t, toText, upload, walk, whileSo, whomOf,
+  preview, readFile, shown, sizeWords, stars, t, toText, upload, walk, whomOf,
   withoutPool } from "./shared.js";
 import { Things } from "./things.js";
 
@@ -171,17 +171,21 @@ class Search {
 
   async run() {
     const { app, place } = this;
-    const walked = (done, known) => Object.assign(this, { done, known });
     try {
       await this.begin?.();
-      await walk(app.room, place.isHere ? place.path : ROOT, (it) => this.meet(it),
-        { ...whileSo(() => !this.isStopped), walked });
+      await walk(app.room, place.isHere ? place.path : ROOT, (it) => this.meet(it), this);
       this.tell();
     } catch (fault) {
       this.told.textContent = fault.message;
     }
     this.end.remove();
   }
+
+  check() {
+    if (this.isStopped) throw new Error(t.stopped);
+  }
+
+  walked(done, known) { Object.assign(this, { done, known }); }
 
   fits(path) { return small(nameAt(path)).includes(small(this.place.word)); }
 
@@ -227,6 +231,7 @@ class Shared extends Search {
 
   /** (Gives whether to look into it.) */
   meet({ path, kind, isShut }) {
+    this.check();
     if (isInTrash(path)) return false;
     if (isShut) this.shut += 1;
     return once(this.met, path, async () => {
@@ -262,10 +267,8 @@ export async function showFind(app, place) {
   return [...head(place, { title }), once(kept, addressOf(place), () => new Search(app, place)).element];
 }
 
-export async function showShared(app, place) {
-  const its = once(kept, addressOf(place), () => new Shared(app, place));
-  return [...head(place, { title: t.sharedWithYou }), its.element];
-}
+export const showShared = (app, place) => [...head(place, { title: t.sharedWithYou }),
+  once(kept, addressOf(place), () => new Shared(app, place)).element];
 
 export async function showRecent(app, place) {
   const own = [...stars(app), ...latest(app)].map(([path, isFolder]) => (isFolder ? path : folderOf(path)));

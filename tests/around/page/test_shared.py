@@ -54,6 +54,20 @@ def test_what_came_by_a_link_is_found_again(club, browser):
     assert found(browser) == ["/a/b"]
 
 
+def test_cancel_ends_it_within_a_folder(club, browser):
+    club.lay(*(f"/long/{at:02}.txt" for at in range(9)))
+    club.sets("/", OWNER, entry("EVERYONE@", VIEW, 0), flags=2)
+    club.sets("/long", OWNER, EVERYONE, flags=2)
+    club.log_in("bob")
+    club.lossy.hold("GETLIST", "/long/04.txt")
+    club.open("", "shared")
+    browser.until("it is there", lambda: club.lossy.held)
+    browser.press("Cancel", "//main")
+    club.lossy.go_on()
+    browser.sees("Stopped.", "main")
+    assert [club.lossy.times(f"/long/{at}.txt") for at in ("03", "04", "05")] == [1, 1, 0]
+
+
 def test_it_is_told_in_german(club, browser, shared):
     of_user(browser, "Deutsch")
     browser.until("the rail", lambda: "Für Sie freigegeben" in browser.script(
