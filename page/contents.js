@@ -37,11 +37,6 @@ async function leftWords(names) {
   return faultLine(t.leftHere(called.length ? called : t.someDocument));
 }
 
-async function tellWho(share, seers, path) {
-  const found = await seers.of({ path, kind: FOLDER }).catch(() => null);
-  if (found) share.replaceChildren(t.share, make("span.about", found.words));
-}
-
 async function folder(app, place, stat, rights, found) {
   const { path } = place;
   const isOwn = isOwnTrash(app, path);
@@ -76,10 +71,12 @@ async function folder(app, place, stat, rights, found) {
   };
   const seers = things?.seers ?? new Seers(app);
   const list = share && seers.questions.object(path).catch(() => null);
-  const tell = () => share && tellWho(share, seers, path);
+  const tell = async () => {
+    const its = share && await seers.of({ path, kind: FOLDER }).catch(() => null);
+    if (share) share.replaceChildren(t.share, its ? make("span.about", its.words) : "");
+  };
   const renew = () => {
-    seers.renew();
-    things?.renew();
+    (things ?? seers).renew();
     tell();
   };
   tell();

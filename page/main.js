@@ -108,8 +108,7 @@ class App {
   get place() { return placeOf(location.hash) ?? { view: "open", room: this.rooms[0], path: ROOT }; }
 
   show(then = () => arrive(location.hash)) {
-    this.shown = this.#show(then);
-    return this.shown;
+    return this.shown = this.#show(then);
   }
 
   async #show(then) {
@@ -183,13 +182,12 @@ const isAtWork = () => document.hidden || isMenuOpen() || isUnsaved() ||
 
 const textOf = (names, list) => JSON.stringify([names, list?.entries]);
 
-/** (Who can see it is shown too.) */
 async function look(app) {
   const its = app.watched;
   if (!looksAgain() || isAtWork()) return;
   if (app.room) app.room.roster = null;
   forgetFound();
-  if (!its) return;
+  if (!its) return document.querySelector(".things tbody tr")?.row.things.renew();
   const [had, found, list] = await Promise.all([its.list, app.room.look("LIST", its.path, { keep: false }),
     its.list && app.room.look("GETLIST", its.path)]).catch(() => [null, its]);
   const isOther = textOf(its.names, had) !== textOf(found?.names, had && list);

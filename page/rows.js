@@ -65,6 +65,8 @@ export class Row {
       .filter(Boolean);
   }
 
+  get access() { return addressOf({ view: "access", room: this.things.place.room, path: this.path }); }
+
   showKind() {
     const { kind, isShut } = this.its ?? this; // (of what is shut it is not told whether it is a folder)
     this.kindName = kindByName(this.called, this.isFolder ? FOLDER : FILE);
@@ -108,14 +110,15 @@ export class Row {
     const { kind, isShut } = await this.look();
     const found = isShut ? null : await this.things.seers.of({ path: this.path, kind });
     const [{ who }, { words = "", told = "" }] = [this.cells, found ?? {}];
-    const place = { view: "access", room: this.things.place.room, path: this.path };
-    if (found && !who.firstChild) who.append(link(addressOf(place), "", { tabIndex: -1 }));
+    const before = who.firstChild?.title ?? told;
+    if (found && !who.firstChild) who.append(link(this.access, "", { tabIndex: -1 }));
     // (whoever stands in it stays there)
     Object.assign(who.firstChild ?? {}, { textContent: words, title: told, hidden: !found });
     const { user, room } = this.app;
     const own = found && kind === FILE && this.kindName === "text" &&
       await this.things.seers.questions.allowed(this.path, user, (await room.users())[user]);
     this.pen.hidden = !(own & READ && own & WRITE);
+    if (told !== before) await this.things.details.draw(this);
   }
 
   tellWhen(change) {
@@ -147,8 +150,8 @@ export class Row {
 
 /** Beside the list, in a wide window: what the row is on which somebody stands. */
 export class Details {
-  constructor({ app, place, seers }) {
-    Object.assign(this, { place, seers, room: app.room.behind(), row: null });
+  constructor({ app, seers }) {
+    Object.assign(this, { seers, room: app.room.behind(), row: null });
     this.element = make("section.details", { ariaLabel: t.inShort }, make("p.about", t.noRow));
   }
 
@@ -156,21 +159,20 @@ export class Details {
   show(row) {
     clearTimeout(this.timer);
     this.timer = setTimeout(() => {
-      if (row !== this.row && this.element.checkVisibility()) this.#draw(this.row = row).catch(() => {});
+      if (row !== this.row && this.element.checkVisibility()) this.draw(this.row = row).catch(() => {});
     }, PAUSE_ON);
   }
 
-  async #draw(row) {
+  async draw(row) {
     const { path, called, cells } = row;
     const its = await row.look();
     const [stat, seen] = await Promise.all([this.seers.questions.stat(path),
       its.isShut ? null : this.seers.of({ path, kind: its.kind })]);
     if (row !== this.row) return;
-    const access = addressOf({ view: "access", room: this.place.room, path });
     this.element.replaceChildren(make("h2", icon(its.isShut ? "locked" : row.kindName), nameText(called)),
       make("p.about", [cells.kind.textContent, its.words].filter(Boolean).join(", ")),
       make("p.about", ownedWords(stat)),
-      ...seen ? [make("p", `${t.heads.who}: `, link(access, seen.words)), make("p.about", seen.told)] : []);
+      ...seen ? [make("p", `${t.heads.who}: `, link(row.access, seen.words)), make("p.about", seen.told)] : []);
     this.element.append(await this.#preview(row, its) ?? "");
   }
 

@@ -55,7 +55,7 @@ const nearest = (all, at) => all[Math.max(Math.min(at, all.length - 1), 0)];
 class GridKeys {
   constructor(things) {
     Object.assign(this, { things, letters: "", typedAt: 0, at: null });
-    things.table.onkeydown = (event) => event.target.closest("[popover]") || this.key(event); // (false stops a key)
+    things.table.onkeydown = (event) => event.target.closest("[popover]") || this.key(event);
     things.table.onfocusin = (event) => this.stand(event.target);
     this.stand(things.shown[0].link);
   }
@@ -186,9 +186,13 @@ export class Things {
     for (const it of this.rows) this.seen.observe(it.element);
   }
 
-  /** Each row tells anew who can see it, once it is in sight. */
+  /** Rows in sight tell what they are and who sees them. (Small pictures stay.) */
   renew() {
-    for (const it of this.rows) this.seen.observe(it.element);
+    this.seers.renew();
+    for (const it of this.rows) {
+      if (!it.picture.className) it.looked = null;
+      this.seen.observe(it.element);
+    }
   }
 
   async tellWho() {

@@ -6,6 +6,8 @@ from .club import ALL, GROUP, PASS, PIECE, PLACE, TOP as FRAME_TOP, USERS, VIEW,
 TOP = "/seen"
 SEERS = ("return Object.fromEntries([...document.querySelectorAll('.things tbody tr')].map((it) => "
          "[it.querySelector('bdi').textContent, it.querySelector('.who').textContent]))")
+KINDS = ("return [...document.querySelectorAll('.things tbody tr')].map((it) => "
+         "['.kind', '.size'].map((one) => it.querySelector(one).textContent))")
 OF_FOLDER = "return document.querySelector('.tools > a .about')?.textContent"
 OWNER, ENG, BOB, EVERYONE = entry("OWNER@", ALL), entry("eng", VIEW, 3 | GROUP), entry("bob", VIEW), \
     entry("EVERYONE@", VIEW)
@@ -150,6 +152,42 @@ def test_who_comes_back_is_told_who_sees_each_row_now(club, browser, tells):
     tells("rooms/club.users.json", {**USERS, "kim": []})
     of_b = "return document.querySelector('.things tbody tr:last-child .who a').title"
     browser.until("that kim sees it", lambda: comes_back() and browser.script(of_b) == "ann, bob, eve and kim")
+
+
+def test_who_comes_back_is_told_what_is_shut_now(club, browser):
+    """And what is not any more."""
+    def comes_back():
+        browser.script("dispatchEvent(new Event('focus'))")
+        return browser.script(KINDS)
+    club.lay("/own/a/", "/own/b/b.txt")
+    for path in "/", "/own", "/own/b":
+        club.sets(path, OWNER, EVERYONE, flags=2)
+    club.sets("/own/a", OWNER, flags=2)
+    club.log_in("bob")
+    club.open("/own")
+    browser.until("what they are", lambda: browser.script(KINDS) == [["No access", ""], ["Folder", "1 item"]])
+    club.sets("/own/a", OWNER, EVERYONE, flags=2)
+    club.sets("/own/b", OWNER, flags=2)
+    browser.until("what they are now", lambda: comes_back() == [["Folder", "0 items"], ["No access", ""]])
+
+
+def test_who_comes_back_to_what_was_found_is_told_who_sees_it_now(club, browser):
+    """And beside the list, in a wide window."""
+    def comes_back():
+        browser.script("dispatchEvent(new Event('focus'))")
+        return browser.script(SEERS)
+    club.lay("/own/a.txt")
+    club.sets("/", OWNER, EVERYONE, flags=2)
+    club.sets("/own", OWNER, flags=2)
+    browser.size(1600, 900)
+    browser.devtools("Emulation.setFocusEmulationEnabled", enabled=True)  # (else nothing stands in a row)
+    search_in(club, "", "a.txt")
+    told(browser, {"a.txt": "Only you"})
+    browser.script("document.querySelector('.things tbody .name').focus()")
+    browser.sees("Who can see it: Only you", ".details")
+    club.sets("/own", OWNER, BOB, flags=2)
+    browser.until("that bob sees it", lambda: comes_back() == {"a.txt": "You, bob"})
+    browser.sees("Who can see it: You, bob", ".details")
 
 
 def test_on_a_phone_it_stands_below_the_name(club, browser, frame):
