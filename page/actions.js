@@ -83,8 +83,10 @@ async function makeNew(app, folder, { title, fields = [], faultOf = () => "", do
 }
 
 export function makeFolder(app, folder) {
-  let [isMine, made] = [false, null]; // (where its list was refused, it is there when this is tried again)
-  const mine = checkbox(t.about(t.heads.who, t.onlyYou), false, (it) => { isMine = it; });
+  let [isMine, made] = [false, null]; // (where its list was refused, it stays)
+  const mine = checkbox(t.about(t.heads.who, t.onlyYou), false, (it) => {
+    mine.closest("form").querySelector("p").hidden = isMine = it;
+  });
   const own = { aclflag: withFollows(1, false), entries: entriesOf("all", { id: "user", name: app.user }, FOLDER) };
   return makeNew(app, folder, { title: t.newFolder, fields: [["", mine]], does: async (path) => {
     if (!made) await app.room.run("MKDIR", path);
