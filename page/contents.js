@@ -52,7 +52,8 @@ async function folder(app, place, stat, rights, found) {
     mayPut && filesButton(t.upload, {}, (chosen) => upload(app, path, chosen)), share,
     mayEmpty && button(t.emptyTrash, () => emptyTrash(app, path)));
   if (found instanceof Refusal) return [...top, bar, about(place, stat, t.kinds.folder),
-    closedLine(found, place, rights.own & PASS_THROUGH ? t.byLink : "")];
+    closedLine(found, place, rights.own & PASS_THROUGH ?
+      [t.byLink, " ", link(addressOf({ ...place, view: "shared" }), t.sharedWithYou)] : "")];
   note(app, path, true);
   const names = listed.filter(([name]) => !isPart(name)).sort(byName);
   const changes = names.length > 0 && hasDav(app) && !isInTrash(path) ? changesIn(app, [path]) : null;
@@ -147,7 +148,7 @@ export async function showContents(app, place) {
   return kind === LARGE && await large(app, place, stat, rights) || folder(app, place, stat, rights, found);
 }
 
-const MOST = 500; // things that are shown
+const MOST = 500; // things
 const [MOST_CHANGES, MOST_FOLDERS] = [100, 20]; // that are shown, and asked about
 const kept = new Map(); // by address, until something is changed, or the page looks again
 const small = (name) => clean(name).toLowerCase();
@@ -212,8 +213,8 @@ class Search {
   }
 }
 
-/** What is somebody else's, and names the caller or a group of theirs: not what is in such a folder. (No walk comes
- * through folders that tell no names, but the caller may have been there.) */
+/** What others own, and share by name with the caller or a group of theirs; not what is in such a folder. (Of folders
+ * that tell no names, where the caller has been.) */
 class Shared extends Search {
   async begin() {
     const { app } = this;
@@ -242,8 +243,8 @@ class Shared extends Search {
 
   async fits(path) {
     const { groups, app: { room, user } } = this;
-    const list = await room.look("GETLIST", path);
-    const its = ownOf(list ?? { entries: [] }).filter((it) => isNamed(whomOf(it).id) && isFor(it, {}, user, groups));
+    const its = ownOf(await room.look("GETLIST", path) ?? { entries: [] })
+      .filter((it) => isNamed(whomOf(it).id) && isFor(it, {}, user, groups));
     return (givenHere(its) & READ) !== 0 && (await room.rights(path) & READ) !== 0 &&
       (await room.look("STAT", path))?.owner !== user;
   }

@@ -212,6 +212,8 @@ def test_folder_to_pass_says_how_to_go_on(club, browser):
     club.open()
     browser.sees("You don't have access to club. Ask its owner. "
                  "What is shared with you in it opens by its link.", "main")
+    browser.follow("Shared with you")
+    browser.sees("You may not look into 1 folder.", "main")
     club.open("/shared")
     browser.sees("This folder is empty.", "main")
     assert "its link" not in browser.text_of("main")
