@@ -157,7 +157,7 @@ const entryOf = (path, kind) => [lastName(path), kind, folderOf(path)];
 
 class Search {
   constructor(app, place) {
-    Object.assign(this, { app, place, isStopped: false, looked: 0, found: 0, shut: 0, done: 0, known: 1 });
+    Object.assign(this, { app, room: app.room, place, looked: 0, found: 0, shut: 0, done: 0, known: 1 });
     this.told = make("span", { role: "status" });
     this.end = button(t.cancel, () => { this.isStopped = true; }, "small");
     this.area = make("div");
@@ -168,10 +168,10 @@ class Search {
   }
 
   async run() {
-    const { app, place } = this;
+    const { room, place } = this;
     try {
       await this.begin?.();
-      await walk(app.room, place.isHere ? place.path : ROOT, (it) => this.meet(it), this);
+      await walk(room, place.isHere ? place.path : ROOT, (it) => this.meet(it), this);
       this.tell();
     } catch (fault) {
       this.told.textContent = fault.message;
@@ -217,10 +217,11 @@ class Search {
  * that tell no names, where the caller has been.) */
 class Shared extends Search {
   async begin() {
-    const { app } = this;
+    const { app, room } = this;
+    const been = [...stars(app), ...latest(app)];
     this.met = new Map();
-    this.groups = (await app.room.users())?.[app.user] ?? [];
-    for (const [path, isFolder] of [...stars(app), ...latest(app)]) {
+    this.groups = (await room.users())?.[app.user] ?? [];
+    for (const [path, isFolder] of been) {
       for (const it of [...foldersAbove(path).slice(1), path]) {
         if (!await this.meet({ path: it, kind: it !== path || isFolder ? FOLDER : FILE })) break;
       }
@@ -242,7 +243,7 @@ class Shared extends Search {
   }
 
   async fits(path) {
-    const { groups, app: { room, user } } = this;
+    const { groups, room, app: { user } } = this;
     const its = ownOf(await room.look("GETLIST", path) ?? { entries: [] })
       .filter((it) => isNamed(whomOf(it).id) && isFor(it, {}, user, groups));
     return (givenHere(its) & READ) !== 0 && (await room.rights(path) & READ) !== 0 &&

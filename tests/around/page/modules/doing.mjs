@@ -2,7 +2,7 @@
 import assert from "node:assert/strict";
 import { test } from "node:test";
 
-import { buttonOf, happens, page, shown } from "./browser.mjs";
+import { buttonOf, happens, kept, page, shown } from "./browser.mjs";
 import { Shelf, appOver } from "./shelf.mjs";
 
 const { t } = await page("words");
@@ -17,6 +17,7 @@ const { upload } = await page("uploads");
 const { latest, note } = await page("rail");
 const { FolderTree } = await page("tree");
 const { helpThem, setBack } = await page("questions");
+const { showShared } = await page("contents");
 const TRASH = "/trash/@d/ann";
 const PRIVATE = { aclflag: 2, entries: [{ type: 0, flag: 3, mask: 0x1f07ff, who: "OWNER@" }] };
 const LARGE = new Uint8Array(PIECE + 1).fill(7);
@@ -87,6 +88,19 @@ test("a private folder whose list was refused is the one that is tried again", a
   }
   await done;
   assert.deepEqual([shelf.names("/"), shelf.things.get("/ours").list.aclflag], [["ours"], 2]);
+});
+
+test("what is shared in a room is looked for there, whatever room is shown by then", async () => {
+  kept.clear();
+  const [shelf, other] = [new Shelf(), new Shelf()];
+  for (const it of ["a", "b"]) shelf.put(`/${it}.txt`, it);
+  const app = appOver(shelf);
+  app.room.roster = { ann: [] };
+  const its = showShared(app, { view: "shared", room: "club", path: "/" }).at(-1);
+  app.room = appOver(other).room;
+  for (let times = 0; times < 100; times += 1) await soon();
+  assert.equal(its.textContent.trim(), t.found(0, 2));
+  assert.deepEqual([other.asked, shelf.asked.filter(({ cmd }) => cmd === "GETLIST").length], [[], 2]);
 });
 
 test("who has no private trash removes for good, and is told so", async () => {
