@@ -93,7 +93,8 @@ def stops(machine, *words, stdin="", broken=""):
         machine.write("../said", "")
         status = stopped(machine, at, *words, stdin=stdin)
         machine.breaks("")
-        assert status in (1 if broken else 0, KILLED), f"stopped at {at}"
+        said = text_of(os.path.join(machine.folder, "said"))
+        assert status in (1 if broken else 0, KILLED), f"stopped at {at}: {said}"
         stopped(machine, at % 13, "user", "list")
         assert stopped(machine, MOST, "user", "list") == 0, f"the next call, stopped at {at}"
         found, told = machine.files(logins), machine.told()
