@@ -21,17 +21,19 @@ class Left(Exception):
 
 
 def hand_over(places, room, user, paths, to):
-    """How many of these things were given, and why each of the others is still the user's, by its path."""
+    """Which of these things were given, a large file with all its parts as one, and why each of the others is still the
+    user's, by its path: of a large file that is left itself no part is told."""
     if not os.path.exists(places.socket(room)):
         raise Fault("the room is not served")
-    session, given, left = Session(places.socket(room), user, Patience()), 0, {}
+    session, given, left = Session(places.socket(room), user, Patience()), set(), {}
     for path in paths:
         try:
-            given += give(session, path, to)
+            given |= {owned.whole(path)} if give(session, path, to) else set()
         except Left as why:
             left[path] = str(why)
     session.end()
-    return given, left
+    kept = {owned.whole(it) for it in left}
+    return given - kept, {it: left[it] for it in left if owned.whole(it) in (it, *kept - left.keys())}
 
 
 def give(session, path, to):
@@ -129,7 +131,8 @@ def hand_over_of(call, room, user, paths, to):
     except (Fault, OSError) as fault:
         call.say(f"{room}: what {user} owns is not handed over: {fault}")
         return False
-    call.say(f"{room}: {given} things of {user} belong to {to}" + f", {len(left)} do not" * bool(left))
+    kept = {owned.whole(it) for it in left}
+    call.say(f"{room}: {len(given)} things of {user} belong to {to}" + f", {len(kept)} do not" * bool(kept))
     for path in sorted(left)[:TOLD]:
         call.say(f"{room}: {shown(path)} is still {user}'s: {shown(left[path])}")
     if len(left) > TOLD:

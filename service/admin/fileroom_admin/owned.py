@@ -24,6 +24,12 @@ EMPTY_TRASHES = """SELECT it.id, it.name FROM node AS it JOIN node AS part ON pa
 PIECES = re.compile(r"/\.room-(file|[a-z]+-[0-9a-f]{16})(/|\Z)")  # a part of a large file (docs/FILES.md)
 
 
+def whole(path):
+    """The large file that this is a part of, or itself."""
+    part = PIECES.search(path)
+    return path[:part.start()] if part else path
+
+
 def of_backups():
     """The script that reads backups, without following a link."""
     loader = importlib.machinery.SourceFileLoader("one", os.path.join(HERE, "../../fileroom-one"))
