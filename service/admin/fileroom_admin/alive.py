@@ -10,7 +10,7 @@ import secrets
 import shutil
 import time
 
-from . import paces, rosters
+from . import now, paces
 from .asking import Patience, Session
 from .front import end_of
 from .places import LISTEN, Fault, read, said
@@ -42,7 +42,7 @@ class Own(Session):
 @functools.cache
 def fault_of(places, room):
     """Why the room takes no request, in words; or nothing, where it does. (`check` and numbers ask it once.)"""
-    users = rosters.users_of(read(places.roster(room)))
+    users = now.users(places, room)
     if not users:
         return None
     try:
@@ -124,6 +124,14 @@ def trouble(places, room):
     return fault_of(places, room) if is_here and not rests else None
 
 
+def or_why_not(places, room):
+    """The same, or why it cannot be asked."""
+    try:
+        return trouble(places, room)
+    except (Fault, OSError) as fault:
+        return str(fault)
+
+
 def has_ended(places):
     """That the front's certificate did: no browser or client that looks at it goes on."""
     cert = places.front("tls/cert.pem")
@@ -136,7 +144,7 @@ def has_ended(places):
 def watch(places, say):
     """Says of each room that takes no request why, and if no room can be reached by people; its unit brings that to the
     journal. The status."""
-    faults = [*filter(None, (has_ended(places), *(trouble(places, it) for it in places.rooms())))]
+    faults = [*filter(None, (has_ended(places), *(or_why_not(places, it) for it in places.rooms())))]
     for it in faults:
         say(it)
     return 1 if faults else 0

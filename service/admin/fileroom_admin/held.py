@@ -8,7 +8,7 @@ import json
 import os
 import time
 
-from . import paces, rosters
+from . import now, paces, rosters
 from .changes import Change
 from .places import Fault, read, read_json, said, write
 from .warned import HELD, group_of_workers, held_in, own_folder, put
@@ -70,7 +70,7 @@ class Bounds:
         its = self.set.get(room, {})
         if user in its.get("users", {}):
             return its["users"][user]
-        groups = rosters.users_of(read(self.places.roster(room))).get(user, [])
+        groups = now.users(self.places, room).get(user, [])
         found = [its["groups"][it] for it in groups if it in its.get("groups", {})]
         return min(found, key=[*BOUNDS].index) if found else its.get("room", USUAL)
 

@@ -170,8 +170,7 @@ class Findings:
     def room(self, room):
         places = self.places
         self.mode(places.roster(room), stat.S_IWGRP | stat.S_IWOTH, "chmod go-w")
-        if read(places.front(f"rooms/{room}.users.json"), "") != rosters.page_copy(read(places.roster(room))):
-            self.add(f"{room}: the page's roster differs from the room's", FRONT_REMEDY)
+        self.part(self.page_copy, room, places.roster(room))
         if any(read(places.front(f"{it}/{room}.conf"), "") != of_room(name, room) for it, name in OF_ROOM.items()):
             self.add(f"{room}: its part of the front is not as it should be", FRONT_REMEDY)
         if places.has_standby(room):
@@ -180,11 +179,15 @@ class Findings:
             self.mode(places.state(room), OTHERS, "chmod 700")
             self.owner(places.file(room))
             self.memory(room)
-            self.answering(room)
+            self.part(self.answering, room)
         self.running(room)
         units = [] if places.has_standby(room) else [f"fileroom@{room}", f"fileroom-proxy@{room}.socket"]
         for unit in *units, f"fileroom-backup@{room}.timer", f"fileroom-try@{room}.timer":
             self.unit(unit)
+
+    def page_copy(self, room, roster):
+        if read(self.places.front(f"rooms/{room}.users.json"), "") != rosters.page_copy(read(roster), roster):
+            self.add(f"{room}: the page's roster differs from the room's", FRONT_REMEDY)
 
     def answering(self, room):
         """(Where nothing listens for it, its units are found.)"""

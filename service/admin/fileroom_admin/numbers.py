@@ -6,7 +6,7 @@ import re
 import shutil
 import time
 
-from . import alive, paces, rosters, warned
+from . import alive, now, paces, warned
 from .front import end_of
 from .looking import Findings, look
 from .owned import latest, made_at
@@ -62,7 +62,7 @@ class Numbers:
             is_whole = not said_before(f"standby-{room}", "fileroom-standby", "check", room)[0]
             self.add("standby_whole", is_whole, room=room)
         self.add("held", len(warned.held_in(places, room)), room=room)
-        self.add("users", len(rosters.users_of(read(places.roster(room)))), room=room)
+        self.add("users", len(now.users(places, room)), room=room)
         if is_here:
             self.add("up", is_up(places, room), room=room)
             self.add("room_bytes", paces.size_of(places.state(room)), room=room)

@@ -98,9 +98,9 @@ def with_users(text, changed):
     return "[users]\n" + "".join(f"{line_of(*it)}\n" for it in want.items())
 
 
-def page_copy(text):
+def page_copy(text, *path):
     """The roster as the page reads it."""
-    return json.dumps(users_of(text)) + "\n"
+    return json.dumps(users_of(text, *path)) + "\n"
 
 
 def hashed_drawn(password):

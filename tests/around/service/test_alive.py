@@ -127,6 +127,22 @@ def test_a_room_whose_program_does_not_run(machine, plans):
     assert said == f"{LACKS}its program does not run: journalctl -u fileroom@plans says why\n"
 
 
+def test_a_roster_with_a_fault_hides_no_other_room(machine, plans):
+    """It is told with its path, and by check; that its room does not run is told too."""
+    machine.write("run/fileroom/club.sock", "")
+    machine.write("etc/fileroom/club.toml", "[users")
+    plans.room.kill()
+    machine.breaks("fileroom@plans")
+    fault = f"{machine.at('etc/fileroom/club.toml')} is no TOML: "
+    status, said, faults = machine.does("watch")
+    assert (status, faults, [it.partition("Expected")[0] for it in said.splitlines()]) == (
+        1, "", [fault, f"{LACKS}its program does not run: journalctl -u fileroom@plans says why"])
+    machine.breaks("fileroom@club")
+    said = machine.does("check")[1].splitlines()
+    assert {it.partition("Expected")[0] for it in said if " TOML" in it} == {fault}
+    assert "fileroom@club is not running" in said
+
+
 def test_a_program_that_never_stays(delaying):
     """It is up whenever one looks, and was started a moment ago."""
     def just_started(*_):
