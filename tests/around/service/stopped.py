@@ -2,6 +2,7 @@
 import io
 import os
 import re
+import resource
 import shutil
 import subprocess
 import sys
@@ -55,6 +56,7 @@ def stopped(machine, step, *words, stdin=""):
         for name in "replace", "unlink", "link", "fsync", "chmod":
             setattr(os, name, counted(getattr(os, name), left))
         subprocess.run = counted(subprocess.run, left)
+        resource.setrlimit = lambda *_: None  # (a bound of memory is for a process of its own: this has all of pytest)
         for name in [it for it in sys.modules if it.split(".")[0] == "fileroom_admin"]:
             del sys.modules[name]  # (which another test has with this process's own PATH)
         from fileroom_admin.command import main
