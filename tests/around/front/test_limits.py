@@ -138,11 +138,11 @@ def test_long_ones_under_way(front, peer, form, count):
         it.close()
 
 
-def seconds_of(front, peer, form, pause):
-    """Until an answer is there that the room gave after a while."""
+def seconds_of(front, peer, form, pause, came=1):
+    """Until an answer is there that the room gave after a while, once so many came to it."""
     peer.may.clear()
     before, line = len(peer.came), begun(front, "u01", body=form)
-    assert until(lambda: len(peer.came) > before, SOON)
+    assert until(lambda: len(peer.came) >= before + came, SOON)
     time.sleep(pause)
     begin = time.monotonic()
     peer.may.set()
@@ -170,6 +170,18 @@ def test_the_answer_to_one_that_took_less(front, peer, form, much, is_held):
     found = least(seconds, 0.9, 4 if is_held else 9)
     assert (0.9 < found < 5) if is_held else (found < 0.9)
     assert ("room-long: u01" in peer.got[-1][0]) == (form == FORMS[0])
+
+
+def test_the_answer_to_one_that_waited_in_the_front(fronted, peer):
+    """For two seconds, since its login had asked before: it is held back as if it had not waited."""
+    front = fronted(long="30r/m", long_at_once=1)
+    peer.said = peer.said.replace(b"\r\n", b"\r\nroom-much: 1\r\n", 1)
+
+    def seconds():
+        assert until(lambda: 0.1 < time.time() % 1 < 0.4)
+        before = [begun(front, "u01", at, body=SHORT[0]) for at in (1, 2)]
+        return seconds_of(front, peer, FORMS[0], 0.03, came=1 + len(before))
+    assert 0.9 < least(seconds, 0.9, 4) < 9
 
 
 def all_by_the_gateway(front, user, count, *asked):
