@@ -1,4 +1,5 @@
 """Files and folders of this machine: whole files alone are put in place, and no link is followed out of a folder."""
+import errno
 import os
 import secrets
 import stat
@@ -10,7 +11,8 @@ from dataclasses import dataclass, field
 from typing import BinaryIO
 
 from .faults import LocalFault, reading
-from .words import FILE, FOLDER, PART, neat, shown
+from .manifest import PART
+from .words import FILE, FOLDER, neat, shown
 
 FOLDER_HERE = os.O_RDONLY | os.O_DIRECTORY | os.O_CLOEXEC
 FOUND_HERE = os.O_RDONLY | os.O_NOFOLLOW | os.O_NONBLOCK | os.O_CLOEXEC
@@ -126,10 +128,21 @@ def put_in_place(folder: int, name: str, data: bytes) -> None:
                     os.fchmod(file.fileno(), stat.S_IMODE(its.st_mode))
             file.write(data)
             file.flush()
+            os.fsync(file.fileno())
             os.replace(part, name, src_dir_fd=folder, dst_dir_fd=folder)
+            flush_folder(folder)
         except BaseException:
             with suppress(OSError):
                 os.remove(part, dir_fd=folder)
+            raise
+
+
+def flush_folder(folder: int) -> None:
+    """(Some filesystems of networks flush none.)"""
+    try:
+        os.fsync(folder)
+    except OSError as fault:
+        if fault.errno != errno.EINVAL:
             raise
 
 

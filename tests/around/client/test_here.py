@@ -32,15 +32,38 @@ def here(tmp_path):
 
 # Putting: a file is there whole, or as it was before
 
-def test_put_has_its_bytes_before_its_name(here):
-    sizes, plain = [], os.replace
+@contextlib.contextmanager
+def steps():
+    """What is flushed, with the bytes that it has by then, and when it gets its name."""
+    does, plain = [], {it: getattr(os, it) for it in ("fsync", "replace")}
 
-    def seen(part, name, **how):
-        sizes.append(os.stat(part, dir_fd=how["src_dir_fd"]).st_size)
-        plain(part, name, **how)
-    with mock.patch("os.replace", seen):
+    def fsync(file):
+        its = os.fstat(file)
+        does.append("folder" if stat.S_ISDIR(its.st_mode) else f"file of {its.st_size} bytes")
+        plain["fsync"](file)
+
+    def renamed(*names, **how):
+        does.append("name")
+        plain["replace"](*names, **how)
+    with mock.patch("os.fsync", fsync), mock.patch("os.replace", renamed):
+        yield does
+
+
+def test_put_on_the_disk_under_its_name(here):
+    with steps() as does:
         local.write_local(str(here / "a"), b"all of it")
-    assert (sizes, (here / "a").read_bytes()) == ([9], b"all of it")
+        local.write_below(str(here), ["top", "b"], b"more")
+    assert does == ["file of 9 bytes", "name", "folder", "file of 4 bytes", "name", "folder"]
+    assert ((here / "a").read_bytes(), (here / "top/b").read_bytes()) == (b"all of it", b"more")
+
+
+@each("fault, is_told", [("a filesystem that flushes no folder", 22, False), ("a disk that fails", 5, True)])
+def test_put_where_the_folder_is_not_flushed(here, fault, is_told):
+    """(The second flush is the folder's.)"""
+    raises = pytest.raises(LocalFault) if is_told else contextlib.nullcontext()
+    with mock.patch("os.fsync", side_effect=[None, OSError(fault, "no")]), raises:
+        local.write_local(str(here / "a"), b"after")
+    assert (here / "a").read_bytes() == b"after"
 
 
 @pytest.mark.parametrize("fault", [OSError(28, "No space left on device"), KeyboardInterrupt()], ids=["disk", "key"])
@@ -121,17 +144,7 @@ def state(tmp_path):
 
 
 def test_kept_on_the_disk_under_its_name(state, tmp_path):
-    does, plain = [], {it: getattr(os, it) for it in ("fsync", "replace")}
-
-    def fsync(file):
-        its = os.fstat(file)
-        does.append("folder" if stat.S_ISDIR(its.st_mode) else f"file of {its.st_size} bytes")
-        plain["fsync"](file)
-
-    def renamed(*names):
-        does.append("name")
-        plain["replace"](*names)
-    with state() as its, mock.patch("os.fsync", fsync), mock.patch("os.replace", renamed):
+    with state() as its, steps() as does:
         for slot in 0, 1:
             its.record("{}", slot)
     sizes = [os.path.getsize(it) for it in (tmp_path / "state", tmp_path / "state.1")]
