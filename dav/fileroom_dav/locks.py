@@ -66,6 +66,15 @@ class Held(Exception):
         self.lock = lock
 
 
+def write_line(file: int, what: list | dict) -> None:
+    """At the end of a file, whole or not at all."""
+    line = line_of(what)
+    count = os.write(file, line)
+    if count < len(line):
+        os.ftruncate(file, os.fstat(file).st_size - count)
+        raise OSError(errno.ENOSPC, os.strerror(errno.ENOSPC))
+
+
 class Locks:
     """By rooms and paths. Each change is a line at the end of the file, which is written anew once most is over."""
 
@@ -79,7 +88,8 @@ class Locks:
         self.stamp = Stamp("", 0.0, 0.0)  # (a file without one has ends by the clock that can be set)
         read_lines(path, self._take_line)
         self._go_on()
-        self._write_anew()
+        with contextlib.suppress(Busy), disk():  # (the next lock has it written)
+            self._write_anew()
 
     # What is kept
 
@@ -109,23 +119,32 @@ class Locks:
             self._note(asdict(self.stamp))
 
     def _write_anew(self) -> None:
+        """On a full disk the file stays as it is."""
         new = os.open(self.path + ".new", os.O_WRONLY | os.O_CREAT | os.O_TRUNC | os.O_APPEND, 0o600)
-        for it in [asdict(self.stamp), *([asdict(it)] for it in self.held.values())]:
-            os.write(new, line_of(it))
-        os.replace(self.path + ".new", self.path)
+        try:
+            for it in [asdict(self.stamp), *([asdict(it)] for it in self.held.values())]:
+                write_line(new, it)
+            os.replace(self.path + ".new", self.path)
+        except OSError:
+            os.ftruncate(new, 0)
+            os.close(new)
+            raise
         if self.file >= 0:
             os.close(self.file)
         self.file, self.lines = new, len(self.held)
 
-    def _note(self, what: list | dict) -> None:
-        line = line_of(what)
-        count = os.write(self.file, line)
-        if count < len(line):
-            os.ftruncate(self.file, os.fstat(self.file).st_size - count)
-            raise OSError(errno.ENOSPC, os.strerror(errno.ENOSPC))
-        self.lines += 1
-        if self.lines > 2 * len(self.held) + MOST_OVER:
+    def _shorten(self) -> None:
+        """Of lines that are over. (Before one is noted, which may tell of a lock that is not held yet.)"""
+        if self.file < 0:
             self._write_anew()
+        elif self.lines > 2 * len(self.held) + MOST_OVER:
+            with contextlib.suppress(Busy), disk():
+                self._write_anew()
+
+    def _note(self, what: list | dict) -> None:
+        self._shorten()
+        write_line(self.file, what)
+        self.lines += 1
 
     def _remember(self, lock: Lock) -> None:
         self._forget(lock.token)

@@ -169,10 +169,37 @@ def test_two_thousand_locks(locked):
     assert time.process_time() - since < 10  # (it takes one)
 
 
-def test_a_lock_on_a_full_disk(locked):
-    with mock.patch.object(os, "write", side_effect=OSError(errno.ENOSPC, "")), pytest.raises(faults.Busy):
-        locked.take("/a")
-    assert locked.its.at("plans", "/a") == []
+FULL = [OSError(errno.ENOSPC, ""), lambda file, data, write=os.write: write(file, data[:-1])]
+
+
+@pytest.mark.parametrize("fault", FULL, ids=["none of it", "a part"])
+def test_locks_on_a_full_disk(locked, fault):
+    """Of a gateway that goes on, and of one that is started then: they hold, the file stays whole, and another lock is
+    refused until there is space."""
+    lock = locked.take("/a")
+    before, written = [locked.its, None], locked.path.read_bytes()
+    with mock.patch.object(os, "write", side_effect=fault):
+        before[1] = locked.anew()
+        for its in before:
+            with pytest.raises(faults.Busy):
+                locked.take("/b", its=its)
+            assert (its.at("plans", "/a"), its.at("plans", "/b")) == ([lock], [])
+    assert locked.path.read_bytes() == written
+    locked.take("/b", its=before[1])
+    assert [*locked.anew().held] == [*before[1].held]
+
+
+@pytest.mark.parametrize("fault", [None, *FULL], ids=["a disk with space", "none of it", "a part"])
+def test_a_lock_whose_file_is_written_anew(locked, fault):
+    """It is there by its own line, whatever comes of the rest."""
+    its, plain = locked.its, os.write
+    fails = lambda file, data: plain(file, data) if file == its.file else mock.Mock(side_effect=fault)(file, data)
+    with mock.patch.object(locks, "MOST_OVER", -1), mock.patch.object(os, "write", fails if fault else plain):
+        lock = locked.take("/a")
+        for seconds in 60, 70:
+            lock = its.refresh(lock, seconds)
+            assert locked.path.read_bytes().endswith(locks.line_of([vars(lock)]))
+    assert [*locked.anew().held.values()] == [lock]
 
 
 def test_locks_of_before(locked):
