@@ -6,13 +6,14 @@ import contextlib
 import re
 
 from .faults import Fault
+from .manifest import is_hidden
 from .reading import large_among
 from .room import Room
 from .settings import Settings, find_settings
 from .state import State
 from .sync import MARK
 from .trees import join
-from .words import FOLDER, PART, shown
+from .words import FOLDER, shown
 
 FILES = 10
 PATIENCE = 2.0  # seconds
@@ -82,7 +83,7 @@ def is_pending(settings: Settings) -> bool:
 def paths(room: Room, prefix: str) -> list[str]:
     above, _, begin = prefix.rpartition("/")
     names = {name: kind for name, kind in room.children(above or "/").items()
-             if name.startswith(begin) and not name.startswith(PART) and shown(name) == name}
+             if name.startswith(begin) and not is_hidden(name) and shown(name) == name}
     folders = [name for name, kind in names.items() if kind == FOLDER]
     large = large_among(room, [join(above, it) for it in folders[:MOST]])
     return [f"{above}/{name}" + "/" * (kind == FOLDER and join(above, name) not in large)

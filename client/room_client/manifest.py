@@ -19,6 +19,7 @@ MEMBERS = {"folder", "form", "pieces", "sha256", "size"}
 LEFT_BESIDE = re.compile(re.escape(PART) + "(gone|new)-[0-9a-f]{16}")  # of a document's replacement
 FOLDER_NAME = re.compile(re.escape(PIECES) + "[0-9a-f]{16}")
 PART_NAME = re.compile(f"({re.escape(WRITING)}|{re.escape(PIECES)}|{re.escape(GONE)})[0-9a-f]{{16}}")
+IN_PATH = re.compile(f"/(?:{re.escape(NAME)}|{PART_NAME.pattern}|{LEFT_BESIDE.pattern})(?:/|\\Z)")
 OUR_PIECE = re.compile("[0-9]{3}")  # as a version names them that is made here
 PIECE_NAME = re.compile(r"(?!\.{1,2}$)[A-Za-z0-9._-]{1,64}")
 SUM = re.compile("[0-9a-f]{64}")

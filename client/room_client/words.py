@@ -3,7 +3,7 @@ import re
 import unicodedata
 from collections.abc import Iterable, Iterator
 
-from .manifest import FOLDER, PART
+from .manifest import FOLDER, GONE, IN_PATH, NAME, NEW, PIECES, WRITING
 
 FILE = "file"
 LARGE = "large file"  # one document, whose list is that of the folder that holds its pieces
@@ -90,21 +90,22 @@ def is_part(command: dict) -> bool:
     """Whether a request is a step of many, which nobody goes on with once they were stopped. (The one that gives a
     file its name back is done, however late.)"""
     path, to = command.get("path", ""), command.get("to", "")
-    gives_back = path.rpartition("/")[2].startswith(PART + "new-") and to and PART not in to
-    return not gives_back and any(f"/{PART}" in it for it in (path, to))
+    gives_back = path.rpartition("/")[2].startswith(NEW) and to and not IN_PATH.search(to)
+    return not gives_back and any(map(IN_PATH.search, (path, to)))
 
 
 def is_behind(command: dict) -> bool:
     """Whether a request empties what was before a version that is there."""
     path, to = command["path"], command.get("to", "")
-    is_rest = command["cmd"] == "WRITE" and f"/{PART}writing-" not in path and not path.endswith(f"/{PART}file")
-    return is_rest or f"/{PART}pieces-" in path and f"/{PART}gone-" in to
+    is_rest = command["cmd"] == "WRITE" and f"/{WRITING}" not in path and not path.endswith(f"/{NAME}")
+    return is_rest or f"/{PIECES}" in path and f"/{GONE}" in to
 
 
 def whole_of(command: dict) -> str:
     """What such a request is a step of: the file, or the folder that it is in."""
-    path, to = command["path"], command.get("to", "")
-    return path if f"/{PART}" in to and f"/{PART}" not in path else path.partition(f"/{PART}")[0] or "/"
+    path = command["path"]
+    part = IN_PATH.search(path)
+    return path[:part.start()] or "/" if part else path
 
 
 def right_words(bit: int, *kinds: str) -> list[str]:

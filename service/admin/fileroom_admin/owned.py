@@ -15,13 +15,13 @@ TOLD = 20  # paths at most
 GROUP, INHERITED = 0x40, 0x80  # marks of an entry
 # (how many things each owns, with a large file as one)
 WHOLE = """SELECT node.owner, count(*) FROM node LEFT JOIN node AS above ON above.id = node.parent
-    WHERE node.name NOT GLOB '.room-*' AND coalesce(above.name, '') NOT GLOB '.room-*'
-    GROUP BY node.owner"""
+    WHERE NOT is_part(coalesce('/' || above.name, '') || '/' || node.name) GROUP BY node.owner"""
 # (of whom each such folder is, by its name: docs/FILES.md)
 EMPTY_TRASHES = """SELECT it.id, it.name FROM node AS it JOIN node AS part ON part.id = it.parent
     JOIN node AS top ON top.id = part.parent JOIN node AS root ON root.id = top.parent WHERE root.parent IS NULL
     AND top.name = 'trash' AND part.name GLOB '@?' AND NOT EXISTS (SELECT 1 FROM node WHERE parent = it.id)"""
-PIECES = re.compile(r"/\.room-(file|[a-z]+-[0-9a-f]{16})(/|\Z)")  # a part of a large file (docs/FILES.md)
+# a part of a large file (docs/FILES.md)
+PIECES = re.compile(r"/\.room-(file|(writing|pieces|gone|new)-[0-9a-f]{16})(/|\Z)")
 
 
 def whole(path):
@@ -115,6 +115,7 @@ def left_by(places, room, users):
     try:
         name = latest(places, room)
         with opened(places, room, name) as table:
+            table.create_function("is_part", 1, lambda path: bool(PIECES.search(path)), deterministic=True)
             things = dict(table.execute(WHOLE))
             lists = dict(table.execute("SELECT who, count(DISTINCT node) FROM entry WHERE flag & ? = 0 GROUP BY who",
                                        (GROUP | INHERITED,)))

@@ -7,7 +7,7 @@ import itertools
 import re
 from dataclasses import dataclass
 
-from room_client.manifest import FOLDER, NAME, PART
+from room_client.manifest import FOLDER, NAME, is_large
 from room_client.who import TRAVERSE, large_words, of_large
 from room_client.words import ALL, FILE, GROUP, INHERITED, LARGE, NOT_HERE, SETS, entry_words, mask_words
 
@@ -77,7 +77,7 @@ class Thing:
     def as_whole(self):
         """A large file as one thing: its folder has what it is made of, and nothing else."""
         manifest = next((it for it in self.children if it.name == NAME), None)
-        if manifest and all(it.name.startswith(PART) for it in self.children):
+        if manifest and is_large({it.name: it.kind for it in self.children}):
             self.kind, self.mask, self.children = LARGE, of_large(self.mask, manifest.mask), []
 
 

@@ -164,6 +164,16 @@ def test_a_read_that_was_pending_is_read_anew(desk, log):
     assert log()[0] == b"new"
 
 
+@pytest.mark.parametrize("path", ["/.room-note", "/.room-new-note", "/.room-gone-0123456789abcdef0"])
+def test_a_name_that_only_begins_like_a_part_of_a_file(desk, path):
+    """What makes it is no step of many, and is done later."""
+    loses(desk, lambda room: room.create(path, b"piece"), "CREATE", fault="drop")
+    said = []
+    with desk.behind(said.append) as room:
+        assert room.read(path) == b"piece"
+    assert said == [f"finished what was pending: CREATE {path}: done"]
+
+
 @pytest.mark.parametrize("fault", [401, 403, 404, 413])
 def test_what_surely_was_not_done_is_not_kept(desk, log, fault):
     loses(desk, append(b"not this"), fault=fault, why=f"answered {fault}: .*; {NOT_KEPT}")

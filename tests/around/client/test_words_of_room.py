@@ -78,8 +78,9 @@ def line(desk):
     with desk.room() as room:
         for path in "/plans", "/plain", "/other", "/plans/my notes":
             room.mkdir(path)
-        for name in "/place", "/pl\u202e", "/pl`id` x", "/pl$(id)":
+        for name in "/place", "/pl\u202e", "/pl`id` x", "/pl$(id)", "/.room-note":
             room.create(name, b"")
+        room.mkdir("/.room-gone-0123456789abcdef")
     desk.file("large", bytes(65537))
     desk.prints("put", "large", "/plage", want="/plage: 65537 bytes\n")
     return [COMMAND, *desk.words_of("ann")]
@@ -94,6 +95,7 @@ def completes(desk, *line, **more):
 @each("words, begin, want", [
     ("several", ["ls"], "/pl", ["/pl$(id)", "/pl`id` x", "/place", "/plage", "/plain/", "/plans/"]),
     ("one", ["trash", "restore", "x"], "/plans/", ["/plans/my notes/"]), ("none", ["ls"], "/none/", []),
+    ("like a part of a file", ["ls"], "/.room-", ["/.room-note"]),
     ("of a command without one", ["session"], "/pl", []), ("of none", [], "/pl", []),
     ("of an option", ["who", "--roster"], "/pl", [])])
 def test_paths_by_the_client(desk, line, words, begin, want):

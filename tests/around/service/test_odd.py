@@ -225,13 +225,14 @@ def test_a_folder_that_only_begins_like_one_of_pieces(machine, plans):
     pieces = ".room-pieces-0123456789abcdef"
     plans.holds("ann", "SETLIST", "/", aclflag=1, entries=[
         {"type": 0, "flag": 3, "mask": 0x1F07FF, "who": who} for who in ("OWNER@", "EVERYONE@")])
-    for path in "/.room-pieces-", "/.room-pieces-/a", f"/{pieces}", f"/{pieces}/000", f"/{pieces}0", f"/x{pieces}":
+    others = ["/.room-note-0123456789abcdef", "/.room-pieces-", "/.room-pieces-/a", f"/{pieces}0", f"/x{pieces}"]
+    for path in *others, f"/{pieces}", f"/{pieces}/000":
         plans.holds("bob", "MKDIR", path)
     plans.room.kill()
     machine.backed_up()
     owns = [line.rpartition(": ")[2].split(", ") for line in machine.does("user", "owns", "bob")[1].splitlines()
             if line.startswith("bob owns")]
-    assert owns == [["/.room-pieces-", "/.room-pieces-/a", f"/{pieces}0", f"/x{pieces}"]]
+    assert owns == [others]
 
 
 def in_ascii(machine, *words):

@@ -97,6 +97,9 @@ def school(machine, room):
     put("/closed/in", allow("kim", SETS["view"], flag=0), data=b"")
     for path, data in large("/plan", [b"x"]):
         put(path, *[allow("staff", 0x80, flag=0x40)] * path.endswith("file"), aclflag=2, data=data)
+    put("/mixed")
+    put("/mixed/.room-file", data=b"")
+    put("/mixed/.room-note", allow("kim", 0x6, flag=0), data=b"")
     room.room.kill()
     return os.path.basename(machine.backed_up())
 
@@ -106,11 +109,11 @@ NO_ENTRY = "no entry names them for kim, so they are denied"
 
 @each("words, lines", [
     ("a room", "kim plans", [
-        "/  view  (and 1 thing below)", "/plan  read-attributes,read-acl",
+        "/  view  (and 3 things below)", "/plan  read-attributes,read-acl",
         "/class/  edit  of 5 documents: a.txt, b.txt, c.txt, d.txt, e.txt",
         "/class/marks  traverse,read-attributes,read-acl  (and 1 thing below)",
-        "/closed  none  (cannot go in: 1 thing)"]),
-    ("nothing", "lou plans", ["/  none  (cannot go in: 11 things)"]),
+        "/closed  none  (cannot go in: 1 thing)", "/mixed/.room-note  edit"]),
+    ("nothing", "lou plans", ["/  none  (cannot go in: 14 things)"]),
     ("a document", "kim plans /class/marks/may", [
         "read: deny group:staff read inherited, from /class/marks",
         "read-attributes,read-acl: allow group:staff view inherited, from /class",

@@ -54,7 +54,7 @@ def test_what_those_own_who_go_is_told_by_numbers(machine, plans):
     entry = {"type": 0, "flag": 3, "mask": 0x1F07FF}
     entries = [entry | {"who": it} for it in ("OWNER@", "EVERYONE@")]
     plans.holds("ann", "SETLIST", "/", aclflag=0, entries=entries)
-    for it in "/f", "/f/.room-pieces-0123456789abcdef", "/f/.room-pieces-0123456789abcdef/000", "/g":
+    for it in "/f", "/f/.room-pieces-0123456789abcdef", "/f/.room-pieces-0123456789abcdef/000", "/g", "/.room-note":
         plans.holds("bob", "MKDIR", it)
     plans.holds("ann", "SETLIST", "/g", aclflag=1, entries=[entry | {"who": "bob"}])
     plans.room.kill()
@@ -64,4 +64,4 @@ def test_what_those_own_who_go_is_told_by_numbers(machine, plans):
     status, said, faults = machine.does("user", "import", "--sync", os.path.join(machine.folder, "table.csv"))
     assert (status, faults) == (0, "")
     assert said.splitlines()[-1] == (
-        f"plans: bob owns 2 things and is named in 1 lists, by the backup {backup}: fileroom-admin user owns bob")
+        f"plans: bob owns 3 things and is named in 1 lists, by the backup {backup}: fileroom-admin user owns bob")
