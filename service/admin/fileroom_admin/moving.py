@@ -11,7 +11,7 @@ import time
 
 from . import archives, dav, held, now, owned, people, rosters, signin
 from .archives import ABOUT, CERT, DB, KEY, LOG, LOGINS, NAMES, NEW_HERE, ROSTER, add, add_file, new_file
-from .changes import AS_ROOMS, FOLDER, MOST_SAID, Change, begun, own_folder, put_aside
+from .changes import AS_ROOMS, FOLDER, MOST_SAID, Change, begun, keep, own_folder, put_aside
 from .front import put_front, put_room, tls
 from .places import HERE, LISTEN, SEARCHED, Fault, asked, read, said
 from .rooms import back_up, need_no_copies, need_no_standby
@@ -60,6 +60,7 @@ def room_remove(call, room):
     need_no_standby(places, room)
     archive = places.at(REMOVED)
     os.makedirs(archive, mode=0o700, exist_ok=True)
+    keep(archive)
     path = os.path.join(archive, f"{room}-{time.strftime('%Y-%m-%dT%H-%M-%SZ', time.gmtime())}.tar")
     was_served, is_packed = now.is_served(places, room), False
     try:

@@ -1,6 +1,7 @@
 """A room that moves: packed on one machine, brought to another, below two roots; and one that is removed, and back."""
 import json
 import os
+import re
 from unittest import mock
 
 import pytest
@@ -8,6 +9,8 @@ from fileroom_admin import archives
 from served import bytes_of, text_of
 
 from .machines import Served
+
+STRACE = "strace", "-qq", "-y", "-e", "trace=fsync", "-e", "signal=none", "-o"
 
 
 def test_an_archive(exported):
@@ -86,7 +89,7 @@ def test_removed_and_back(machine):
     db = bytes_of(machine.at("var/lib/fileroom/plans/room.db"))
     roster = text_of(machine.at("etc/fileroom/plans.toml"))
     machine.told()
-    status, said, faults = machine.does("room", "remove", "plans")
+    status, said, faults = machine.does("room", "remove", "plans", within=(*STRACE, machine.at("../flushed")))
     assert status == 0, faults
     assert machine.told() == [f"systemctl {it}" for it in (
         "is-active -q fileroom@plans", "stop fileroom@plans", "disable --now fileroom-try@plans.timer",
@@ -100,6 +103,9 @@ def test_removed_and_back(machine):
     kept, = [it for it in os.listdir(folder) if it.startswith("room.db.undone-")]
     assert bytes_of(os.path.join(folder, kept)) == db
     path = said.splitlines()[0].partition(" is in ")[2].partition(": ")[0]
+    flushed = re.findall(r"<(.+)>\) += 0", text_of(machine.at("../flushed")))
+    assert flushed[:3] == [os.path.realpath(machine.at(it)) for it in (
+        "var/backups", path, "var/backups/fileroom-removed")]
     assert machine.does("room", "import", path)[0] == 0
     assert machine.does("dav", "list")[1] == "no room has WebDAV\n"
     assert text_of(machine.at("etc/fileroom/plans.toml")) == roster
