@@ -46,8 +46,10 @@ class Findings:
         self.places, self.found, self.notes = places, [], []
 
     def add(self, text, remedy):
-        """(A program may say it in several lines.)"""
-        self.found.append((" ".join(text.splitlines()), remedy))
+        """Once, however many looks find it. (A program may say it in several lines.)"""
+        its = " ".join(text.splitlines()), remedy
+        if its not in self.found:
+            self.found.append(its)
 
     def note(self, text, more):
         """What may be meant, and is told alone."""

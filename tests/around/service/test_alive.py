@@ -139,7 +139,7 @@ def test_a_roster_with_a_fault_hides_no_other_room(machine, plans):
         1, "", [fault, f"{LACKS}its program does not run: journalctl -u fileroom@plans says why"])
     machine.breaks("fileroom@club")
     said = machine.does("check")[1].splitlines()
-    assert {it.partition("Expected")[0] for it in said if " TOML" in it} == {fault}
+    assert [it.partition("Expected")[0] for it in said if " TOML" in it] == [fault]
     assert "fileroom@club is not running" in said
 
 
