@@ -181,7 +181,11 @@ class Slot:
         if answer.reply is not None:
             raise refused(answer.reply, command)
         what = FRONT.get(answer.status, "what answers there is no room: correct the URL")
-        raise (Held if answer.is_held else NoAnswer)(f"{self.settings.url} answered {answer.status}: {what}")
+        raise Held(what) if answer.is_held else NoAnswer(f"{self.whom()} answered {answer.status}: {what}")
+
+    def whom(self) -> str:
+        """Who is asked."""
+        return self.settings.url
 
     def until_answered(self, method: str, target: str, body: str) -> Answer:
         """Sends until something else than 'later' is answered, in the time that is given. Notes in `may_be_sent`
@@ -198,7 +202,7 @@ class Slot:
                 raise NoAnswer("stopped")
             if time.monotonic() + pause >= end:
                 seconds = f"{self.settings.patience:g} s"
-                raise NoAnswer(f"no answer from {self.settings.url} in {seconds} ({answer}; is the room served?)")
+                raise NoAnswer(f"no answer from {self.whom()} in {seconds} ({answer}; is the room served?)")
             self.line.close()
             if time.monotonic() - begin > WORD_AFTER and self.pace.is_first_word():
                 self.say(f"no answer yet ({answer}): {WAITS.get(answer, BUSY)}; it is sent again")

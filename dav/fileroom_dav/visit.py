@@ -200,6 +200,10 @@ class Seat(Slot):
             self.front_status = answer.status
         return super().need_done(answer, command)
 
+    def whom(self) -> str:
+        """(The address behind the gateway is nothing to its callers.)"""
+        return "the room"
+
 
 class Visit(Room):
     """A room during one request of WebDAV. `has_changed` says whether a change was done by it, or may have been."""

@@ -109,7 +109,7 @@ def test_a_name_that_is_not_found_is_told_as_such(desk):
 
 
 def test_who_is_held_is_told_so_at_once(desk, log):
-    loses(desk, append(b"not this"), fault="held", why=f"you are held.*or who runs it holds you.*{NOT_KEPT}")
+    loses(desk, append(b"not this"), fault="held", why=f"^you are held.*or who runs it holds you.*{NOT_KEPT}")
     desk.front.faults[:] = ["lose", "held"]
     with pytest.raises(NoAnswer, match="you are held.*whether it was done is not known"):
         with desk.behind(patience=60) as room:

@@ -29,7 +29,7 @@ def test_a_version(desk, name, words):
     before = data[-1] if name == "large" else b"old"
     new = os.urandom(len(before))
     got = put_as_held(desk, name, new, asks("WRITE", *words))
-    assert (got.status, b"you are held" in got.body) == (429, True), got.body
+    assert (got.status, got.body.startswith(b"you are held: ")) == (429, True), got.body
     for user in "ann", "bob":
         assert desk.get(user, name) == before
     desk.release()

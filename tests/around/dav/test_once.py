@@ -48,7 +48,8 @@ def test_no_answer(desk):
     """What got no answer is not known, and the caller is told so; it is not done later."""
     desk.does("ann", "PUT", "/late", 201, b"before")
     desk.loser.share = 1.0
-    assert "retry-after" in desk.does("ann", "PUT", "/late", 503, b"during").fields
+    got = desk.does("ann", "PUT", "/late", 503, b"during")
+    assert ("retry-after" in got.fields, got.body.startswith(b"no answer from the room in ")) == (True, True), got.body
     desk.loser.share = 0.0
     with desk.room() as room:
         room.write("/late", b"after")
