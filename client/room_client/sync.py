@@ -56,10 +56,10 @@ class Sync:
         its = self.room_tree()
         for fault in its.mixed:
             self.take(fault)
+        # (no path here is at, above or below one of these: --delete finds none in its place)
         for it, why in [(it, why) for it in its.kinds if (why := its.why_not_here(it))]:
             self.room.say(f"{shown(trees.join(self.top, it))} is left out: {why}")
             del its.kinds[it]
-            its.left_out.add(it)
         is_there = os.path.isdir(self.here)
         return local.tree_here(self.here, self.room.say) if is_there else Tree(), its
 
