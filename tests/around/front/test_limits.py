@@ -151,10 +151,11 @@ def seconds_of(front, peer, form, pause, came=1):
     return time.monotonic() - begin
 
 
-@each("form, is_held", [("SETLIST", FORMS[0], True), ("RENAME in its folder", SHORT[0], False)])
-def test_the_answer_to_a_long_one_is_held_back(front, peer, form, is_held):
+@each("form, took, is_held", [("SETLIST", FORMS[0], 1, True), ("one of very long", FORMS[0], 8, True),
+                              ("RENAME in its folder", SHORT[0], 1, False)])
+def test_the_answer_to_a_long_one_is_held_back(front, peer, form, took, is_held):
     """Where it took long."""
-    assert (least(lambda: seconds_of(front, peer, form, 1), 3, 1 if is_held else 9) > 3) == is_held
+    assert (least(lambda: seconds_of(front, peer, form, took), 3, 1 if is_held else 9) > 3) == is_held
 
 
 @each("form, much, is_held", [
@@ -172,16 +173,19 @@ def test_the_answer_to_one_that_took_less(front, peer, form, much, is_held):
     assert ("room-long: u01" in peer.got[-1][0]) == (form == FORMS[0])
 
 
-def test_the_answer_to_one_that_waited_in_the_front(fronted, peer):
-    """For two seconds, since its login had asked before: it is held back as if it had not waited."""
-    front = fronted(long="30r/m", long_at_once=1)
-    peer.said = peer.said.replace(b"\r\n", b"\r\nroom-much: 1\r\n", 1)
+@each("rate, took, much, most", [
+    ("for two seconds, of who had many", "30r/m", 0.03, b"room-much: 1\r\n", 9),
+    ("for two, and took longer", "30r/m", 0.2, b"", 9), ("for three, and took longer", "20r/m", 0.2, b"", 6)])
+def test_the_answer_to_one_that_waited_in_the_front(fronted, peer, rate, took, much, most):
+    """Since its login had asked before: it is held back as if it had not waited, and not for its wait."""
+    front = fronted(long=rate, long_at_once=1)
+    peer.said = peer.said.replace(b"\r\n", b"\r\n" + much, 1)
 
     def seconds():
         assert until(lambda: 0.1 < time.time() % 1 < 0.4)
         before = [begun(front, "u01", at, body=SHORT[0]) for at in (1, 2)]
-        return seconds_of(front, peer, FORMS[0], 0.03, came=1 + len(before))
-    assert 0.9 < least(seconds, 0.9, 4) < 9
+        return seconds_of(front, peer, FORMS[0], took, came=1 + len(before))
+    assert 0.9 < least(seconds, most, 4) < most
 
 
 def all_by_the_gateway(front, user, count, *asked):
