@@ -138,11 +138,13 @@ def test_long_ones_under_way(front, peer, form, count):
         it.close()
 
 
-def seconds_of(front, peer, form, pause, came=1):
-    """Until an answer is there that the room gave after a while, once so many came to it."""
+def seconds_of(front, peer, form, pause, others=()):
+    """Until an answer is there that the room gave after a while, once these others, begun before, came to it too."""
     peer.may.clear()
-    before, line = len(peer.came), begun(front, "u01", body=form)
-    assert until(lambda: len(peer.came) >= before + came, SOON)
+    before = len(peer.came)
+    lines = [begun(front, "u01", at, body=it) for at, it in enumerate(others, 1)]
+    line = begun(front, "u01", body=form)
+    assert until(lambda: len(peer.came) > before + len(lines), SOON)
     time.sleep(pause)
     begin = time.monotonic()
     peer.may.set()
@@ -183,8 +185,7 @@ def test_the_answer_to_one_that_waited_in_the_front(fronted, peer, rate, took, m
 
     def seconds():
         assert until(lambda: 0.1 < time.time() % 1 < 0.4)
-        before = [begun(front, "u01", at, body=SHORT[0]) for at in (1, 2)]
-        return seconds_of(front, peer, FORMS[0], took, came=1 + len(before))
+        return seconds_of(front, peer, FORMS[0], took, others=SHORT[:1] * 2)
     assert 0.9 < least(seconds, most, 4) < most
 
 
