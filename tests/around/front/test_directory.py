@@ -12,7 +12,7 @@ from served import Line, free_port, least, message, put_file, text_of, until
 from slapd import People, SignIn, conf_of
 
 from .conftest import started
-from .sides import LEAST, ROOM, SLOT, at_once, log_of, said_long, standing, values
+from .sides import CHECK, LEAST, ROOM, SLOT, at_once, log_of, said_long, standing, values
 
 ODD = 'p\u00e4ss%41:w@rd/"# \u20ac'
 LONG, LONGEST = "w" * 130, "w" * 256  # (in a message both are written by two bytes of length)
@@ -154,6 +154,23 @@ def test_large_files_by_webdav(behind):
         assert it.front.status(None, "PUT", at, bytes(LIMIT_OF_A_FILE), its) == 200
         assert said_long(it.front, at, LIMIT_OF_A_FILE + 1, its) == 413
     assert said_long(it.front, at, LIMIT_OF_A_FILE + 1, [login("ann", "no")]) == 401
+
+
+@each("target, length, status", [
+    ("too long", CHECK, 131073, 413), ("of no length", CHECK, None, 411),
+    ("in another place", "/whoami", 131073, 413), ("by a path like that of the question", f"{CHECK}%20/check", None, 411),
+    ("a file that is far too long", "/dav/plans/x", 10 * LIMIT_OF_A_FILE, 413)])
+def test_a_body_that_is_not_passed_on(behind, target, length, status):
+    """It is refused as without a directory: by no other answer, nor sooner, a wrong login is told from a right one."""
+    it = behind()
+    logins = ("ann", "ann-word"), ("u01", "word of u01"), ("kim", "no"), ("u01", "no"), ("nobody", "no")
+    begin = time.monotonic()
+    got = at_once(len(logins), lambda at: (
+        said_long(it.front, target, length, [login(*logins[at])], f"127.0.4.{at + 1}"), time.monotonic() - begin))
+    assert [its for its, _ in got] == [status, status, 401, 401, 401]
+    assert min(took for _, took in got[2:]) >= LEAST
+    it.front.settle()
+    assert text_of(log_of(it.front, "fileroom-logins.log")).count("\n") == 3
 
 
 def test_whom_a_room_is_told(behind):
