@@ -1,9 +1,10 @@
 """Which logins were right a moment ago, and of which names so many were wrong that the directory is not asked.
 
-A directory locks an account after some wrong passwords, whoever sends them. So after three wrong ones of a name, from
-wherever they came, it is asked about the last right password alone, for half an hour from the first: strangers lock
-nobody out of the directory, and who was let in since this process began goes on. Once that password is wrong, it is
-one as any other: a program that has the old one still would lock the account.
+A directory locks an account after some wrong passwords, whoever sends them, and may forget them only once none came for
+half an hour, as Active Directory does: slow guesses add up there. So they do here: after three wrong ones of a name, from
+wherever they came, the directory is asked about the last right password alone, for half an hour from the last. Strangers
+lock nobody out of it, and who was let in since this process began goes on. Once that password is wrong, it is one as any
+other: a program that has the old one still would lock the account.
 """
 import hmac
 import secrets
@@ -13,7 +14,8 @@ from collections.abc import Callable
 from concurrent.futures import Future
 
 KEEP = 60  # seconds for which a right login is not asked about again: so long a disabled account goes on
-WRONG, WRONG_FOR = 3, 1800  # wrong passwords of a name, in so many seconds: fewer than a directory locks at
+WRONG = 3  # wrong passwords of a name: fewer than a directory locks at
+WRONG_FOR = 1800  # seconds after the last of them until all are forgotten: not sooner than a directory does
 MOST = 4096  # right logins that are kept
 
 
@@ -58,7 +60,9 @@ class Known:
             return mark not in self.under_way and self.is_beyond(user, mark, time.monotonic())
 
     def is_beyond(self, user: str, mark: bytes, now: float) -> bool:
-        its = self.wrong[user] = [at for at in self.wrong.get(user, ()) if at > now - self.wrong_for]
+        """(One that is asked about now, and right, goes out again: so one more is kept than counts.)"""
+        its = self.wrong.get(user, [])
+        its = self.wrong[user] = its[-WRONG - 1:] if its and its[-1] > now - self.wrong_for else []
         return len(its) >= WRONG and self.last.get(user) != mark
 
     def begin(self, user: str, mark: bytes) -> float | None:

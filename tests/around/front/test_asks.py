@@ -88,7 +88,7 @@ def test_a_wrong_one_is_known_for_no_right_one(service):
 
 
 def test_three_wrong_ones(service, clock):
-    """Then the directory is asked about the last right one alone, for half an hour from the first."""
+    """Then the directory is asked about the last right one alone, for half an hour from the last."""
     service.ask("ann", "ann-word")
     assert [service.ask("ann", f"no{at}") for at in range(9)] == [401] * 9
     assert len(service.directory.asked) == 4
@@ -98,6 +98,46 @@ def test_three_wrong_ones(service, clock):
     clock.now += 1740
     service.ask("ann", "no")
     assert len(service.directory.asked) == 6
+
+
+@each("apart", [("one after another", 1), ("three in half an hour", 601), ("one in half an hour", 1799)])
+def test_slow_guesses(service, clock, apart):
+    """A directory that forgets wrong ones once none came for half an hour, as Active Directory does, never has five of
+    them: not by guesses, nor by these beside who is right, and then has another password."""
+    service.ask("ann", "ann-word")
+    counted = [clock.now]  # when each came
+    most = 0
+
+    def is_right(user, word):
+        nonlocal most
+        if word == right:
+            counted.clear()
+            return True
+        if counted and counted[-1] <= clock.now - 1800:
+            counted.clear()
+        counted.append(clock.now)
+        most = max(most, len(counted))
+        return False
+    service.directory.is_right, right = is_right, "ann-word"
+    for at in range(40):
+        clock.now += apart
+        service.ask("ann", f"no{at}")
+        if at > 20:
+            right = "another"
+            service.ask("ann", "ann-word")
+    assert most in (3, 4)
+
+
+def test_who_is_right_meanwhile_frees_no_guess(service, clock):
+    """While the directory is asked about the last right one."""
+    service.ask("ann", "ann-word")
+    assert [service.ask("ann", f"no{at}") for at in range(3)] == [401] * 3
+    for _ in range(3):
+        clock.now += 61
+        with waiting(service, ("ann", "ann-word")):
+            assert service.ask("ann", "no") == 401
+    assert service.ask("ann", "no") == 401
+    assert {word for _, word in service.directory.asked[4:]} == {"ann-word"}
 
 
 def test_the_last_right_one_is_right_no_more(service, clock):
