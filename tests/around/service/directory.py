@@ -41,7 +41,8 @@ class Directory(Slapd):
 
 
 class Parts(socketserver.BaseRequestHandler):
-    """A person for each of `users`, and the group `all` of them, whose members it gives `at_once` at a time."""
+    """A person for each of `users`, and the group `all` of them, whose members it gives `at_once` at a time; or the
+    first of these alone, and then no more than the code `ends_with`."""
 
     def handle(self):
         data = b""
@@ -57,12 +58,13 @@ class Parts(socketserver.BaseRequestHandler):
             self.done(message, "bindResponse", rfc4511.BindResponse())
         elif asked == "searchRequest":
             base, wanted = str(its["baseObject"]), [str(it) for it in its["attributes"]]
-            for dn, attributes in self.server.found(base, wanted):
+            found = [*self.server.found(base, wanted)]
+            for dn, attributes in found:
                 self.send(message, "searchResEntry", entry_of(dn, attributes))
-            self.done(message, "searchResDone", rfc4511.SearchResultDone())
+            self.done(message, "searchResDone", rfc4511.SearchResultDone(), 0 if found else self.server.ends_with)
 
-    def done(self, message, name, reply):
-        reply["resultCode"], reply["matchedDN"], reply["diagnosticMessage"] = 0, "", ""
+    def done(self, message, name, reply, code=0):
+        reply["resultCode"], reply["matchedDN"], reply["diagnosticMessage"] = code, "", ""
         self.send(message, name, reply)
 
     def send(self, message, name, reply):
@@ -95,9 +97,9 @@ def entry_of(dn, attributes):
 class InParts(socketserver.ThreadingTCPServer):
     daemon_threads = True
 
-    def __init__(self, users, at_once):
+    def __init__(self, users, at_once, ends_with=None):
         super().__init__(("127.0.0.1", 0), Parts)
-        self.users, self.at_once, self.asked = users, at_once, []
+        self.users, self.at_once, self.asked, self.ends_with = users, at_once, [], ends_with
         self.url = f"ldap://127.0.0.1:{self.server_address[1]}"
         threading.Thread(target=self.serve_forever, daemon=True).start()
 
@@ -107,6 +109,8 @@ class InParts(socketserver.ThreadingTCPServer):
             return
         part = next((it for it in wanted if it.startswith("member;range=")), "member;range=0-*")
         self.asked.append(part)
+        if self.ends_with is not None and len(self.asked) > 1:
+            return
         first = int(part.partition("=")[2].partition("-")[0])
         some = self.users[first:first + self.at_once]
         end = "*" if first + self.at_once >= len(self.users) else first + self.at_once - 1

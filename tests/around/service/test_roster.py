@@ -115,6 +115,17 @@ def test_a_group_whose_members_come_in_parts(read):
     assert it.asked == ["member;range=0-*", "member;range=10-*", "member;range=20-*"]
 
 
+@pytest.mark.parametrize("code", [0, 3])
+def test_a_group_whose_second_part_does_not_come(read, code):
+    """It has no fewer members by that."""
+    it = InParts([f"u{it}" for it in range(25)], 10, ends_with=code)
+    try:
+        status, table, faults = read(it.url, rooms='[rooms.plans]\nall = "staff"\n')
+    finally:
+        it.end()
+    assert (status, table) == (1, "") and "not all members" in faults
+
+
 ODD_NAME = "CONF: a user or group of a room is 1 to 32 letters, digits, '.', '_' or '-': 'a b' is not"
 
 
@@ -158,6 +169,13 @@ def test_a_part_that_is_elsewhere(read, serve):
         status, table, faults = read(url, users=[PEOPLE, f"ou=away,{BASE}"], more=more)
     assert (status, table, faults, got) == (1, "", f"fileroom-roster: ou=away,{BASE} is not here: referral\n", [])
     assert read(url, more=more)[0] == 0
+
+
+def test_a_part_below_that_is_elsewhere(read, serve):
+    """Who is there would go from the rooms, where nobody told."""
+    away = f"dn: ou=away,{PEOPLE}\nobjectClass: referral\nobjectClass: extensibleObject\nou: away\nref: ldap://a.b/\n"
+    assert read(serve(*ENTRIES, away)) == (
+        1, "", f"fileroom-roster: a part of {PEOPLE} is not here, but at ldap://a.b/ou=away,{PEOPLE}??sub\n")
 
 
 def takes(listener, got):
