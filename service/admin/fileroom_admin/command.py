@@ -154,7 +154,7 @@ def add_signin(words):
     on = add_command(its, "on", signin.turn_on, "a login is right by the directory too")
     on.add_argument("KIND", choices=["ldap", "ad"])
     on.add_argument("SERVER", nargs="+", help="HOST or ldaps://HOST:PORT; ldap://HOST is asked by STARTTLS")
-    on.add_argument("--domain", help="of ad: users are NAME@DOMAIN there")
+    on.add_argument("--domain", help="of ad: its short name, as SCHOOL, or the long one")
     on.add_argument("--bind", action="append", help="of ldap: a user's DN, with {} for the name; or several")
     on.add_argument("--ca", metavar="FILE", help="the authority of the servers' certificates, if the machine lacks it")
     add_command(its, "off", signin.turn_off, "only passwords of this machine count")

@@ -15,7 +15,8 @@ PROGRAMS = "../../signin/fileroom-signin", "../../../signin/fileroom-signin"  # 
 NEEDS = ("waitress",)
 PACKAGES = "apt-get install " + " ".join(f"python3-{it}" for it in NEEDS)
 SERVER = re.compile(r"(ldaps?://)?([A-Za-z0-9.-]+|\[[0-9A-Fa-f:]+\])(:[0-9]{1,5})?")
-DOMAIN = re.compile(r"[A-Za-z0-9-]+(\.[A-Za-z0-9-]+)+")
+# Of Active Directory: its short name, by which a name is an account's sAMAccountName and nothing else; or its long one.
+SHORT, LONG = re.compile(r"[A-Za-z0-9][A-Za-z0-9_-]{0,14}"), re.compile(r"[A-Za-z0-9-]+(\.[A-Za-z0-9-]+)+")
 DAYS_LEFT = 21  # of a server's certificate
 
 
@@ -37,9 +38,9 @@ def conf_of(kind, servers, domain, binds, ca):
         if not SERVER.fullmatch(it):
             raise Fault(f"{it!r} is no server: HOST, ldaps://HOST or ldap://HOST, with :PORT")
     if kind == "ad":
-        if binds or not DOMAIN.fullmatch(domain or ""):
-            raise Fault("signin on ad wants --domain, as ad.school.example, and no --bind")
-        binds = [f"{{}}@{domain}"]
+        if binds or not any(it.fullmatch(domain or "") for it in (SHORT, LONG)):
+            raise Fault("signin on ad wants --domain, as SCHOOL or ad.school.example, and no --bind")
+        binds = [f"{{}}@{domain}" if "." in domain else f"{domain}\\{{}}"]
     elif domain or not binds:
         raise Fault("signin on ldap wants --bind, as 'uid={},ou=people,dc=school,dc=example', and no --domain")
     for it in binds:

@@ -3,6 +3,7 @@
 import os
 import subprocess
 import sys
+import tomllib
 
 import pytest
 from nginx import certified
@@ -87,6 +88,7 @@ def test_a_directory_that_does_not_answer_changes_nothing(machine, words, people
 @pytest.mark.parametrize("more, why", [
     (["ldap", "host"], "signin on ldap wants --bind"), (["ad", "host"], "signin on ad wants --domain"),
     (["ad", "--domain", "a b", "host"], "signin on ad wants --domain"),
+    (["ad", "--domain", "A\\B", "host"], "signin on ad wants --domain"),
     (["ad", "--domain", "a.example", "--bind", "{}", "host"], "signin on ad wants --domain"),
     (["ldap", "--bind", "uid=x", "host"], "has to have {} once"),
     (["ldap", "--bind", "{}{}", "host"], "has to have {} once"),
@@ -105,6 +107,7 @@ def test_a_key_beside_a_certificate_stays_where_it_is(machine, people, tmp_path)
     text = signin.conf_of("ad", ["dc1", "ldap://dc2:389"], "ad.school.example", None, str(both))
     assert ("PRIVATE" in text, text.splitlines()[:2]) == (
         False, ['servers = ["ldaps://dc1", "ldap://dc2:389"]', 'binds = ["{}@ad.school.example"]'])
+    assert tomllib.loads(signin.conf_of("ad", ["dc1"], "SCHOOL", None, None))["binds"] == ["SCHOOL\\{}"]
     both.write_text("-----BEGIN CERTIFICATE-----\nAAAA\n-----END CERTIFICATE-----\n")
     with pytest.raises(Fault):
         signin.certificates_in(str(both))
