@@ -1,5 +1,6 @@
 """Settings that act on a machine alone: each unit, with the drop-ins that systemd takes for it, each other drop-in and
 file of the front has the lines of required.toml."""
+import collections
 import glob
 import os
 import re
@@ -56,8 +57,8 @@ def test_each_unit_has_required_lines():
 def test_required_lines(path):
     required = REQUIRED[path]
     if "lines" in required:
-        lines = text_of(os.path.join(TOP, path)).splitlines()
-        assert {*required["lines"]} - {it.strip() for it in lines} == set()
+        lines = collections.Counter(it.strip() for it in text_of(os.path.join(TOP, path)).splitlines())
+        assert collections.Counter(required["lines"]) - lines == collections.Counter()
         return
     found, shared = in_force(path), HARDENED if path.endswith(".service") and path != OF_IMAGE else {}
     for section in {**required, **shared}:
