@@ -8,7 +8,7 @@ from given import each
 from nginx import login
 from served import Line, message, put_file, until
 
-from .conftest import started
+from .conftest import LONGEST_NAME, started
 from .sides import CHECK, ROOM, at_once, begun_by_dav, said_long, standing, values, wrong
 
 POLICY = ("default-src 'none'; script-src 'self'; style-src 'self'; img-src 'self' data:; frame-src blob:; "
@@ -25,7 +25,8 @@ PAGE = ALWAYS | {"content-security-policy": [POLICY], "cache-control": ["no-cach
 WEBDAV = ALWAYS | {"content-security-policy": ["default-src 'none'; sandbox; frame-ancestors 'none'"],
                    "content-disposition": ["attachment"], "cache-control": ["private, no-cache"]}
 CHALLENGE = {"www-authenticate": ['Basic realm="rooms"']}
-SPEAKS = {"dav": ["1, 2"], "ms-author-via": ["DAV"]}
+SPEAKS = {"dav": ["1, 2"], "ms-author-via": ["DAV"], "allow": [
+    "OPTIONS, GET, HEAD, PUT, DELETE, MKCOL, COPY, MOVE, LOCK, UNLOCK, PROPFIND, PROPPATCH"]}
 LIMIT, LIMIT_OF_A_FILE = 131072, 1 << 24  # bytes of a body
 MORE = ["room-user: ann", "Room-User: ann", "ROOM-USER:ann", "room_user: ann", "connection: room-user",
         "x-room-user: ann", "room-from: 9.9.9.9", "room-kind: gateway", "dav-room: other", "x-forwarded-for: 9.9.9.9",
@@ -73,17 +74,30 @@ def gateway(sides):
     ("where people log in", None, "GET", "/sign-in", 200, PAGE, b"a page"),
     ("its script", None, "GET", "/login.js", 200, PAGE, b"a page"),
     ("the login", "u01", "GET", "/whoami", 200, PAGE, b'"u01"\n'),
-    ("the rooms", "u01", "GET", "/rooms.json", 200, PAGE, b'["plans","gone"]\n'),
+    ("the rooms", "u01", "GET", "/rooms.json", 200, PAGE, f'["plans","gone","{LONGEST_NAME}"]\n'.encode()),
     ("nothing there", "u01", "GET", "/none", 404, PAGE | {"cache-control": []}, None),
     ("no login", None, "GET", "/", 401, PAGE | {"cache-control": []} | CHALLENGE, None),
     ("a room", "u01", "GET", f"{ROOM}/x", 200, PAGE | {"content-type": []}, b"{}"),
     ("WebDAV", "u01", "GET", "/dav/plans/x", 200, WEBDAV, b"{}"),
+    ("all rooms by WebDAV, without a slash", "u01", "GET", "/dav", 200, WEBDAV, b"{}"),
     ("WebDAV, no login", None, "GET", "/dav/plans/x", 401, CHALLENGE, None),
     ("what WebDAV it speaks", None, "OPTIONS", "/dav/any/thing", 200, SPEAKS, b""),
     ("health", None, "GET", "/health", 200, {}, b"well\n")])
 def test_heads(front, user, method, target, status, fields, body):
     got = front.once(user, method, target)
     assert (got.status, values(got, fields), got.body if body is not None else None) == (status, fields, body)
+
+
+@each("user, target, fields", [("a room", "u01", f"{ROOM}/x", PAGE | {"cache-control": []}),
+                               ("WebDAV", "u01", "/dav/plans/x", WEBDAV)])
+@each("said, more", [("nothing there", b"404 Not Found", {}), ("a wrong login", b"401 Unauthorized", CHALLENGE),
+                     ("a fault", b"500 Internal Server Error", {})])
+def test_heads_of_what_is_refused_behind_it(front, room, gateway, user, target, fields, said, more):
+    """They are the front's own, as of what is done."""
+    room.said = gateway.said = SAID.replace(b"200 OK", said)
+    got = front.once(user, "GET", target)
+    room.said = gateway.said = SAID
+    assert (got.status, values(got, fields)) == (int(said[:3]), fields | more)
 
 
 @each("origin, status", [("ours", "http://127.0.0.1", 200), ("another port", "http://127.0.0.1:8080", 403),
@@ -145,7 +159,7 @@ def test_a_warning_to_strangers(warned, more):
 # What is passed on
 
 @each("method, size", [("a question", "POST", 2), ("the most", "POST", LIMIT), ("DELETE", "DELETE", 0),
-                       ("GET", "GET", 0)])
+                       ("GET", "GET", 0), *((f"{it} bytes", "POST", it) for it in (99_999, 129_999, 130_999, 131_069))])
 def test_what_a_room_gets(front, room, method, size):
     """The login, the length, and nothing else that the caller sent."""
     assert front.status("u02", method, CHECK, bytes(size), MORE) == 200
@@ -162,6 +176,13 @@ def test_what_the_gateway_gets(front, gateway):
     assert (first, sorted(head)) == ("GET /dav/plans/a%20b HTTP/1.1", [
         "Connection: close", "Dav-Room: plans", "Host: 127.0.0.1", login("u01", front.users["u01"]),
         "destination: http://a/"])
+
+
+@pytest.mark.parametrize("name", ["rooms.json", "dav.json", "warnings.json", "login.js", "latest.log", "health"])
+def test_a_file_with_a_name_of_the_fronts(front, gateway, name):
+    """By WebDAV it is the room's."""
+    assert front.once("u01", "GET", f"/dav/plans/{name}").body == b"{}"
+    assert [head[0].split()[1] for head, _ in gateway.got] == [f"/dav/plans/{name}"]
 
 
 def test_half_a_body(front, room):
@@ -196,6 +217,7 @@ def test_a_body_that_is_not_passed_on(front, room, target, length, status):
 
 @each("method, target, more, status", [
     ("a long field", "POST", CHECK, ["x: " + "a" * 8192], 400), ("a long target", "POST", CHECK + "a" * 8192, [], 414),
+    ("fields that are long together", "POST", CHECK, ["x: " + "a" * 6000] * 3, 400),
     ("no such room", "GET", "/rooms/none/v1/check", [], 404), ("a file of the front", "GET", "/users", [], 404),
     ("up and out of the room", "GET", f"{ROOM}/../../users", [], 404),
     ("no room at its place", "POST", "/rooms/gone/v1/check", [], 502)])
