@@ -4,10 +4,10 @@ import { head } from "./heads.js";
 import { SharePanel } from "./share.js";
 import { FOLDER, LARGE, MANIFEST, MOST_ENTRIES, NOBODY, REACH, RIGHTS, ROOT, SETS, WRITE_LIST, Refusal, Seers,
   addressOf, asOwn, ask, bothWords, button, calledIn, carried, checkbox, deciding, entriesOf, faultLine, folderOf,
-  follows, helpThem, inFolder, input, isAlike, isDeny, isForNobody, isInherited, isNamed, isPrivate, isTrash, letAll,
-  letterOf, link, make, nameText, named, newEntry, orFault, origins, ownOf, ownedWords, rightsIn, secure, select,
-  sentence, setBack, setList, setOf, shown, shutOut, standing, standingAt, t, tellFault, whomFault, whomOf, whomText,
-  withFollows, withWhom } from "./shared.js";
+  follows, helpThem, inFolder, input, isAlike, isDeny, isInherited, isNamed, isPrivate, isTrash, letAll, letterOf, link,
+  make, nameText, named, newEntry, orFault, origins, ownOf, ownedWords, rightsIn, secure, select, sentence, setBack,
+  setList, setOf, shown, shutOut, standing, standingAt, t, tellFault, whomFault, whomOf, whomText, withFollows,
+  withWhom } from "./shared.js";
 
 const knownNames = (roster) => make("datalist", { id: "known-names" },
   [...new Set(Object.entries(roster ?? {}).flat(2))].sort().map((value) => make("option", { value })));
@@ -167,7 +167,8 @@ class ListView {
 
   async save(news = this.news()) {
     const [about, count] = [this.called, this.own.length];
-    const fault = this.own.some(isForNobody) ? t.noWhom : count > MOST_ENTRIES ? t.listFull(count, MOST_ENTRIES) : "";
+    const fault = this.own.some((it) => it.who === "") ? t.noWhom :
+      count > MOST_ENTRIES ? t.listFull(count, MOST_ENTRIES) : "";
     if (fault) return tellFault(t.about(about, fault));
     const unknown = this.own.map((it) => whomFault(it, this.roster)).filter(Boolean);
     if (unknown.length && !await ask({ title: `${t.setAllTheSame}?`, does: t.setAllTheSame,

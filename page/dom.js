@@ -31,7 +31,7 @@ export const faultLine = (...words) => make("p.fault", ...words);
 export const listOf = (all) => make("ul", all.map((it) => make("li", it)));
 export const onSubmit = (task) => (event) => {
   event.preventDefault();
-  task();
+  task(event);
 };
 
 /** A name, apart from the direction of the text around it, with marks for what could not be seen. */
@@ -49,7 +49,7 @@ export function labelled(words, field) {
 }
 
 export function checkbox(words, checked, changed) {
-  const box = make("input", { type: "checkbox", checked, onchange: () => changed(box.checked) });
+  const box = make("input", { type: "checkbox", checked, onchange: () => changed?.(box.checked) });
   return make("label.choice", box, ` ${words}`);
 }
 

@@ -37,7 +37,8 @@ const level = (name) => ({ name, word: t.levels[name][0], tells: t.levels[name][
 const [SOME, NONE, MORE] = ["some", "none", "more"].map(level);
 export const [SHUT_OUT, NOT_KNOWN, SEVERAL] = ["shut", "unknown", "several"].map(level);
 const LEVELS = SETS.map(({ name }) => level(name));
-export const LEGEND = [...LEVELS.toReversed(), MORE, SOME, NONE, SHUT_OUT, NOT_KNOWN, SEVERAL];
+const WRITES = { ...level("write"), name: "edit" }; // (nothing is added to a document)
+export const LEGEND = [...LEVELS.toReversed(), WRITES, MORE, SOME, NONE, SHUT_OUT, NOT_KNOWN, SEVERAL];
 
 /** The rights of a mask that commands ask for. (To a large file nothing is appended.) */
 export function askedOf(mask, kind) {
@@ -56,8 +57,8 @@ export function levelOf(allowed, kind) {
   const kept = kind === FOLDER && DELETE;
   const at = SETS.findLastIndex(({ mask }) => askedOf(mask & ~(mask === CHANGE ? has | kept : has), kind) === 0);
   if (at < 0) return has ? SOME : NONE;
-  const isMore = (has & ~SETS[at].mask) !== 0;
-  return isMore ? { ...LEVELS[at], word: `${LEVELS[at].word}+` } : LEVELS[at];
+  const its = SETS[at].mask === EDIT && kind !== FOLDER ? WRITES : LEVELS[at];
+  return has & ~SETS[at].mask ? { ...its, word: `${its.word}+` } : its;
 }
 
 export const rightsIn = (mask, kind) => RIGHTS.filter((it) => mask & it.bit).map((it) => it[kind]);
@@ -79,7 +80,6 @@ export const REACH = [NOT_HERE, TO_FILES, TO_FOLDERS, CHILDREN_ALONE].map((flag,
   ({ flag, word: t.reach[at], isTurned: [NOT_HERE, CHILDREN_ALONE].includes(flag) }));
 
 export const isAlike = (one, other) => JSON.stringify(one) === JSON.stringify(other);
-export const isForNobody = ({ who }) => who === "";
 export const isInherited = ({ flag }) => (flag & MARK) !== 0;
 export const asOwn = (entry) => ({ ...entry, flag: entry.flag & ~MARK });
 export const isDeny = ({ type }) => type === DENY;
@@ -95,7 +95,7 @@ export const byWhom = (entries) =>
   [...Map.groupBy(entries, (it) => JSON.stringify(whomOf(it))).values()].map((its) => [whomOf(its[0]), its]);
 
 export function whomFault(entry, roster) {
-  if (isForNobody(entry)) return t.noWhom;
+  if (entry.who === "") return t.noWhom;
   const { id, name } = whomOf(entry);
   if (!roster || !isNamed(id)) return "";
   const isUser = id === "user";
@@ -191,7 +191,7 @@ export function deciding(object, user, groups, { rights, allowed }) {
 /** What people mostly give. Who works in a folder may remove what is in it, and not itself. */
 const OF_FOLDERS = { view: [[VIEW, BOTH]], edit: [[EDIT, BOTH]],
   work: [[CHANGE & ~DELETE, 0], [CHANGE, BOTH | NOT_HERE]], all: [[ALL, BOTH]] };
-const OF_FILES = { view: [[VIEW, 0]], edit: [[EDIT, 0]], change: [[CHANGE, 0]], all: [[ALL, 0]] };
+const OF_FILES = { view: [[VIEW, 0]], write: [[EDIT, 0]], change: [[CHANGE, 0]], all: [[ALL, 0]] };
 export const presetsOf = (kind) => (kind === FOLDER ? OF_FOLDERS : OF_FILES);
 
 export const entriesOf = (name, whom, kind) => presetsOf(kind)[name].map(([mask, flag]) => {

@@ -33,7 +33,6 @@ async function picture(bytes, alt, most) {
 }
 
 const MOVES = /^GIF[^]*(NETSCAPE|!\xf9\x04[^]{4}\0[^]*!\xf9\x04[^]{4}\0)|^.PNG[^]*acTL|^RIFF[^]*ANIM/;
-const isMoving = (bytes) => MOVES.test(new TextDecoder("latin1").decode(bytes));
 
 function still(it, side = Infinity) {
   const { naturalWidth, naturalHeight, alt } = it;
@@ -70,7 +69,7 @@ export function preview(bytes, name) {
   if (typeOf(bytes).startsWith("image/")) {
     const place = make("div.picture");
     picture(bytes, shown(name), MOST_PIXELS).then((it) =>
-      place.append(...it && isMoving(bytes) ? played(it) : [it ?? nothing()]));
+      place.append(...it && MOVES.test(new TextDecoder("latin1").decode(bytes)) ? played(it) : [it ?? nothing()]));
     return place;
   }
   if (isPdf(bytes)) return pdf(bytes, shown(name));

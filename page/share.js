@@ -1,7 +1,7 @@
 /** The panel by which an object is shared: who has access, by what, and whether they get there. */
 import { FOLDER, MOST_ENTRIES, PASS_THROUGH, button, byWhom, checkbox, entriesOf, givenHere, inOrder, input, isAlike,
-  isDeny, levelOf, make, menuButton, onSubmit, personText, presetsOf, select, sharesOf, t, usersBy, whomOf,
-  whomWords } from "./common.js";
+  isDeny, levelOf, make, menuButton, onSubmit, personText, presetsOf, sharesOf, t, usersBy, whomOf, whomWords } from
+  "./common.js";
 
 const MOST_FITS = 8; // names that are shown at once
 
@@ -72,7 +72,7 @@ export class SharePanel {
   constructor({ kind, owner, group }, { own, handed }, roster, does) {
     const { shares, others } = sharesOf(own, kind);
     Object.assign(this, { kind, owner, group, own, roster: roster ?? {}, isWhole: roster !== null, shares, ...does });
-    this.presets = Object.keys(presetsOf(kind)).map((it) => [it, levelOfPreset(it)[0]]);
+    this.presets = Object.keys(presetsOf(kind)).map((it) => [it, ...levelOfPreset(it)]);
     [this.told, this.from] = [new Map(), new Map()]; // elements by whom, which tell who is shut out, and what is above
     const isOwner = ({ id, name }) => owner && (id === "OWNER@" || id === "user" && name === owner);
     const above = byWhom(handed.filter((it) => !isDeny(it))).filter(([whom]) => !isOwner(whom));
@@ -105,7 +105,7 @@ export class SharePanel {
     { className: "small", ariaLabel: t.takeFrom(this.wordsOf(whom)) });
 
   row({ whom, name }) {
-    const items = this.presets.map(([it, words]) => ({ words, isNow: it === name, about: levelOfPreset(it)[1],
+    const items = this.presets.map(([it, words, about]) => ({ words, about, isNow: it === name,
       does: () => this.give(whom, it) }));
     const [level, title] = [levelOfPreset(name)[0], t.mayWhat(this.wordsOf(whom))];
     return this.line(whom, this.set ? menuButton(level, { title }, () => items, title) : make("span.about", level),
@@ -133,22 +133,24 @@ export class SharePanel {
   }
 
   form() {
-    const groups = [...new Set(Object.values(this.roster).flat())].sort(inOrder).map((it) => t.groupMark + it);
     const people = Object.keys(this.roster).map(personText).sort(inOrder);
+    const groups = [...new Set(Object.values(this.roster).flat())].sort(inOrder).map((it) => t.groupMark + it);
     const { element, field: whom } = whomField([...people, ...groups, t.whom["EVERYONE@"]]);
-    const what = select(this.presets, "view", () => {}, { ariaLabel: t.may });
     this.fault = make("p.fault", { role: "alert" });
     const keeps = this.kind === FOLDER && this.owner && !this.shares.length &&
-      checkbox(t.keepFull(personText(this.owner)), true, () => {});
-    const onsubmit = onSubmit(() => {
+      checkbox(t.keepFull(personText(this.owner)), true);
+    const onsubmit = onSubmit(({ submitter }) => {
       const found = whomBy(whom.value.trim(), this.isWhole ? this.roster : null);
       this.fault.textContent = found.fault ?? "";
-      const isKept = keeps && keeps.firstChild.checked && what.value !== "view";
-      const all = isKept ? entriesOf("all", { id: "user", name: this.owner }, this.kind) : [];
-      if (found.whom) this.give(found.whom, what.value, all);
+      const all = keeps && keeps.firstChild.checked ? entriesOf("all", { id: "user", name: this.owner }, FOLDER) : [];
+      if (found.whom) this.give(found.whom, submitter.value, all);
       else whom.focus();
     });
-    return make("div", make("form.row", { onsubmit }, element, what, make("button.main", t.share)), keeps, this.fault);
+    // (a press of a level shares at once; Enter in the field is the first one's)
+    const levels = this.presets.map(([value, words, title], at) =>
+      make(at ? "button" : "button.main", { value, title }, words));
+    const row = make("p.row", { role: "group", ariaLabel: t.share }, t.about(t.share, ""), levels);
+    return make("div", make("form", { onsubmit }, element, row), keeps, this.fault);
   }
 
   give(whom, name, more = []) {
@@ -156,25 +158,8 @@ export class SharePanel {
     const news = name ? entriesOf(name, whom, this.kind) : [];
     const own = [...had.length ? this.own.flatMap((it) => (it === had[0] ? news : had.includes(it) ? [] : [it])) :
       [...this.own, ...news], ...isAlike(whom, whomOf(more[0] ?? { who: "" })) ? [] : more];
-    if (own.length > MOST_ENTRIES) this.tellFull(whom, name, own.length);
-    else this.set(own, news);
-  }
-
-  tellFull(whom, name, count) {
-    const same = sharesOf(this.own, this.kind).shares.filter((it) => it.whom.id === "user" && it.name === name);
-    const users = [...same.map((it) => it.whom.name), whom.id === "user" && whom.name];
-    const membersOf = (group) => Object.keys(this.roster).filter((it) => this.roster[it].includes(group));
-    const named = (group) => membersOf(group).filter((it) => users.includes(it)).length;
-    const groups = [...new Set(Object.values(this.roster).flat())].filter((it) => named(it) > 1);
-    const best = groups.filter((it) => membersOf(it).includes(users.at(-1))).sort((a, b) => named(b) - named(a))[0];
-    const instead = () => {
-      const gone = same.filter((it) => membersOf(best).includes(it.whom.name)).flatMap((it) => it.entries);
-      const news = entriesOf(name, { id: "group", name: best }, this.kind);
-      this.set([...this.own.filter((it) => !gone.includes(it)), ...news], news);
-    };
-    this.fault.replaceChildren(t.listFull(count, MOST_ENTRIES), " ", ...best ?
-      [t.groupHas(best, membersOf(best).length - named(best)), " ",
-        button(t.groupInstead(best, named(best)), instead, "small")] : [t.nameGroup]);
+    if (own.length <= MOST_ENTRIES) return this.set(own, news);
+    this.fault.textContent = `${t.listFull(own.length, MOST_ENTRIES)} ${t.nameGroup}`;
   }
 
   ofOwner() {

@@ -424,5 +424,4 @@ def share(browser, whom, what):
     field = "//main//input[@role='combobox']"
     browser.act(field, "clear")
     browser.act(field, "value", {"text": whom})
-    browser.act(f"//main//section[@class='share']//form//select/option[.='{what}']", "click")
-    browser.press("Share", "//main//section[@class='share']")
+    browser.press(what, "//main//section[@class='share']//form")

@@ -78,7 +78,7 @@ def test_share_in_the_place_of_odd_entries(club, browser, passed):
     club.open(PATH, "access")
     browser.sees("Custom", ".share")
     share(browser, "staff", "Can view")
-    browser.until("it takes their place", lambda: club.own(PATH) == [(0, STAFF, VIEW, "staff")])
+    browser.until("it takes their place", lambda: club.own(PATH) == [(0, STAFF, VIEW, "staff"), (0, 3, ALL, "ann")])
     browser.sees("the group staff", ".shares")
 
 
@@ -231,9 +231,9 @@ def test_what_is_private_is_shared_as_the_folder_above(club, browser, board):
 
 @pytest.mark.parametrize("keeps, level, whos", [
     (True, "Can add and edit", ["staff", "ann"]), (False, "Can add and edit", ["staff"]),
-    (True, "Can view", ["staff"])], ids=["kept", "not kept", "nothing to keep"])
+    (True, "Can view", ["staff", "ann"])], ids=["kept", "not kept", "kept for later"])
 def test_share_for_the_first_time_keeps_the_owners_access(club, browser, passed, keeps, level, whos):
-    """To what others add, unless the tick is taken away, or nothing can be added."""
+    """To what others add, unless the tick is taken away; also where nobody may add yet."""
     club.open(PATH, "access")
     if not keeps:
         browser.act("//main//label[contains(., 'keeps full access')]/input", "click")
@@ -255,7 +255,7 @@ def test_share_by_keys_with_people_by_name(club, browser, passed, tells):
     browser.act(field, "clear")
     browser.act(field, "value", {"text": "bob"})
     browser.keys("down", "down", "up", "enter", "enter")
-    browser.until("it is shared", lambda: club.own(PATH) == [(0, 3, VIEW, "bob")])
+    browser.until("it is shared", lambda: (0, 3, VIEW, "bob") in club.own(PATH))
 
 
 def test_share_tells_by_name_who_cannot_get_there(club, browser, board, tells):
@@ -305,7 +305,7 @@ def test_the_owner_stands_once(club, browser, board):
 
 
 def test_share_with_more_than_a_list_holds(club, browser):
-    """A list's 17th name is told before, and one group is offered in the place of its members."""
+    """A list's 17th name is told before, and what to do."""
     path = "/shared"
     club.lay(f"{path}/")
     club.sets(path, *(it for who in ["ann", *(f"gone{at}" for at in range(15))]
@@ -313,13 +313,7 @@ def test_share_with_more_than_a_list_holds(club, browser):
     club.open(path, "access")
     share(browser, "eve", "Can edit and delete")
     browser.sees("This would make 34 entries, and 32 are the most. Share it with a group", ".share")
-    share(browser, "bob", "Can edit and delete")
-    browser.sees("The group eng has 0 other members.", ".share")
-    browser.press("Share it with eng, in place of 2 of its members")
-    browser.press("Set it all the same")  # (of the others none is in this roster)
-    browser.sees("Checked: the group eng can get there.", "#notices")
-    whos = [it[3] for it in club.own(path)]
-    assert (len(whos), "ann" in whos, whos[-2:]) == (32, False, ["eng", "eng"])
+    assert "eve" not in [it[3] for it in club.own(path)]
 
 
 def test_share_shows_names_as_people_write_them(club, browser, passed, tells):
@@ -343,13 +337,46 @@ def test_share_shows_names_as_people_write_them(club, browser, passed, tells):
     browser.sees("The list of /board/plans lets Bob Ray (bob) see what is in it", ".detail")
 
 
+CLICKS = "addEventListener('pointerup', () => { window.clicks = (window.clicks ?? 0) + 1; }, true)"
+
+
+def test_share_is_three_clicks_and_a_name_away(club, browser, passed):
+    """From a row, with any level: who comes there types at once, and the list of names covers no level."""
+    club.open(TOP)
+    browser.script(CLICKS)
+    browser.press("More for plans")
+    browser.act(f"{MENU}//a[.='Share']", "click")
+    browser.until("Share", lambda: browser.script("return document.activeElement.role") == "combobox")
+    browser.keys("bob")
+    browser.until("names", lambda: browser.script(TEXTS, ".fits:not([hidden]) li") == ["bob"])
+    browser.press("Can add and edit", "//main//form")
+    browser.until("it is shared", lambda: (0, 3, EDIT, "bob") in club.own(PATH))
+    assert browser.script("return window.clicks") == 3
+
+
 def test_share_is_one_click_and_a_name_away(club, browser, passed):
-    """Who comes there from a list types at once."""
+    """From its folder, to view: by Enter."""
     club.open(PATH)
     browser.act("//main//p[contains(@class, 'tools')]/a", "click")
     browser.until("Share", lambda: browser.script("return document.activeElement.role") == "combobox")
     browser.keys("bob", "enter")
     browser.until("it is shared", lambda: (0, 3, VIEW, "bob") in club.own(PATH))
+
+
+def test_share_of_a_document_has_words_of_documents(club, browser, passed):
+    """Nothing can be added to one: in the levels, where it has them from above, and in the matrix."""
+    path = f"{PATH}/a.txt"
+    club.lay(path)
+    club.sets(PATH, entry("eve", EDIT), entry("bob", PASS, 0), entry("ann", ALL))
+    club.open(path, "access")
+    levels = ["Can view", "Can edit", "Can edit and delete", "Full control"]
+    assert browser.script(TEXTS, ".share form button") == levels
+    browser.until("from above", lambda: any(it.startswith("eveCan edit from") for it in given(browser)))
+    share(browser, "bob", "Can edit")
+    browser.until("it is shared", lambda: club.own(path) == [(0, 0, EDIT, "bob")])
+    browser.until("its level", lambda: ["bob", "Can edit"] in browser.script(SHARES))
+    club.open(path, "who")
+    assert "Can edit" in [it.rstrip("?") for it in browser.script(TEXTS, ".matrix td button")]
 
 
 def test_who_has_the_name_of_another_is_told_apart(club, browser, tells):
