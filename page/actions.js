@@ -1,13 +1,13 @@
 /** What is offered for an object: what the lists allow, or all where the room does not say. */
 import { download, downloadFolder, save } from "./downloads.js";
 import { copyTo, move, putBack, remove, wayBack } from "./moving.js";
-import { ADD_FILE, ADD_FOLDER, ALL, APPEND, DELETE, DELETE_CHILD, FILE, FOLDER, LARGE, MOST_BYTES, PASS_THROUGH as PASS,
+import { ADD_FILE, ADD_FOLDER, APPEND, DELETE, DELETE_CHILD, FILE, FOLDER, LARGE, MOST_BYTES, PASS_THROUGH as PASS,
   READ, READ_LIST, ROOT, UNFINISHED, WRITE, addressOf, area, ask, button, changesIn, checkbox, clean, drawRail,
   entriesOf, faultLine, filesButton, folderOf, fromBase64, fromText, hasDav, inFolder, isStarred, isTrash, keepBeside,
-  lastName, make, makeLike, nameFault, nameInput, newVersion, offered, placeIn, say, showAddresses, shown, t,
-  tellFault, toBase64, toText, toldBy, turnStar, whenWords, wholeLink, withFollows } from "./shared.js";
+  keepInTrash, lastName, make, makeLike, nameFault, nameInput, newVersion, offered, placeIn, say, showAddresses, shown,
+  t, tellFault, toBase64, toText, toldBy, trashOf, turnStar, whenWords, wholeLink, withFollows } from "./shared.js";
 
-export const rightsOn = async (room, path) => await room.rights(path) ?? ALL;
+export const rightsOn = async (room, path) => await room.rights(path) ?? -1;
 
 const copyLink = (address) => navigator.clipboard.writeText(wholeLink(address))
   .then(() => say(t.linkCopied), (fault) => tellFault(t.about(t.copyLink, fault.message)));
@@ -127,30 +127,52 @@ function settle(who, theirs, mine, keep, take) {
     others: [{ words: t.takeTheirs, value: "theirs", task: take }, { words: t.goOnWithMine, value: "on" }] });
 }
 
+// Where this tab kept the version before. (A trash holds 256 things: of each save it would soon be full.)
+const kept = new Set();
+
 export async function edit(app, path) {
   const title = t.doTo(t.edit, shown(lastName(path)));
-  let [seen, told] = [await app.attempt(title, async () => (await app.room.run("READ", path)).data), t.replaced];
-  const text = seen === null ? null : toText(fromBase64(seen));
-  if (text === null) return void (seen && tellFault(t.about(title, t.theirBytes)));
+  const found = await app.attempt(title, () => Promise.all([app.room.run("READ", path),
+    app.room.look("GETLIST", path).then((it) => (it ? trashOf(app) : {}))]));
+  if (!found) return;
+  let [[{ data: seen }, { path: trash }], told, written] = [found, t.replaced];
+  const text = toText(fromBase64(seen));
+  if (text === null) return tellFault(t.about(title, t.theirBytes));
   const [field, lineEnd] = [area(text), text.includes("\r\n") ? "\r\n" : "\n"]; // (a text field has \n alone)
   const typed = () => fromText(field.value.replaceAll("\n", lineEnd));
-  const since = Date.now() / 1000;
+  const [since, key] = [Date.now() / 1000, app.room.name + path];
+  const keeps = trash && checkbox(t.keepOld, !kept.has(key));
   const keep = async () => {
     told = t.keptAs(shown(lastName(await keepBeside(app.room, path, t.copyOf(app.user), typed()))));
   };
   const take = () => { told = t.otherStands(shown(lastName(path))); };
   const task = async () => {
     const [{ data: now }, data] = [await app.room.run("READ", path), toBase64(typed())];
-    if (now === seen) return void await app.room.run("WRITE", path, { data });
+    if (now === seen) {
+      if (keeps?.firstChild.checked) {
+        await keepInTrash(app.room, path, trash);
+        keeps.firstChild.checked = false; // (what is written may be refused, and sent again)
+        kept.add(key);
+        told += t.keptUnder(1, t.trash);
+      }
+      await app.room.run("WRITE", path, { data });
+      return void (written = data);
+    }
     const its = (await changesIn(app, [folderOf(path)])).get(path);
     const who = its?.when > since ? whenWords(its) : [];
     const chosen = await settle(who, toText(fromBase64(now)) ?? t.theirBytes, field.value, keep, take);
     if (chosen === "on") seen = now;
     if (chosen === "on" || !chosen) throw new Error(t.notReplaced);
   };
-  const isDone = await ask({ title, does: t.save, fields: [[t.text, field]], faultOf: () => tooLong(typed()), task,
+  const undo = async () => {
+    if ((await app.room.run("READ", path)).data !== written) throw new Error(t.changed);
+    await app.room.run("WRITE", path, { data: seen });
+    await app.done(t.textBack);
+  };
+  const isDone = await ask({ title, does: t.save, fields: [[t.text, field], ...keeps ? [["", keeps]] : []], task,
+    faultOf: () => tooLong(typed()),
     wayOn: button(t.download, () => save(new Blob([typed()]), lastName(path)), "small") });
-  if (isDone) await app.done(told);
+  if (isDone) await app.done(told, null, written !== undefined && undo);
 }
 
 async function rename(app, path) {

@@ -5,10 +5,10 @@ import { emptyTrash } from "./moving.js";
 import { ACCESS, ADD_FILE, ADD_FOLDER, FILE, FOLDER, LARGE, MANIFEST, NOBODY, PASS_THROUGH, READ, READ_LIST, ROOT,
   UNFINISHED, Refusal, Seers, addressOf, beforeWords, beside, button, byName, canShow, changesIn, checkbox, clean,
   closedLine, faultLine, filesButton, folderOf, foldersAbove, fromBase64, givenHere, hasDav, icon, inFolder, inOrder,
-  isFor, isInTrash, isNamed, isOwnTrash, isPart, isPdf, isPicture, isTrash, kindBy, lastName, latest, link, make,
-  manifestAt, menuButton, nameAt, note, nothing, offered, once, orFault, ownOf, ownTrash, ownedWords, part, pointOf,
-  preview, readFile, shown, sizeWords, stars, t, toText, upload, walk, whomOf,
-  withoutPool } from "./shared.js";
+  isAlike, isFor, isInTrash, isNamed, isOwnTrash, isPart, isPdf, isPicture, isTrash, kindBy, lastName, latest, link,
+  make, manifestAt, menuButton, nameAt, note, nothing, offered, once, orFault, ownOf, ownTrash, ownedWords, part,
+  pointOf, preview, readFile, shown, sizeWords, stars, t, toText, upload, walk, whomOf, withoutPool } from
+  "./shared.js";
 import { Things } from "./things.js";
 
 const PREVIEWED = 2 ** 22; // bytes of a large file that are read unasked
@@ -81,7 +81,7 @@ async function folder(app, place, stat, rights, found) {
     tell();
   };
   tell();
-  area.watched = { path, names: found.names, list, things, put: mayPut, renew };
+  area.watched = { path, names: found.names, list, put: mayPut, renew };
   return [...top, bar, ...things ? [things.bar.element] : [], area];
 }
 
@@ -89,6 +89,8 @@ async function object(app, place, { stat, rights, kind, size, words, first = [],
   const offers = [...first, ...offersFor(app, place.path, kind, { ...rights, size }).filter((it) => !it.isView)];
   const printer = bytes && canShow(bytes) && !isPdf(bytes) && button(t.print, () => print());
   const bar = make("p.tools", offers.map(asButton), printer, await neighbours(app, place));
+  // (what is offered follows the rights)
+  bar.isOther = () => rightsAt(app.room, place.path).then((its) => !isAlike(its, rights), () => false);
   return [...head(place), bar, about(place, stat, words), body];
 }
 

@@ -104,6 +104,7 @@ class App {
     }
   }
 
+  get things() { return document.querySelector(".things tbody tr")?.row.things; }
   get watched() { return document.querySelector(".drops")?.watched; }
   get place() { return placeOf(location.hash) ?? { view: "open", room: this.rooms[0], path: ROOT }; }
 
@@ -187,7 +188,10 @@ async function look(app) {
   if (!looksAgain() || isAtWork()) return;
   if (app.room) app.room.roster = null;
   forgetFound();
-  if (!its) return document.querySelector(".things tbody tr")?.row.things.renew();
+  if (!its) {
+    const isOther = await document.querySelector("main > .tools")?.isOther?.();
+    return isOther && !isAtWork() ? app.show(standing()) : app.things?.renew();
+  }
   const [had, found, list] = await Promise.all([its.list, app.room.look("LIST", its.path, { keep: false }),
     its.list && app.room.look("GETLIST", its.path)]).catch(() => [null, its]);
   const isOther = textOf(its.names, had) !== textOf(found?.names, had && list);

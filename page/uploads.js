@@ -245,7 +245,7 @@ export async function upload(app, folder, chosen) {
   }
 }
 
-const keepInTrash = (room, path, trash) => placedInTrash(path, trash, async (to) =>
+export const keepInTrash = (room, path, trash) => placedInTrash(path, trash, async (to) =>
   writeCopy(room, path, to, await readFile(room, path)));
 
 export const keepBeside = async (room, path, words, bytes) =>

@@ -56,6 +56,24 @@ def test_a_text_is_edited_from_its_row(club, browser):
     assert not browser.script(PEN)
 
 
+def test_a_document_offers_no_more_than_may_be_done(club, browser):
+    """Once somebody comes back to it: where rights are gone, and where a door above is closed."""
+    def comes_back(words):
+        browser.script("dispatchEvent(new Event('focus'))")  # (once more where the page was at work)
+        return words
+    club.lay(("/plans/june.txt", b"text"))
+    club.lets("bob", "/plans", ALL)
+    club.log_in("bob")
+    club.open("/plans/june.txt")
+    assert "Edit" in browser.script(BUTTONS)
+    club.sets("/plans/june.txt", entry("bob", VIEW, 0), flags=2)
+    browser.until("no more", lambda: comes_back("Edit") not in browser.script(BUTTONS))
+    club.sets("/plans/june.txt")
+    browser.until("again", lambda: comes_back("Edit") in browser.script(BUTTONS))
+    club.sets("/", entry("OWNER@", ALL, 0), flags=2)
+    browser.until("closed", lambda: comes_back("You don't have access to") in browser.text_of("main"))
+
+
 def test_what_a_refused_save_has_is_downloaded(club, browser):
     """It stays in the dialog, and has a way to the user's disk."""
     club.lay(("/plans/june.txt", b"before"))

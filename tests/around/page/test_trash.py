@@ -5,8 +5,8 @@ from urllib.parse import quote
 import pytest
 from room_client import trash
 
-from .club import (ALL, DIALOG, MENU, TEXTS, TYPED, USERS, by_menu, by_rail, entry, of_folder, offers, row,
-                   to_folder)
+from .club import (ALL, DIALOG, MENU, TEXTS, TYPED, USERS, by_menu, by_rail, edit, entry, forget_told,
+                   of_folder, offers, row, to_folder)
 
 OLD, (TRASH, *_) = "/trash/ann", trash.places_of("ann")  # (the first is that of rooms of before)
 STAMP = "20261126214307"
@@ -151,6 +151,79 @@ def test_trash_that_is_emptied_keeps_what_is_locked(club, browser, trashes):
     browser.until("the others are gone", lambda: club.names(TRASH) == ["a"])
     browser.sees("1 of ", "#notices")
     browser.sees(" failed", "#notices")
+
+
+# What a save writes over
+
+TICK = f"{DIALOG}//label[contains(., 'Keep the old version')]/input"
+TICKED = "return document.querySelector('dialog input[type=checkbox]')?.checked"
+
+
+def saves(browser, text, told):
+    forget_told(browser)
+    edit(browser, text)
+    browser.press("Save")
+    browser.sees(told, "#notices")
+
+
+def test_save_keeps_the_version_before(club, browser, trashes):
+    """In the trash by its name, whence two clicks bring it back; by itself once for each tab and document."""
+    path, kept = "/plans/june.txt", "Saved. The old version is kept: Trash."
+    club.lay((path, b"first"))
+    club.open(path)
+    saves(browser, "second", kept)
+    saves(browser, "third", "Saved.")
+    assert kept not in browser.text_of("#notices")
+    edit(browser, "fourth")
+    assert browser.script(TICKED) is False
+    browser.act(TICK, "click")
+    browser.press("Save")
+    browser.sees(kept, "#notices")
+    assert sorted(club.text(f"{TRASH}/{it}") for it in club.names(TRASH)) == ["first", "third"]
+    club.does({"cmd": "REMOVE", "path": f"{TRASH}/{max(club.names(TRASH))}"})
+    by_rail(browser, "Trash")
+    browser.press("Restore june.txt", "//main")
+    browser.press("Restore", DIALOG)
+    browser.sees("/plans/june (2).txt is there again.", "#notices")
+    assert (club.text(path), club.text("/plans/june (2).txt")) == ("fourth", "first")
+
+
+def test_save_is_undone(club, browser):
+    """Also without a trash, or to nothing; not over what somebody wrote since."""
+    path = "/plans/june.txt"
+    club.lay((path, b"first"))
+    club.open(path)
+    edit(browser, "")
+    assert browser.script(TICKED) is None
+    browser.press("Save")
+    browser.press("Undo", "//*[@id='notices']")
+    browser.sees("The old text is back.", "#notices")
+    assert club.text(path) == "first"
+    saves(browser, "second", "Saved.")
+    club.writes(path, b"of eve")
+    browser.press("Undo", "//*[@id='notices']")
+    browser.sees("Somebody changed this meanwhile", "#notices")
+    assert club.text(path) == "of eve"
+
+
+def test_save_that_cannot_keep_the_version_before(club, browser, trashes):
+    """Nothing is written, and it is told why; without the tick it is. No tick for who may not see the list."""
+    path = "/plans/june.txt"
+    club.lay((path, b"first"), *(f"{TRASH}/{count}" for count in range(256)))
+    club.open(path)
+    edit(browser, "second")
+    browser.press("Save")
+    browser.sees("The trash is full: it has 256 items. Empty it first.", "dialog")
+    assert club.text(path) == "first"
+    browser.act(TICK, "click")
+    browser.press("Save")
+    browser.sees("Saved.", "#notices")
+    assert club.text(path) == "second"
+    club.lets("bob", path, 0x3, 0)
+    club.log_in("bob")
+    club.open(path)
+    edit(browser, "third")
+    assert browser.script(TICKED) is None
 
 
 # Put back
