@@ -77,7 +77,7 @@ const heldKey = (app) => `fileroom/held/${app.user}/${app.room.name}`;
 const isTyping = (event) => event.target.closest?.("input:not([type=checkbox]), textarea, dialog");
 
 function hold(app, event) {
-  const chosen = app.watched?.things?.chosen ?? [];
+  const chosen = app.things?.chosen ?? [];
   const row = document.activeElement.closest(".things tr")?.row;
   const rows = chosen.length || !row ? chosen : [row];
   if (!rows.length || isTyping(event) || !getSelection().isCollapsed) return;

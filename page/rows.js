@@ -4,10 +4,10 @@ import { edit, offersFor, rightsOn, star } from "./actions.js";
 import { download } from "./downloads.js";
 import { dragRow, takeFiles, takeRows } from "./drag.js";
 import { putBack } from "./moving.js";
-import { FILE, FOLDER, LARGE, READ, UNFINISHED, WRITE, addressOf, beforeWords, button, calledIn, canShow, icon,
-  inFolder, isForDisk, isInTrash, isOwnTrash, isPdf, isPicture, isStarred, kindByName, link, lookInto, make, menuButton,
-  nameAt, nameText, ownedWords, preview, readFile, shown, sizeWords, t, tellFault, tellIt, toldBy, whenWords,
-  whileSo } from "./shared.js";
+import { FILE, FOLDER, LARGE, READ, UNFINISHED, WRITE, addressOf, beforeWords, button, calledIn, canShow, displayName,
+  icon, inFolder, isForDisk, isInTrash, isOwnTrash, isPdf, isPicture, isStarred, kindByName, link, lookInto, make,
+  menuButton, nameAt, nameText, ownedWords, personText, preview, readFile, shown, sizeWords, t, tellFault, tellIt,
+  toldBy, whenWords, whileSo } from "./shared.js";
 
 const PAUSE_ON = 200; // milliseconds on a row before its details are shown
 const MOST_BYTES_OF = 2 ** 22; // of a picture among them
@@ -108,7 +108,10 @@ export class Row {
 
   async tellWho() {
     const { kind, isShut } = await this.look();
-    const found = isShut ? null : await this.things.seers.of({ path: this.path, kind });
+    const { seers, isShared } = this.things;
+    const owner = isShared && (await seers.questions.stat(this.path))?.owner;
+    const found = owner ? { words: displayName(owner) || owner, told: personText(owner) } :
+      isShared || isShut ? null : await seers.of({ path: this.path, kind });
     const [{ who }, { words = "", told = "" }] = [this.cells, found ?? {}];
     const before = who.firstChild?.title ?? told;
     if (found && !who.firstChild) who.append(link(this.access, "", { tabIndex: -1 }));
@@ -116,7 +119,7 @@ export class Row {
     Object.assign(who.firstChild ?? {}, { textContent: words, title: told, hidden: !found });
     const { user, room } = this.app;
     const own = found && kind === FILE && this.kindName === "text" &&
-      await this.things.seers.questions.allowed(this.path, user, (await room.users())[user]);
+      await seers.questions.allowed(this.path, user, (await room.users())[user]);
     this.pen.hidden = !(own & READ && own & WRITE);
     if (told !== before) await this.things.details.draw(this);
   }

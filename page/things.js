@@ -113,7 +113,8 @@ class GridKeys {
 export class Things {
   constructor(app, place, names, rights, changes = null) {
     const [isFound, isThrown] = [rights === null, isOwnTrash(app, place.path)];
-    Object.assign(this, { app, place, rights, last: null, isFound, inSight: new Set() });
+    Object.assign(this, { app, place, rights, last: null, isFound, inSight: new Set(),
+      isShared: place.view === "shared" });
     const without = [...isFound ? [] : ["where"], ...changes ? isFound ? ["who", "kind"] : [] : ["when"],
       ...isThrown ? ["who"] : []];
     this.columns = HEADS.filter((it) => !without.includes(it));
@@ -141,7 +142,8 @@ export class Things {
     this.all = make("input", { type: "checkbox", tabIndex: -1, ariaLabel: t.chooseAll, onchange });
     this.heads = this.columns.map((by) => {
       const its = by in BY && button(t.heads[by], () => this.sortBy(by), { tabIndex: -1 });
-      return { by, button: its, cell: make(`th.${by}`, { scope: "col" }, its || t.heads[by]) };
+      const words = its || t.heads[by === "who" && this.isShared ? "owner" : by];
+      return { by, button: its, cell: make(`th.${by}`, { scope: "col" }, words) };
     });
     return make("thead", make("tr", make("td.tick", this.all), this.heads.map((it) => it.cell), make("td.own")));
   }

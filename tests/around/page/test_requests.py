@@ -48,6 +48,7 @@ def test_given_up(club, browser, log):
     """That it may be done is told; the next one acts."""
     club.lossy.lose("APPEND", 10_000)
     append(browser, "given up")
+    browser.sees("If you give up, look whether it was done.", "#busy")
     browser.press_anyway("Give up")
     club.lossy.lose("")
     browser.sees("Whether it was done is not known", "dialog")

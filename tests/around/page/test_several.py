@@ -2,7 +2,7 @@
 pasted."""
 import pytest
 
-from .club import CHOSEN, DIALOG, PIECE, ROWS, TOP, forget_told, row, to_folder
+from .club import CHOSEN, DIALOG, PIECE, ROWS, TOP, ends, forget_told, row, search_in, to_folder
 from .drawn import PNG
 
 CELLAR, BOX = f"{TOP}/cellar", f"{TOP}/attic/box"
@@ -183,6 +183,15 @@ def test_copy_and_paste(club, browser, frame):
         browser.chord("ctrl", "v")
         browser.sees(f"/frame/letter.docx is copied to {folder}/{name}.", "#notices")
         assert club.bytes(f"{folder}/{name}") == bytes(45)
+
+
+def test_all_that_are_chosen_among_what_was_found_are_cut(club, browser, frame):
+    search_in(club, TOP, "t")
+    ends(browser, "4 results")
+    for name in BOTH:
+        browser.act(f"{TR(name)}//input", "click")
+    browser.chord("ctrl", "x")
+    browser.sees("2 items are cut", "#notices")
 
 
 def test_a_text_that_is_copied_moves_nothing(club, browser, both):

@@ -1,7 +1,7 @@
 """What others share with somebody is found without its link: as far as the lists let it be seen, and no further."""
 import pytest
 
-from .club import ALL, FOUND, GROUP, PASS, PLACE, VIEW, by_rail, entry, of_user
+from .club import ALL, FOUND, GROUP, PASS, PLACE, TEXTS, VIEW, by_rail, entry, of_user
 
 OWNER, EVERYONE = entry("OWNER@", ALL), entry("EVERYONE@", VIEW)
 BOB = entry("bob", VIEW)
@@ -29,11 +29,15 @@ def shared(club):
     club.log_in("bob")
 
 
-def test_what_names_one_or_ones_group_is_found(club, browser, shared):
-    """Not what one owns, may not read, only passes through, or does not get at."""
+def test_what_names_one_or_ones_group_is_found(club, browser, shared, tells):
+    """With who shares it. Not what one owns, may not read, only passes through, or does not get at."""
+    tells("names.json", {"ann": "Ann Lee"})
+    club.log_in("bob")
     club.open()
     by_rail(browser, "Shared with you")
     assert found(browser) == ["/open/bob.txt", "/team"]
+    browser.until("who shares them", lambda: browser.script(TEXTS, ".things .who") ==
+                  ["Shared by", "Ann Lee", "Ann Lee"])
     browser.sees("You may not look into 1 folder. What is shared with you in it opens by its link.", "main")
     browser.follow("team")
     browser.until("it leads there", lambda: browser.script(PLACE) == "#open/club/team")
