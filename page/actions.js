@@ -4,8 +4,8 @@ import { copyTo, move, putBack, remove, wayBack } from "./moving.js";
 import { ADD_FILE, ADD_FOLDER, APPEND, DELETE, DELETE_CHILD, FILE, FOLDER, LARGE, MOST_BYTES, PASS_THROUGH as PASS,
   READ, READ_LIST, ROOT, UNFINISHED, WRITE, addressOf, area, ask, button, changesIn, checkbox, clean, drawRail,
   entriesOf, faultLine, filesButton, folderOf, fromBase64, fromText, hasDav, inFolder, isStarred, isTrash, keepBeside,
-  keepInTrash, lastName, make, makeLike, nameFault, nameInput, newVersion, offered, placeIn, say, showAddresses, shown,
-  t, tellFault, toBase64, toText, toldBy, trashOf, turnStar, whenWords, wholeLink, withFollows } from "./shared.js";
+  keepInTrash, lastName, make, makeLike, nameInput, newVersion, offered, placeIn, say, showAddresses, shown, t,
+  tellFault, toBase64, toText, toldBy, trashOf, turnStar, whenWords, wholeLink, withFollows } from "./shared.js";
 
 export const rightsOn = async (room, path) => await room.rights(path) ?? -1;
 
@@ -76,7 +76,7 @@ async function makeNew(app, folder, { title, fields = [], faultOf = () => "", do
     await does(inFolder(await place, clean(name.value)));
   };
   const isDone = await ask({ title, does: t.make, task, fields: [[t.heads.name, name], ...fields],
-    words: [t.yoursThen, full], faultOf: () => nameFault(clean(name.value)) || faultOf() });
+    words: [t.yoursThen, full], faultOf });
   if (!isDone) return;
   const to = await place;
   await app.done(t.isMade(shown(clean(name.value))), to === folder ? null : { from: folder, to });
@@ -179,8 +179,7 @@ async function rename(app, path) {
   const to = nameInput(lastName(path), { size: 30 });
   const target = () => inFolder(folderOf(path), clean(to.value));
   const isDone = await ask({ title: t.doTo(t.rename, shown(lastName(path))), does: t.rename,
-    fields: [[t.heads.name, to]], faultOf: () => nameFault(clean(to.value)),
-    task: () => app.room.run("RENAME", path, { to: target() }) });
+    fields: [[t.heads.name, to]], task: () => app.room.run("RENAME", path, { to: target() }) });
   if (!isDone) return;
   const now = target();
   await app.done(t.isNow(shown(path), shown(now)), { from: path, to: now }, wayBack(app, new Map([[path, now]])));

@@ -65,7 +65,7 @@ class Dialog {
   }
 
   submit() {
-    this.fault.textContent = this.faultOf();
+    this.fault.textContent = this.fields.map((it) => it.faultOf?.()).find(Boolean) ?? this.faultOf();
     if (!this.fault.textContent) this.run(this.task, true);
   }
 
@@ -131,6 +131,7 @@ export const input = (value = "", how = {}) => make("input", { value, autocomple
 
 export function nameInput(value = "", how = {}) {
   const [field, hint] = [input(value, how), make("p.about", { role: "status" })];
+  field.faultOf = () => nameFault(clean(field.value));
   const dot = value.lastIndexOf(".");
   field.addEventListener("focus", () => field.setSelectionRange(0, dot > 0 ? dot : value.length), { once: true });
   field.oninput = () => {

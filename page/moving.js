@@ -1,8 +1,8 @@
 /** Files and folders are moved, copied, removed to the trash or for good, and put back. */
 import { ACCESS, ADD_FILE, ADD_FOLDER, EXIST, FILE, FOLDER, MAX_NAMES, NOBODY, NOENT, NOTDIR, ROOT, TOO_DEEP, GaveUp,
-  Refusal, ask, calledAt, clean, faultLine, folderOf, follow, forEach, freePath, freePaths, inFolder,
-  isInTrash, isRefused, isWithin, lastName, nameAt, nameFault, nameInput, namesOf, note, noteGone, offered, orFault,
-  readFile, removeAll, shown, t, tellFaults, toTrash, toldBy, transferring, trashOf, wasAt, whole, withoutPool,
+  Refusal, ask, calledAt, clean, faultLine, folderOf, follow, forEach, freePath, freePaths, inFolder, isInTrash,
+  isRefused, isWithin, lastName, nameAt, nameInput, namesOf, note, noteGone, offered, orFault, readFile, removeAll,
+  shown, t, tellFaults, toTrash, toldBy, transferring, trashOf, wasAt, whole, withoutPool,
   writeFile } from "./shared.js";
 import { FolderTree } from "./tree.js";
 
@@ -46,7 +46,7 @@ async function askWhere(app, paths, { words, does, start = folderOf(paths[0]), c
   const [tree, name] = [new FolderTree(app, paths, start), nameInput(called)];
   const isOne = paths.length === 1;
   const goals = () => paths.map((it) => inFolder(tree.value, isOne ? clean(name.value) : lastName(it)));
-  const faultOf = () => (isOne ? nameFault(clean(name.value)) : "") || (goals().includes(paths[0]) ? t.isHere : "");
+  const faultOf = () => (goals().includes(paths[0]) ? t.isHere : "");
   const isDone = await ask({ title: t.doTo(does, shortNamed(paths)), does, words: [words, tree.element],
     fields: isOne ? [[t.heads.name, name]] : [], faultOf, task: () => task(goals()) });
   if (isDone) note(app, tree.value, true);

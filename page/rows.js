@@ -110,13 +110,13 @@ export class Row {
     const { kind, isShut } = await this.look();
     const { seers, isShared } = this.things;
     const owner = isShared && (await seers.questions.stat(this.path))?.owner;
-    const found = owner ? { words: displayName(owner) || owner, told: personText(owner) } :
-      isShared || isShut ? null : await seers.of({ path: this.path, kind });
+    const found = isShared ? { words: displayName(owner) || owner, told: personText(owner) } :
+      isShut ? null : await seers.of({ path: this.path, kind });
     const [{ who }, { words = "", told = "" }] = [this.cells, found ?? {}];
     const before = who.firstChild?.title ?? told;
     if (found && !who.firstChild) who.append(link(this.access, "", { tabIndex: -1 }));
     // (whoever stands in it stays there)
-    Object.assign(who.firstChild ?? {}, { textContent: words, title: told, hidden: !found });
+    Object.assign(who.firstChild ?? {}, { textContent: words, title: told, hidden: !words });
     const { user, room } = this.app;
     const own = found && kind === FILE && this.kindName === "text" &&
       await seers.questions.allowed(this.path, user, (await room.users())[user]);

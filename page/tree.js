@@ -1,6 +1,6 @@
 /** A field that holds a folder: a tree that opens as it is walked, and folders that were chosen before. */
 import { FOLDER, LARGE, NOTDIR, ROOT, GaveUp, ask, button, byName, calledIn, clean, foldersAbove, icon, inFolder,
-  isInTrash, isPart, isWithin, kindBy, latest, lookInto, make, nameFault, nameIn, nameInput, nameText, shown, t,
+  isInTrash, isPart, isWithin, kindBy, latest, lookInto, make, nameIn, nameInput, nameText, shown, t,
   tellIt } from "./shared.js";
 
 const MOST_RECENT = 4;
@@ -120,7 +120,7 @@ export class FolderTree {
     const [name, above] = [nameInput(), this.value];
     const path = () => inFolder(above, clean(name.value));
     const isDone = await ask({ title: t.newFolder, does: t.make, fields: [[t.heads.name, name]],
-      faultOf: () => nameFault(clean(name.value)), task: () => this.app.room.run("MKDIR", path()) });
+      task: () => this.app.room.run("MKDIR", path()) });
     if (!isDone) return;
     const it = this.items.get(above);
     if (it) this.close(it);

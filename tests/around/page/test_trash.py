@@ -219,8 +219,8 @@ def test_save_that_cannot_keep_the_version_before(club, browser, trashes):
     browser.press("Save")
     browser.sees("Saved.", "#notices")
     assert club.text(path) == "second"
-    club.lets("bob", path, 0x3, 0)
-    club.log_in("bob")
+    club.lets("eve", path, 0x3, 0)
+    club.log_in("eve")
     club.open(path)
     edit(browser, "third")
     assert browser.script(TICKED) is None
