@@ -5,7 +5,7 @@ from urllib.parse import quote
 import pytest
 from room_client import trash
 
-from .club import (ALL, DIALOG, MENU, TEXTS, TYPED, USERS, by_menu, by_rail, edit, entry, forget_told,
+from .club import (ALL, DIALOG, MENU, TEXTS, TYPED, USERS, VIEW, by_menu, by_rail, edit, entry, forget_told,
                    of_folder, offers, row, to_folder)
 
 OLD, (TRASH, *_) = "/trash/ann", trash.places_of("ann")  # (the first is that of rooms of before)
@@ -220,6 +220,7 @@ def test_save_that_cannot_keep_the_version_before(club, browser, trashes):
     browser.sees("Saved.", "#notices")
     assert club.text(path) == "second"
     club.lets("eve", path, 0x3, 0)
+    club.lets("eve", trash.places_of("eve")[0].rsplit("/", 1)[0], VIEW, 0)
     club.log_in("eve")
     club.open(path)
     edit(browser, "third")
