@@ -7,8 +7,8 @@ import { ACCESS, ADD_FILE, ADD_FOLDER, FILE, FOLDER, LARGE, MANIFEST, NOBODY, PA
   closedLine, faultLine, filesButton, folderOf, foldersAbove, fromBase64, givenHere, hasDav, icon, inFolder, inOrder,
   isAlike, isFor, isInTrash, isNamed, isOwnTrash, isPart, isPdf, isPicture, isTrash, kindBy, lastName, latest, link,
   make, manifestAt, menuButton, nameAt, note, nothing, offered, once, orFault, ownOf, ownTrash, ownedWords, part,
-  pointOf, preview, readFile, shown, sizeWords, stars, t, toText, upload, walk, whomOf, withoutPool } from
-  "./shared.js";
+  pointOf, preview, readFile, shown, sizeWords, stars, t, toText, upload, walk, whomOf,
+  withoutPool } from "./shared.js";
 import { Things } from "./things.js";
 
 const PREVIEWED = 2 ** 22; // bytes of a large file that are read unasked

@@ -1,7 +1,7 @@
 /** The panel by which an object is shared: who has access, by what, and whether they get there. */
 import { FOLDER, MOST_ENTRIES, PASS_THROUGH, button, byWhom, checkbox, entriesOf, givenHere, inOrder, input, isAlike,
-  isDeny, levelOf, make, menuButton, onSubmit, personText, presetsOf, sharesOf, t, usersBy, whomOf, whomWords } from
-  "./common.js";
+  isDeny, levelOf, make, menuButton, onSubmit, personText, presetsOf, sharesOf, t, usersBy, whomOf,
+  whomWords } from "./common.js";
 
 const MOST_FITS = 8; // names that are shown at once
 
