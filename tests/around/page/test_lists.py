@@ -132,11 +132,12 @@ def closed(club, whole):
 
 def test_matrix_of_a_large_file(club, browser, whole):
     """It is one document."""
-    levels = ["Full control", "Can view", "Can add and edit"]
+    levels = [["whole/", "Full control", "Can view", "Can add and edit"],
+              *([it, "Full control", "Can view", "Can edit"] for it in ("large", "small"))]
     club.open("/whole", "who")
-    assert browser.script(MATRIX) == [[it, *levels] for it in ("whole/", "large", "small")]
+    assert browser.script(MATRIX) == levels
     club.open(whole, "who")
-    assert browser.script(MATRIX) == [["large", *levels]]
+    assert browser.script(MATRIX) == [levels[1]]
 
 
 def test_matrix_of_a_large_file_whose_pieces_are_closed(club, browser, whole, closed):
