@@ -56,7 +56,6 @@ class GridKeys {
   constructor(things) {
     Object.assign(this, { things, letters: "", typedAt: 0, at: null });
     things.table.onkeydown = (event) => event.target.closest("[popover]") || this.key(event);
-    things.table.onfocusin = (event) => this.stand(event.target);
     this.stand(things.shown[0].link);
   }
 
@@ -128,7 +127,10 @@ export class Things {
       ariaMultiSelectable: "true", onclick: (event) => this.click(event), ondblclick: (event) => this.open(event),
       oncontextmenu: (event) => this.menu(event) }, this.head(), this.bodies);
     this.details = new Details(this);
-    this.table.addEventListener("focusin", (event) => rowOf(event) && this.details.show(rowOf(event)));
+    this.table.addEventListener("focusin", (event) => {
+      this.keys.stand(event.target);
+      if (rowOf(event)) this.details.show(rowOf(event));
+    });
     this.element = make("div.listed", this.table, this.details.element);
     this.draw();
     this.keys = new GridKeys(this);

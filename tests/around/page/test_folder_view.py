@@ -16,6 +16,7 @@ WIDTH = "return document.documentElement.scrollWidth"
 MENU_AT = ("document.querySelector(arguments[0]).dispatchEvent(new MouseEvent('contextmenu', {bubbles: true, "
            "cancelable: true, button: 2, clientX: 90, clientY: 300}))")
 BOX = "const it = document.querySelector('.menu').getBoundingClientRect(); return [it.left, it.bottom]"
+STOPS = "return [...document.querySelectorAll('.things [tabindex=\"0\"]')].map((it) => it.ariaLabel)"
 TO_SEARCH = "return document.activeElement.closest('#search') !== null"
 AWAY = "document.activeElement.blur()"
 
@@ -155,7 +156,8 @@ def test_the_second_click_of_a_double_click_leads_nowhere(browser, frame):
 # Keys
 
 def test_keys_move_in_the_list(browser, frame):
-    """Arrows, Home, End and letters."""
+    """Arrows, Home, End and letters. The tab key stops at one place of it."""
+    browser.devtools("Emulation.setFocusEmulationEnabled", enabled=True)  # (else no tab but the first is told of it)
     browser.keys(*TO_ROW)
     for keys, at in (["down"], "cellar"), (["end"], "notes.txt"), (["home"], "attic"), (["l"], "letter.docx"), \
             (["up"], "bill.pdf"), (["li"], "list.xlsx"), (["right", "right"], "eng"), \
@@ -163,6 +165,7 @@ def test_keys_move_in_the_list(browser, frame):
         browser.keys(*keys)
         assert (keys, browser.script(FOCUS)) == (keys, at)
         browser.script("return new Promise((go) => setTimeout(go, 750))")  # (letters begin anew)
+    assert browser.script(STOPS) == ["More for list.xlsx"]
 
 
 def test_keys_choose_in_the_list(browser, frame):
