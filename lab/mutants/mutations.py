@@ -191,7 +191,7 @@ def constants(source, node):
         yield source.span(node), str(not its)
     elif isinstance(its, int):
         is_mode = text.startswith("0o") and its < 0o1000
-        yield source.span(node), ("0o777" if its != 0o777 else "0o700") if is_mode else str(its + 1)
+        yield source.span(node), ("0o777" if its != 0o777 else "0o700") if is_mode else str(its + 1 if its < 3 else 2 * its + 1)
     elif isinstance(its, float):
         yield source.span(node), str(its * 2 + 1)
 

@@ -1,6 +1,7 @@
 """The sign-in service by itself: when it asks the directory, when it does not, and what it keeps."""
 import base64
 import contextlib
+import itertools
 import json
 import os
 import socket
@@ -14,7 +15,7 @@ from nginx import FOLDER, certified
 from served import WAIT, text_of, until
 
 sys.path.append(os.path.join(FOLDER, "..", "signin"))
-from fileroom_signin import app, known
+from fileroom_signin import app, directory as ldap, known
 from fileroom_signin.directory import Directory as Asked
 from fileroom_signin.directory import Down
 
@@ -233,6 +234,13 @@ def test_threads_are_left_for_who_was_right(service):
     assert left >= 8
 
 
+def test_who_came_past_the_look_counts_still(service, monkeypatch):
+    """Others may have been wrong since."""
+    monkeypatch.setattr(service.known, "is_shut", lambda *_: False)
+    assert {service.ask("bob", f"no{at}") for at in range(9)} == {401}
+    assert len(service.directory.asked) == 3
+
+
 def test_who_is_shut_out_waits_for_no_place(service):
     """That it is wrong is told at once, and counted by the front."""
     assert [service.ask("bob", f"no{at}") for at in range(3)] == [401] * 3
@@ -261,6 +269,14 @@ def test_whose_question_fails_leaves_the_place(service):
     assert {service.ask(f"u{at}", "x") for at in range(app.THREADS)} == {503}
     service.directory.down = None
     assert service.ask("ann", "ann-word") == 204
+
+
+ANN = base64.b64encode(b"ann:ann-word").decode()
+
+
+@each("its", [("in capitals", f"BASIC {ANN}"), ("small", f"basic {ANN}"), ("blanks around it", f"Basic  {ANN} ")])
+def test_other_forms_of_a_field(service, its):
+    assert service.asks(its, "ann") == 204
 
 
 @each("its, name", [
@@ -337,13 +353,24 @@ def pair(tmp_path_factory):
     return certified(str(tmp_path_factory.mktemp("cert")), "IP:127.0.0.1")
 
 
+def part(kind, its, is_long=False):
+    """(Active Directory writes each length in four bytes.)"""
+    return bytes([kind]) + (b"\x84" + len(its).to_bytes(4, "big") if is_long else bytes([len(its)])) + its
+
+
+def answer_to(asked, kind, code, is_long=False):
+    """The answer to a message that has a short number."""
+    its = part(0x0A, bytes([code]), is_long) + part(0x04, b"", is_long) * 2
+    return part(0x30, asked[2:5] + part(kind, its, is_long), is_long)
+
+
 @pytest.fixture
 def speaks(pair):
-    """Serves one that answers each request with this kind and code, by TLS or not; and what it got."""
+    """Serves one that answers each request as this says, by TLS or not; and what it got."""
     cert, key = pair
     listeners = []
 
-    def serve(kind, code, is_tls=True, more=b"\x04\x00\x04\x00"):
+    def serve(says, is_tls=True, binds=("uid={},ou=people",)):
         listener, got = socket.create_server(("127.0.0.1", 0)), []
         listeners.append(listener)
 
@@ -358,14 +385,12 @@ def speaks(pair):
                 context.load_cert_chain(cert, key)
                 line = context.wrap_socket(line, server_side=True)
             with line, contextlib.suppress(OSError):
-                while data := line.recv(4096):
+                while (data := line.recv(4096)) and (told := says(data)):
                     got.append(data)
-                    its = b"\x0a\x01" + bytes([code]) + more
-                    told = data[2:5] + bytes([kind, len(its)]) + its
-                    line.sendall(bytes([0x30, len(told)]) + told)
+                    line.sendall(told)
         threading.Thread(target=answer, daemon=True).start()
         scheme = "ldaps" if is_tls else "ldap"
-        conf = {"servers": [f"{scheme}://127.0.0.1:{listener.getsockname()[1]}"], "binds": ["uid={},ou=people"],
+        conf = {"servers": [f"{scheme}://127.0.0.1:{listener.getsockname()[1]}"], "binds": binds,
                 "ca": open(cert, encoding="utf-8").read()}
         return Asked(conf, lambda words: None), got
     yield serve
@@ -373,26 +398,60 @@ def speaks(pair):
         it.close()
 
 
+def codes(kind, *its, is_long=False):
+    """What answers with one of these codes after another."""
+    left = itertools.cycle(its)
+    return lambda asked: answer_to(asked, kind, next(left), is_long)
+
+
 @each("code, answer", [("right", 0, True), ("wrong", 49, False)])
 def test_yes_or_no(speaks, code, answer):
-    directory, got = speaks(BIND, code)
+    for is_long in False, True:
+        directory, got = speaks(codes(BIND, code, is_long=is_long))
+        assert directory.is_right("ann", "ann-word") is answer
+        assert b"uid=ann,ou=people" in got[0] and b"ann-word" in got[0]
+
+
+@each("its, answer", [("the first one", (0, 49), True), ("the second one", (49, 0), True), ("none", (49, 49), False)])
+def test_any_place_of_a_name_is_enough(speaks, its, answer):
+    """People of several parts of a directory. Where one lets them in, no other is asked."""
+    directory, got = speaks(codes(BIND, *its), binds=("uid={},ou=a", "uid={},ou=b"))
     assert directory.is_right("ann", "ann-word") is answer
-    assert b"uid=ann,ou=people" in got[0] and b"ann-word" in got[0]
+    assert [b"ou=b" in it for it in got if b"ann-word" in it] == [False, True][:(*its, 0).index(0) + 1]
 
 
 @each("code", [("an error of its own", 1), ("of the protocol", 2), ("stronger authentication", 8), ("a referral", 10),
                ("busy", 51), ("unwilling", 53), ("no such object", 32)])
 def test_neither_yes_nor_no(speaks, code):
     """It goes to no other server, and is no wrong password."""
-    directory, got = speaks(BIND, code)
+    directory, got = speaks(codes(BIND, code))
     with pytest.raises(Down) as told:
         directory.is_right("ann", "ann-word")
-    assert "terminated" not in str(told.value)
+    assert f"code {code}" in str(told.value) and not told.value.may_count
     assert len([it for it in got if b"ann-word" in it]) == 1
 
 
+@each("says", [
+    ("another number", lambda asked: answer_to(b"\x30\0\x02\x01\x7f", BIND, 0)),
+    ("another kind", lambda asked: answer_to(asked, EXTENDED, 0)),
+    ("no code", lambda asked: part(0x30, asked[2:5] + part(BIND, part(0x04, b"\0")))),
+    ("a code of no byte", lambda asked: part(0x30, asked[2:5] + part(BIND, part(0x0A, b"")))),
+    ("a code of two", lambda asked: part(0x30, asked[2:5] + part(BIND, part(0x0A, b"\0\0")))),
+    ("a cut one", lambda asked: part(0x30, asked[2:5] + bytes([BIND, 9]) + part(0x0A, b"\0"))),
+    ("nothing in it", lambda asked: part(0x30, asked[2:5])),
+    ("another protocol", lambda asked: b"\x31" + answer_to(asked, BIND, 0)[1:]),
+    ("too much", lambda asked: b"\x30\x83\x01\x00\x01" + answer_to(asked, BIND, 0)[2:] + bytes(1 << 16)),
+    ("the end", lambda asked: b"")])
+def test_no_answer_to_what_was_asked(speaks, says):
+    """Lets nobody in, is no wrong password, and may have counted as one there."""
+    directory, _ = speaks(says)
+    with pytest.raises(Down) as told:
+        directory.is_right("ann", "ann-word")
+    assert told.value.may_count
+
+
 def test_no_password_goes_in_the_clear(speaks):
-    directory, got = speaks(EXTENDED, 2, is_tls=False)
+    directory, got = speaks(codes(EXTENDED, 2), is_tls=False)
     with pytest.raises(Down):
         directory.is_right("ann", "ann-word")
     assert got and b"ann-word" not in b"".join(got)
@@ -400,7 +459,7 @@ def test_no_password_goes_in_the_clear(speaks):
 
 def test_where_an_authority_is_named_no_other_counts(speaks, pair, tmp_path, monkeypatch):
     other, _ = certified(str(tmp_path / "other"), "IP:127.0.0.1")
-    directory, got = speaks(BIND, 0)
+    directory, got = speaks(codes(BIND, 0))
     monkeypatch.setenv("SSL_CERT_FILE", pair[0])  # (of this machine)
     conf = {"servers": directory.servers, "binds": ["{}"]}
     assert Asked(conf, lambda words: None).is_right("ann", "ann-word")
@@ -410,10 +469,32 @@ def test_where_an_authority_is_named_no_other_counts(speaks, pair, tmp_path, mon
     assert b"ann-word" not in b"".join(got)
 
 
-def test_a_fault_is_told_once_in_a_while(clock):
+def test_a_fault_is_told_once_in_a_while(clock, monkeypatch):
+    monkeypatch.setattr(ldap, "time", clock)
     told = []
     its = Asked({"servers": [], "binds": []}, told.append)
-    its.note("away")
-    its.note("away")
-    its.note("other")
-    assert told == ["away", "other"]
+    for later, words in (0, "away"), (9, "away"), (0, "other"), (2, "away"), (1, "away"), (0, "other"):
+        clock.now += later
+        its.note(words)
+    assert told == ["away", "other", "away"]
+
+
+def test_a_server_has_the_port_of_its_scheme():
+    its = Asked({"servers": ["ldaps://dc", "ldap://dc", "ldaps://dc:1"], "binds": []})
+    assert its.servers == ["ldaps://dc:636", "ldap://dc:389", "ldaps://dc:1"]
+
+
+def test_addresses_of_a_name_share_the_time(monkeypatch, clock):
+    """So that the next server is asked in time. What the last one says is told."""
+    monkeypatch.setattr(ldap, "time", clock)
+    asked = []
+
+    def connect(address, seconds):
+        asked.append((address, seconds))
+        raise OSError(f"no {address[0]}")
+    names = [(0, 0, 0, "", (it, 636, 0)) for it in "abbc"]
+    monkeypatch.setattr(ldap.socket, "getaddrinfo", lambda *_, **__: names)
+    monkeypatch.setattr(ldap.socket, "create_connection", connect)
+    with pytest.raises(OSError, match="no c"):
+        ldap.Line("ldaps://dc:636", None, clock.now + 3)
+    assert asked == [((it, 636), seconds) for it, seconds in (("a", 1), ("b", 1.5), ("c", 3))]
