@@ -102,8 +102,10 @@ class Page:
 
 
 class Person:
+    number = itertools.count(1)  # of all: no two take the same name for a temporary file
+
     def __init__(self, place, name, page):
-        self.place, self.name, self.page, self.number = place, name, page, itertools.count(1)
+        self.place, self.name, self.page = place, name, page
         place.write(f"people/{name}.word", f"{name}-word\n", 0o600)
         self.state, self.refused = place.at(f"people/{name}.state"), 0
 
