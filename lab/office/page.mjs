@@ -50,10 +50,10 @@ async function flood(room, top) {
 }
 
 const faults = []; // that were told behind an answer
-const QUIET = { ...NOBODY, fail: (words) => faults.push(words), behind: () => QUIET };
+const quiet = () => ({ ...NOBODY, fail: (words) => faults.push(words), behind: quiet }); // (one for each save)
 
 const does = {
-  save: async (room, { path, file }) => writeFile(room, path, new Uint8Array(await readDisk(file)), QUIET),
+  save: async (room, { path, file }) => writeFile(room, path, new Uint8Array(await readDisk(file)), quiet()),
   async read(room, { path }) {
     const sum = await crypto.subtle.digest("SHA-256", await readFile(room, path));
     return Buffer.from(sum).toString("hex");
