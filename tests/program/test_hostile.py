@@ -19,7 +19,7 @@ import pytest
 from given import number
 from plain import NAMES as REFUSALS, refusal
 from rows import other_rows
-from served import HERE, PROGRAM, SID, Line, Room, answers, findings_of, least, message, session, slot, whole
+from served import HANGS, HERE, PROGRAM, SID, Line, Room, answers, findings_of, least, message, session, slot, whole
 from streams import Dice, Stream
 
 STREAMS, SERVED, SEED = number("STREAMS", 2000), number("SERVED", 100), number("SEED", 1)
@@ -216,7 +216,7 @@ def asked(line, pieces):
 def lists_of(db):
     """The status of tools/lists over a file, and its last line."""
     words = [os.path.join(HERE, "..", "tools", "lists"), db]
-    ran = subprocess.run(words, capture_output=True, text=True, timeout=60)
+    ran = subprocess.run(words, capture_output=True, text=True, timeout=HANGS)
     return ran.returncode, ran.stdout.splitlines()[-1:]
 
 

@@ -22,7 +22,7 @@ import beside
 import pytest
 from disk import held, points, recorded, written
 from given import number
-from served import Room, findings_of, message, put_version_1, run, session, slot
+from served import HANGS, Room, findings_of, message, put_version_1, run, session, slot
 
 STATES, SEED = number("STATES", 400), number("SEED", 1)
 FRESH = b" /\n  A 03 001f07ff OWNER@\n  A 03 001200a9 GROUP@\n"
@@ -80,7 +80,7 @@ class Init:
         self.files, self.theirs = ({}, None) if in_log is None else others(os.path.join(folder, "room.db"), in_log)
         self.name, self.log = name, os.path.join(folder, "calls")
         written(made, self.files)
-        assert recorded(["init", os.path.join(made, "room.db"), "ann", "eng"], self.log).wait(60) == 0
+        assert recorded(["init", os.path.join(made, "room.db"), "ann", "eng"], self.log).wait(HANGS) == 0
 
     def fault(self, folder, files, is_over):
         """What is wrong where a loss of power left these files, or None."""

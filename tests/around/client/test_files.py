@@ -17,6 +17,7 @@ from room_client.line import Line
 from room_client.manifest import MOST, PIECE
 from room_client.slots import Slot
 from room_client.uploads import Upload
+from served import HANGS
 
 from .desk import ALL, COMMAND, EVERYBODY, STOPPED, VIEW, before_first, in_child, is_pending, parts, some, steps_to
 
@@ -52,7 +53,7 @@ def test_progress_at_a_terminal_alone(desk):
     for words, far in (("get", "/a", "out"), "/a: 512 KiB"), (("put", "in", "/a"), "/a: 100 %"):
         done = subprocess.run([sys.executable, "-B", COMMAND, *desk.words_of("ann"), *words], env=desk.environment(),
                               cwd=desk.folder, stdout=subprocess.PIPE, stderr=terminal, stdin=subprocess.DEVNULL,
-                              timeout=60)
+                              timeout=HANGS)
         assert done.returncode == 0
         said = os.read(main, 1 << 16).decode()
         assert far in said

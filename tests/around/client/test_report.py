@@ -12,6 +12,7 @@ import pytest
 from given import each
 from room_client import BadWords, files, report
 from room_client.reading import manifest_at
+from served import HANGS
 
 from .desk import CLIENT, COMMAND
 
@@ -64,7 +65,7 @@ def test_report_at_a_terminal(desk, told):
     """Whoever types is told that the command reads what is typed."""
     ours, theirs = pty.openpty()
     os.write(ours, told() + b"\x04")
-    done = subprocess.run([COMMAND, "report"], stdin=theirs, capture_output=True, text=True, timeout=60,
+    done = subprocess.run([COMMAND, "report"], stdin=theirs, capture_output=True, text=True, timeout=HANGS,
                           env=desk.environment())
     os.close(ours)
     os.close(theirs)

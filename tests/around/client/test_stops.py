@@ -14,7 +14,7 @@ from room_client import SessionLost, slots
 from room_client.line import Line
 from room_client.manifest import PIECE
 from room_client.state import SLOTS, State
-from served import sqlite, until, waiting_at
+from served import HANGS, sqlite, until, waiting_at
 
 from .desk import STOPPED, in_child, is_pending, some, steps_to
 
@@ -80,9 +80,9 @@ LONG = "--patience", "120"  # (the key comes before that ends)
 
 def interrupts(child, is_under_way):
     """Once that is so. Its status, and what it said."""
-    assert until(is_under_way, pause=0.002), "nothing is under way"
+    assert until(is_under_way), "nothing is under way"
     child.send_signal(signal.SIGINT)
-    out, err = child.communicate(timeout=120)
+    out, err = child.communicate(timeout=HANGS)
     return child.returncode, out, err.decode()
 
 

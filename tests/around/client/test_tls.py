@@ -9,6 +9,7 @@ from unittest import mock
 import pytest
 from given import each
 from room_client import BadWords, Room, Settings
+from served import HANGS
 
 AWAY = ["http://192.0.2.2/rooms/plans", "http://room.example:8080", "http://128.0.0.1", "http://[2001:db8::1]:8080",
         "http://localhost.example", "http://127.0.0.1.example", "http://[::ffff:192.0.2.2]"]
@@ -37,7 +38,7 @@ def says(desk):
     """What is told of a front with a certificate of its own authority, for these names, that ends in so many days."""
     def make(kind, *words):
         line = ["openssl", kind, *words, *(["-newkey", "rsa:2048", "-nodes"] if kind == "req" else [])]
-        subprocess.run(line, cwd=desk.folder, check=True, capture_output=True, timeout=60)
+        subprocess.run(line, cwd=desk.folder, check=True, capture_output=True, timeout=HANGS)
 
     def serve(names, days):
         desk.file("names", f"subjectAltName={names}".encode())

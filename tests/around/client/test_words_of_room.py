@@ -8,7 +8,7 @@ import subprocess
 import pytest
 from given import each
 from room_client import command, faults
-from served import text_of
+from served import HANGS, text_of
 
 from .desk import CLIENT, COMMAND
 
@@ -46,7 +46,7 @@ def completed(tmp_path):
     (tmp_path / "a-file").touch()
 
     def completed(*words, begin="''"):
-        how = {"capture_output": True, "text": True, "check": True, "cwd": tmp_path, "timeout": 30}
+        how = {"capture_output": True, "text": True, "check": True, "cwd": tmp_path, "timeout": HANGS}
         return {*subprocess.run(["bash", "-c", by_bash(COMMAND, *words, begin)], **how).stdout.split()}
     return completed
 
@@ -88,7 +88,7 @@ def line(desk):
 
 def completes(desk, *line, **more):
     done = subprocess.run(line, capture_output=True, text=True, env=desk.environment() | more, cwd=desk.folder,
-                          stdin=subprocess.DEVNULL, timeout=60)
+                          stdin=subprocess.DEVNULL, timeout=HANGS)
     return sorted(done.stdout.splitlines()), done.stderr
 
 

@@ -107,7 +107,7 @@ def test_what_nobody_reads_is_in_no_memory(desk, mapped):
         said = [begins(lines, socket.AF_UNIX, desk.path("gate.sock"), "/mapped") for _ in range(turns.MOST_UNREAD)]
         assert said == [b"200"] * turns.MOST_UNREAD
         assert mapped() < LARGE // 2
-    assert until(lambda: desk.ask("ann", "HEAD", "/mapped").status == 200, 60, 0.1)
+    assert until(lambda: desk.ask("ann", "HEAD", "/mapped").status == 200, pause=0.1)
 
 
 def test_what_is_sent_is_in_no_memory(desk, mapped):

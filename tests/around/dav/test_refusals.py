@@ -5,6 +5,7 @@ import subprocess
 
 import pytest
 from given import each
+from served import HANGS
 
 from .desk import ANNS, BOB_READS, BOB_WRITES, EXCLUSIVE, HERS, PASSWORDS, SHARED, make_folders, tag_of
 
@@ -203,7 +204,7 @@ def test_a_body_of_a_length_that_is_not_told(desk):
         assert desk.get("ann", "/chunked") == b"".join(parts)
     desk.does("ann", "PUT", "/chunked", 204, b"1\r\nx\r\n0\r\n\r\n", Transfer_Encoding="Chunked")
     words = ["curl", "-s", "-o", "/dev/null", "-w", "%{http_code}", "-u", f"ann:{PASSWORDS['ann']}", "-T", "-"]
-    said = subprocess.run([*words, desk.url("/chunked")], input=large, capture_output=True, timeout=120).stdout
+    said = subprocess.run([*words, desk.url("/chunked")], input=large, capture_output=True, timeout=HANGS).stdout
     assert (said, desk.get("ann", "/chunked")) == (b"204", large)
     top = b'<D:propfind xmlns:D="DAV:"><D:prop><D:resourcetype/></D:prop></D:propfind>'
     desk.does("ann", "PROPFIND", "/chunked", 207, iter([top[:9], top[9:]]), Depth="0")

@@ -109,7 +109,7 @@ def test_turns_to_compute(floor):
         comes("ann", 0.1, lambda: comes("ann", 0.1))
     computes("eve", 1.0, others_come)
     for it in crew:
-        it.join(60)
+        it.join(WAIT)
     assert order == ["eve", "fay", "ann", "ann", "eve", "fay", "eve"]
     assert (floor.login, floor.waiting, floor.spent) == (None, {}, {})
 
@@ -229,7 +229,7 @@ def front_saying(gate, *statuses, meanwhile=lambda: None):
         one = threading.Thread(target=answers, daemon=True)
         one.start()
         yield behind
-        one.join(20)
+        one.join(WAIT)
 
 
 ANN = types.SimpleNamespace(user="ann", password="word")

@@ -11,7 +11,7 @@ import pytest
 from fileroom_admin import rosters
 from given import each
 from nginx import FOLDER, login
-from served import Line, least, message, text_of, until
+from served import HANGS, Line, least, message, text_of, until
 
 from .sides import LEAST, OPEN_AT_ONCE, ROOM, SOON, at_once, log_of, said_long, values, wrong
 
@@ -99,7 +99,7 @@ def test_lines_of_wrong_logins(guessed):
 @pytest.mark.skipif(not shutil.which("fail2ban-regex"), reason="this machine lacks fail2ban")
 def test_fail2ban_finds_each_line(guessed):
     words = ["fail2ban-regex", "--out", "ip", log_of(guessed, "fileroom-logins.log"), f"{FAIL2BAN}/filter.conf"]
-    assert subprocess.run(words, capture_output=True, text=True, timeout=60).stdout.split() == ["127.0.0.3"] * 3
+    assert subprocess.run(words, capture_output=True, text=True, timeout=HANGS).stdout.split() == ["127.0.0.3"] * 3
 
 
 @pytest.mark.skipif(not shutil.which("fail2ban-client"), reason="this machine lacks fail2ban")
@@ -112,7 +112,7 @@ def test_the_jail_is_one(tmp_path):
     for kind in "filter", "jail":
         text = text_of(f"{FAIL2BAN}/{kind}.conf").replace("/var/log/nginx/fileroom-logins.log", str(tmp_path / "log"))
         (etc / f"{kind}.d" / "fileroom.conf").write_text(text)
-    done = subprocess.run(["fail2ban-client", "-c", etc, "-t"], capture_output=True, text=True, timeout=60)
+    done = subprocess.run(["fail2ban-client", "-c", etc, "-t"], capture_output=True, text=True, timeout=HANGS)
     assert (done.returncode, "successful" in done.stdout) == (0, True), done.stderr
 
 

@@ -12,7 +12,7 @@ import time
 import pytest
 from given import each
 from nginx import login
-from served import Line, end_with_parent, least, message, text_of
+from served import HANGS, Line, end_with_parent, least, message, text_of
 
 from .sides import BURST, CHECK, OPEN_AT_ONCE, ROOM, SESSION, log_of, said_long, sent_at_once, until_too_many
 
@@ -141,11 +141,13 @@ def test_slow_callers(front, peer):
 
 def test_half_a_head(front):
     """One that does not end is not waited for longer than the front says."""
-    begin = time.monotonic()
-    with contextlib.closing(Line(front.port)) as line, contextlib.suppress(OSError):
-        line.send(message(None, "GET", "/", fields=front.fields(None))[:-4])
-        line.to_end()
-    assert time.monotonic() - begin < 55  # (nginx by itself waits for a minute)
+    def seconds():
+        begin = time.monotonic()
+        with contextlib.closing(Line(front.port)) as line, contextlib.suppress(OSError):
+            line.send(message(None, "GET", "/", fields=front.fields(None))[:-4])
+            line.to_end()
+        return time.monotonic() - begin
+    assert least(seconds, 55, 3) < 55  # (nginx by itself waits for a minute)
 
 
 def test_too_many_connections(fronted):
@@ -179,7 +181,7 @@ def longest_wait(front):
         found.add(front.status("u01", "GET", "/whoami", source="127.0.0.9"))
         longest = max(longest, time.monotonic() - begin)
         time.sleep(0.05)
-    said = [re.sub(r"\x1b\[[0-9;]*[A-Za-z]", "", it.communicate(timeout=60)[0]) for it in tools]
+    said = [re.sub(r"\x1b\[[0-9;]*[A-Za-z]", "", it.communicate(timeout=HANGS)[0]) for it in tools]
     assert found == {200}
     is_there = [set(re.findall(r"available: +(\w+)", it)) for it in said] == 3 * [{"YES"}]
     return longest if is_there else math.inf

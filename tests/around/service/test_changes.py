@@ -11,7 +11,7 @@ import sys
 import pytest
 from given import each
 from nginx import Front
-from served import HERE, Line, Room, bytes_of, message, put_file
+from served import HANGS, HERE, Line, Room, bytes_of, message, put_file
 
 from .contents import INSIDE, measured
 from .machines import ADMIN
@@ -42,7 +42,7 @@ def log_of(root, lines, name="changes.log"):
 def tells(root, *words):
     """The status, who did what, and what is told as a fault."""
     line = [sys.executable, "-B", ADMIN, "--root", root, "log", "plans", *words]
-    done = subprocess.run(line, capture_output=True, text=True, timeout=120)
+    done = subprocess.run(line, capture_output=True, text=True, timeout=HANGS)
     return done.returncode, [it.split("  ", 3)[1::2] for it in done.stdout.splitlines()], done.stderr
 
 
