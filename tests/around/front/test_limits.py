@@ -28,6 +28,7 @@ BY_GATEWAY = 600  # requests of one login that come at once; those of four are m
 
 @each("burst, a_second, asked, addresses, free", [
     ("requests", BURST, 1, [("GET", "/whoami", 0)], 1, [("GET", "/index.html", 0)]),
+    ("the page", BURST, 1, [("GET", "/index.html", 0)], 1, [("GET", "/whoami", 0)]),
     ("sessions", 30, 0.1, [("POST", it, 2) for it in OPENS], 4,
      [("DELETE", ROOM + SESSION, 0), ("POST", SLOT + "1", 0)]),
     ("large bodies", 20, 2, [("POST", CHECK, 1000)], 4, [("POST", CHECK, 999)]),
@@ -153,11 +154,14 @@ def seconds_of(front, peer, form, pause, others=()):
     return time.monotonic() - begin
 
 
-@each("form, took, is_held", [("SETLIST", FORMS[0], 1, True), ("one of very long", FORMS[0], 8, True),
-                              ("RENAME in its folder", SHORT[0], 1, False)])
-def test_the_answer_to_a_long_one_is_held_back(front, peer, form, took, is_held):
-    """Where it took long."""
-    assert (least(lambda: seconds_of(front, peer, form, took), 3, 1 if is_held else 9) > 3) == is_held
+@each("form, took, held", [("SETLIST", FORMS[0], 1, 3), ("one of very long", FORMS[0], 8, 3),
+                           ("one of a moment", FORMS[0], 0.2, 0.9), ("RENAME in its folder", SHORT[0], 1, None)])
+def test_the_answer_to_a_long_one_is_held_back(front, peer, form, took, held):
+    """Where it took long, for so many seconds at least."""
+    def seconds():
+        assert until(lambda: 0.1 < time.time() % 1 < 0.4)  # (nginx counts whole ones)
+        return seconds_of(front, peer, form, took)
+    assert (least(seconds, held or 3, 1 if held else 9) > (held or 3)) == bool(held)
 
 
 @each("form, much, is_held", [
@@ -168,7 +172,7 @@ def test_the_answer_to_one_that_took_less(front, peer, form, much, is_held):
     peer.said = peer.said.replace(b"\r\n", b"\r\n" + much, 1)
 
     def seconds():
-        assert until(lambda: 0.1 < time.time() % 1 < 0.4)  # (nginx counts whole ones)
+        assert until(lambda: 0.1 < time.time() % 1 < 0.4)
         return seconds_of(front, peer, form, 0.03)
     found = least(seconds, 0.9, 4 if is_held else 9)
     assert (0.9 < found < 5) if is_held else (found < 0.9)
@@ -177,6 +181,7 @@ def test_the_answer_to_one_that_took_less(front, peer, form, much, is_held):
 
 @each("rate, took, much, most", [
     ("for two seconds, of who had many", "30r/m", 0.03, b"room-much: 1\r\n", 9),
+    ("for four, of who had many", "15r/m", 0.03, b"room-much: 1\r\n", 12),
     ("for two, and took longer", "30r/m", 0.2, b"", 9), ("for three, and took longer", "20r/m", 0.2, b"", 6)])
 def test_the_answer_to_one_that_waited_in_the_front(fronted, peer, rate, took, much, most):
     """Since its login had asked before: it is held back as if it had not waited, and not for its wait."""
