@@ -191,7 +191,7 @@ export async function helpThem(app, object, entries, found, changes) {
   const folders = byFolder(found);
   const lacking = found.filter((it) => it.lacks);
   const told = [...[...folders].map(([it, those]) => t.shutOutAt(named(those), shown(calledIn(app.room.name, it)))),
-    ...lacking.map((it) => t.lacksStill(it.user, rightsIn(it.lacks, object.kind)))];
+    ...lacking.map((it) => t.lacksStill(personText(it.user), rightsIn(it.lacks, object.kind)))];
   const pass = () => letAll(app, object, entries, found, changes);
   const isDone = await ask({ title: t.notAll, does: folders.size > 0 && t.letPass, task: pass, stays: t.close,
     words: [t.listSet, listOf(told), folders.size > 0 && make("p.about", t.passWords)] });

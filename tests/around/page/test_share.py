@@ -82,15 +82,17 @@ def test_share_in_the_place_of_odd_entries(club, browser, passed):
     browser.sees("the group staff", ".shares")
 
 
-def test_share_beside_a_denial(club, browser, passed):
+def test_share_beside_a_denial(club, browser, passed, tells):
     """What a list denies is told where it decides; what is shared is taken away again."""
+    tells("names.json", {"bob": "Bob Ray"})
+    club.log_in("ann")
     club.sets(PATH, entry("bob", 0x10006, 3, kind=1), entry("staff", VIEW, STAFF))
     club.open(PATH, "access")
     browser.sees("Denied", ".share")
     give(browser, "Full control")
-    browser.sees("bob may still not make folders in it, make documents in it and remove or rename it", "dialog")
+    browser.sees("Bob Ray (bob) may still not make folders in it, make documents in it and remove", "dialog")
     browser.press("Close", DIALOG)
-    browser.sees("These cannot get there, or not do it: bob.", "#notices")
+    browser.sees("These cannot get there, or not do it: Bob Ray (bob).", "#notices")
     browser.press("Stop sharing with the group staff")
     browser.until("it is gone", lambda: club.own(PATH) == [(1, 3, 0x10006, "bob")])
 
