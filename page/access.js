@@ -111,7 +111,7 @@ class ListView {
       make("section.handed", { hidden: !rest.length }, make("h2", t.handedTitle),
         make("p", t.handedBehind, this.linkTo(above)), sentences(rest, this.standing, { start: own.length + 1 })),
       mayChange && make("p.actions", button(t.saveList, () => this.save(), "main"),
-        button(t.discard, () => this.leave()))));
+        button(t.discard, () => this.app.show(standing())))));
   }
 
   taking() {
@@ -238,11 +238,6 @@ class ListView {
       await setBack(this.app.room, changes);
       await this.app.done(t.listBack);
     };
-  }
-
-  leave() {
-    this.element.classList.remove("typed");
-    return this.app.show(standing());
   }
 
   async set(before = this.list) {
