@@ -108,10 +108,12 @@ def test_no_number_of_backups(room, keep):
 
 
 @each("why, name, line", [
-    ("a finding", "sqlite3 reports of the copy: row 7", "sqlite3", "echo row 7 missing from index"),
+    ("a finding", "sqlite3 reports of the copy: row 7", "sqlite3",
+     'case "$2" in *integrity_check*foreign_key_check*) echo row 7 missing from index ;; esac'),
     ("served meanwhile, by who asks for no lock", "the room was served during the copy", "cp",
      '/bin/cp "$@"\ncase "$3" in *-wal) date >>"$3" ;; esac'),
-    ("a full disk", "MiB free, and this takes", "df", "echo Avail; echo 4096")])
+    ("a full disk", "MiB free, and this takes", "df",
+     "echo Avail; echo $(($(cat ../room.db ../room.db-wal | wc -c) * 2 - 1))")])
 def test_refused(room, folder, why, name, line):
     """(The program refuses to open what sqlite3 would find, so a finding is made up.)"""
     refuses(why, room.db, room.roster, room.backups, PATH=stand_in(folder, name, line))
@@ -124,6 +126,28 @@ def test_a_damaged_room(room):
     if os.path.exists(room.db + "-wal"):
         os.remove(room.db + "-wal")  # (it may have the page)
     refuses("store failed", room.db, room.roster, room.backups)
+
+
+def noted(folder, *programs):
+    """The PATH on which these write down what they are called with, in steps."""
+    for it in programs:
+        stand_in(folder, it, f'echo "{it} $*" >>{folder}/steps; exec /bin/{it} "$@"')
+    return ":".join([*(f"{folder}/stand-in-{it}" for it in programs), os.environ["PATH"]])
+
+
+def test_on_the_disk_before_an_older_one_goes(room, folder):
+    """All of it, and its name. What a power cut left goes too, and not what another call is at."""
+    for it in ".new-left00", ".look-left00", ".new-others":
+        os.mkdir(os.path.join(room.backups, it))
+        os.utime(os.path.join(room.backups, it), None if "others" in it else (0, 0))
+    path = noted(folder, "sync", "mv", "rm")
+    status, told, faults = said(BACKUP, room.db, room.roster, room.backups, KEEP="2", PATH=path)
+    assert (status, faults) == (0, "")
+    name = os.path.basename(told.strip())
+    want = [f"sync -f .copied-{name}/room.db", f"mv -T .copied-{name} {name}", "sync -f .",
+            f"rm -r -- ./{room.kept[0]}"]
+    assert [it for it in text_of(f"{folder}/steps").splitlines() if it in want] == want
+    room.kept = [".new-others", room.kept[1], name]
 
 
 def test_no_room_and_no_words(room):
@@ -141,12 +165,14 @@ def looked_at_later(room):
     return os.path.join(room.backups, one)
 
 
-@pytest.mark.usefixtures("looked_at_later")
-def test_looked_at_later(room):
+def test_looked_at_later(room, looked_at_later):
+    """With one that an earlier look did not come to."""
+    shutil.copytree(looked_at_later, os.path.join(room.backups, ".copied-2004-01-01T00-00-00Z"))
     room.start()
     status, told, faults = said(BACKUP, "--look", room.backups)
     assert (status, faults) == (0, "")
-    room.kept.append(os.path.basename(told.strip()))
+    room.kept = sorted([*room.kept, "2004-01-01T00-00-00Z", os.path.basename(looked_at_later)[len(".copied-"):]])
+    assert told.splitlines() == [os.path.join(room.backups, it) for it in (room.kept[1], room.kept[-1])]
     assert said(BACKUP, "--look", room.backups) == (0, "", "")  # (nothing more to look at)
 
 
@@ -208,9 +234,9 @@ def test_a_manifest_beside_other_things(kept, out):
                                        ("already exists", "/a.txt"), ("begin with /", "a.txt")])
 def test_what_does_not_come_out(folder, kept, out, why, path):
     if why == "already exists":
-        os.mkdir(out)
+        os.symlink("/none", out)
     refuses(why, "--one", folder if why == "holds no backup" else kept, path, out)
-    assert os.listdir(folder) == ["out"] * os.path.exists(out)
+    assert os.listdir(folder) == ["out"] * os.path.lexists(out)
 
 
 # In a user's folder, by root: what root does there belongs to the user, and nothing of root's is touched
@@ -320,12 +346,13 @@ def test_a_link_in_a_users_folder(users, words):
 def test_a_restore_by_root_in_a_users_folder(users):
     os.mkdir(users.at("other"))
     os.chown(users.at("other"), NOBODY, NOBODY)
-    for it in "room.db.new", "planted":
+    for it in "room.db.new", "planted", "old-wal":
         os.symlink(users.secret, users.at(f"other/{it}"))
     db = users.at("other/room.db")
     assert users.does("--restore", users.copied, db) == (0, f"{db}\n", "")
     assert os.stat(db).st_uid == NOBODY
-    assert users.does("--restore", users.copied, users.at("other/planted"))[0] == 1
+    for it in "planted", "old":  # (a log of before would be taken into the room)
+        assert users.does("--restore", users.copied, users.at(f"other/{it}"))[0] == 1
 
 
 def test_a_users_program_is_not_heard_at_roots_terminal(users):
@@ -352,9 +379,10 @@ def test_a_users_program_has_nothing_of_roots(users):
 def test_of_the_front(folder):
     """Rosters, passwords and the front's files, readable by who made them alone, as they were; the latest are kept."""
     etc, backups, put = (os.path.join(folder, it) for it in ("etc", "of-the-front", "put-back"))
-    names = {"fileroom/plans.toml", "fileroom/plans.env", "fileroom/bounds.json", "fileroom/roster.conf",
-             "fileroom/directory-ca.pem", "nginx/fileroom/users", "nginx/fileroom/rooms/plans.conf",
-             "nginx/fileroom/tls/key.pem", "nginx/conf.d/fileroom.conf"}
+    names = {"fileroom/plans.toml", "fileroom/plans.env", "fileroom/plans.hosts", "fileroom/bounds.json",
+             "fileroom/roster.conf", "fileroom/directory-ca.pem", "nginx/fileroom/users",
+             "nginx/fileroom/rooms/plans.conf", "nginx/fileroom/tls/key.pem", "nginx/conf.d/fileroom.conf",
+             "nginx/conf.d/fileroom-redirect.conf", "nginx/modules-enabled/60-fileroom.conf"}
     for it in names | {"passwd", "nginx/nginx.conf"}:
         put_file(os.path.join(etc, it), it)
     os.mkdir(backups, 0o700)
@@ -362,10 +390,11 @@ def test_of_the_front(folder):
     for it in made:
         open(os.path.join(backups, it), "w").close()
     for _ in range(2):
-        status, told, faults = said(BACKUP, "--front", backups, ETC=etc, KEEP="2")
+        status, told, faults = said(BACKUP, "--front", backups, ETC=etc, KEEP="2", PATH=noted(folder, "sync", "mv"))
         assert (status, faults) == (0, "")
         made = made | {os.path.basename(told.strip())}
     assert sorted(os.listdir(backups)) == sorted(made)[-2:]  # (one a day)
+    assert [it.split()[0] for it in text_of(f"{folder}/steps").splitlines()] == ["sync", "mv"] * 2
     modes = [stat.S_IMODE(os.stat(it).st_mode) for it in (backups, told.strip())]
     assert [oct(it) for it in modes] == ["0o700", "0o600"]
     os.mkdir(put)

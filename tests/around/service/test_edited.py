@@ -10,7 +10,7 @@ import tomllib
 from unittest import mock
 
 import pytest
-from served import HERE, text_of
+from served import HERE, put_file, text_of
 
 from .contents import BACKUP, SERVICE, edit, measured
 from .machines import FOLDER
@@ -77,6 +77,43 @@ def test_a_file_that_changes_while_it_is_copied(folder, one, written, mode):
         one.copy_room(its, to)
     assert "was changed while it was copied" in str(told.value)
     assert os.path.getsize(os.path.join(to, "room.db")) == 5000
+
+
+@pytest.mark.parametrize("what", ["a link", "somebody's", "open", "full"])
+def test_another_folder_in_the_place_of_ours(folder, one, kept, what):
+    """Who has the folder of a target puts one there as ours is made: nothing comes into it."""
+    its, to = os.path.join(folder, "its"), os.path.join(folder, "to")
+    os.mkdir(its, 0o700)
+
+    def swapped(name, mode, dir_fd=None, task=os.mkdir):
+        task(name, mode, dir_fd=dir_fd)
+        if not str(name).startswith(".fileroom-"):
+            return
+        if what == "a link":
+            os.rmdir(name, dir_fd=dir_fd)
+            os.symlink(its, name, dir_fd=dir_fd)
+        elif what == "somebody's":
+            os.chown(name, 65534, 65534, dir_fd=dir_fd)
+        elif what == "open":
+            os.chmod(name, 0o755, dir_fd=dir_fd)
+        else:
+            task(f"{name}/it", mode, dir_fd=dir_fd)
+
+    with mock.patch.object(os, "mkdir", swapped), pytest.raises((one.Fault, OSError)):
+        one.take(kept, "/a.txt", one.Target(to))
+    assert (os.listdir(its), os.path.exists(to)) == ([], False)
+
+
+def test_what_comes_to_the_target_meanwhile_stays(folder, one, kept):
+    to = os.path.join(folder, "to")
+
+    def comes(*words, put=one.Taken.put):
+        put(*words)
+        put_file(to, "somebody's")
+
+    with mock.patch.object(one.Taken, "put", comes), pytest.raises(one.Fault, match="already exists"):
+        one.take(kept, "/a.txt", one.Target(to))
+    assert (text_of(to), os.listdir(folder)) == ("somebody's", ["to"])
 
 
 def test_the_tables_that_are_looked_for():

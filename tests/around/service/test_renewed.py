@@ -136,6 +136,7 @@ def lived(folder, past):
 def test_as_somebody_calls_it(lived):
     """What services are asked, what is said, and that the room goes on."""
     used, count = lived.past.used, lived.past.objects
+    lived.env.update(TMPDIR="/dev/shm")  # (another disk, from which nothing can be renamed)
     assert lived.does("room", "renew", "plans") == (
         0, f"plans: {count} objects; of 1,000,000 numbers {used} were used, and {count} are now\n", "")
     assert lived.told() == ["systemctl is-active -q fileroom@plans", "systemctl stop fileroom@plans",
@@ -244,7 +245,10 @@ def test_a_program_that_reports_another_room(lived, script):
 
 
 def test_written_to_meanwhile(lived, script):
+    """No program can, since it is locked until the new file has its name; but a hand."""
     def writes(*words, need_same=script.need_same):
+        with pytest.raises(script.Fault, match="cannot be locked"), script.held(lived.db):
+            pass
         with open(lived.db, "r+b") as file:
             file.write(b"SQLite")
         os.utime(lived.db)
@@ -253,6 +257,13 @@ def test_written_to_meanwhile(lived, script):
     with mock.patch.object(script, "need_same", writes):
         assert script.main([lived.db, lived.roster]) == 1
     assert not lived.is_renewed()
+
+
+def test_a_disk_without_space(lived, script, capfd):
+    twice = lambda _: mock.Mock(free=2 * os.path.getsize(lived.db))
+    with mock.patch.object(script.shutil, "disk_usage", twice):
+        assert script.main([lived.db, lived.roster]) == 1
+    assert ("free some space" in capfd.readouterr().err, lived.is_renewed()) == (True, False)
 
 
 def test_a_command_that_fails_starts_the_room_again(lived):
