@@ -137,8 +137,8 @@ def exported(tmp_path_factory, begun):
     told = here.does("room", "export", "plans", path)
     assert told[0] == 0, told
     with tarfile.open(path) as tar:
-        its = {it.name: tar.extractfile(it).read() for it in tar}
-    return types.SimpleNamespace(machine=here, path=path, its=its, word=word, backup=backup)
+        its, modes = {it.name: tar.extractfile(it).read() for it in tar}, [it.mode for it in tar]
+    return types.SimpleNamespace(machine=here, path=path, its=its, modes=modes, word=word, backup=backup)
 
 
 @pytest.fixture(scope="session")

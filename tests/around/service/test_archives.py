@@ -197,14 +197,23 @@ def test_what_was_in_the_rooms_folder_stays(there, exported, what):
 
 
 def test_its_log_is_there_first(tmp_path):
-    """(Where it is stopped in between, a file without its log might pass for the whole room.)"""
-    seen = []
-    archive = mock.Mock(members={"room.db": (0, 0), "room.db-wal": (0, 0)},
-                        copy=lambda *_: seen.append(sorted(os.listdir(tmp_path))))
+    """(Where it is stopped in between, a file without its log might pass for the whole room.) Both belong to the rooms'
+    user, and the disk has them."""
+    seen, kept, its = [], [], places.Places(tmp_path)
+
+    def copies(_, to):
+        seen.append(sorted(os.listdir(tmp_path)))
+        to.write(b"all of it")
+
+    its.is_machine, nobody = True, mock.Mock(pw_uid=65534, pw_gid=65534)
     folder = os.open(tmp_path, os.O_RDONLY)
-    moving.unpack(places.Places(tmp_path), archive, folder)
+    with mock.patch.object(moving.pwd, "getpwnam", return_value=nobody), mock.patch(
+            "os.fsync", lambda handle: kept.append(os.fstat(handle))):
+        moving.unpack(its, mock.Mock(members={"room.db": (0, 0), "room.db-wal": (0, 0)}, copy=copies), folder)
     os.close(folder)
     assert seen == [["room.db-wal"], ["room.db", "room.db-wal"]]
+    assert [(it.st_uid, it.st_gid, it.st_mode & 0o777, it.st_size) for it in kept[:2]] == [(65534, 65534, 0o600, 9)] * 2
+    assert kept[2].st_ino == os.stat(tmp_path).st_ino
 
 
 def test_a_log_without_its_room(there, exported):
@@ -247,20 +256,23 @@ def test_logins(there, exported, path):
     (False, "these have no login: dee\n"), (True, "these log in by the directory: dee\n")])
 def test_users_who_are_here(there, exported, path, is_asked, told):
     """Who is a user of a room that is here, and has no login or no name as people write it, gets none by an archive:
-    its maker would have the login's rooms, or choose by which name others there see somebody."""
+    its maker would have the login's rooms, or choose by which name others there see somebody. So is it with who has a
+    login or a name, and no room."""
     users = "etc/nginx/fileroom/users"
     there.does("user", "add", "club", "dee")
+    there.write("etc/nginx/fileroom/names.json", '{"eve": "Eve Ell"}\n')
     if is_asked:
         there.write("etc/nginx/fileroom/signin/directory.toml", "")
-    before = "".join(it for it in text_of(there.at(users)).splitlines(True) if it[:4] != "dee:")
+    others = [it for it in text_of(there.at(users)).splitlines() if it[:4] != "dee:"]
+    before = "".join(f"{it}\n" for it in (*others, f"eve:{OURS['kim']}"))
     there.write(users, before)
-    packed(path, exported.its | {"roster.toml": b"[users]\ndee = []\npam = []\n",
-                                 "logins": "".join(f"{it}:{OURS['bob']}\n" for it in ("dee", "pam")).encode(),
-                                 "names.json": b'{"dee": "Pam Poe", "pam": "Pam Poe"}'})
+    packed(path, exported.its | {"roster.toml": b"[users]\ndee = []\npam = []\neve = []\n",
+                                 "logins": "".join(f"{it}:{OURS['bob']}\n" for it in ("dee", "pam", "eve")).encode(),
+                                 "names.json": b'{"dee": "Pam Poe", "pam": "Pam Poe", "eve": "Pam Poe"}'})
     status, said, faults = there.does("room", "import", path)
     assert (status, told in said) == (0, True), said + faults
     assert text_of(there.at(users)) == f"{before}pam:{OURS['bob']}\n"
-    assert json.loads(text_of(there.at("etc/nginx/fileroom/names.json"))) == {"pam": "Pam Poe"}
+    assert json.loads(text_of(there.at("etc/nginx/fileroom/names.json"))) == {"eve": "Eve Ell", "pam": "Pam Poe"}
 
 
 @pytest.fixture

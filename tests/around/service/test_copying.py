@@ -23,8 +23,8 @@ TOP = os.path.join(SERVICE, "..")
 
 @pytest.fixture
 def made(machine):
-    """The room plans with a folder of what users have there: things that follow it, lists of their own, a large file;
-    and its backup, the last."""
+    """The room plans with a folder of what users have there: things that follow it, lists of their own, also an empty
+    one, a large file; and its backup, the last."""
     machine.write("etc/fileroom/plans.toml", '[users]\nann = ["eng"]\nbob = ["staff"]\nkim = []\n')
     its = Served(machine)
     its.holds("ann", "SETLIST", "/", aclflag=0, entries=FOR_ALL)
@@ -36,9 +36,10 @@ def made(machine):
     for path, owner, entries, flags in (
             ("/w/team", "kim", [ALL | {"who": "staff", "flag": 0x43}], 1), ("/w/team/x", "bob", None, 1),
             ("/w/secret/in", "bob", [{"type": 0, "flag": 0, "mask": 1, "who": "EVERYONE@"}], 1),
-            ("/w/doc", "bob", None, 1), ("/w/secret", "bob", [ALL | {"who": "OWNER@"}], 2)):
+            ("/w/doc", "bob", None, 1), ("/w/big", "ann", [], 2),
+            ("/w/secret", "bob", [ALL | {"who": "OWNER@"}], 2)):
         assert its.holds("ann", "CHOWN", path, owner=owner, group="staff")["code"] == 0
-        if entries:
+        if entries is not None:
             assert its.holds(owner, "SETLIST", path, aclflag=flags, entries=entries)["code"] == 0
     its.room.kill()
     machine.backed_up()
@@ -89,6 +90,8 @@ def test_all_is_as_it_was_but_for_who_is_not_there(made, club):
     assert (owner, len(want)) == ("kim", 10)
     club.room.kill()
     assert things(made, "club", "/new") == want | {"/team": (kind, "ann", *more)}
+    with sqlite3.connect(f"file:{made.at('var/lib/fileroom/club/room.db')}?mode=ro", uri=True) as table:
+        assert table.execute("SELECT sum(open) FROM session WHERE owner = 'ann'").fetchone() == (1,)  # (the test's)
 
 
 def test_nobody_is_let_in_before_the_list_is_set(made, club):

@@ -284,6 +284,8 @@ def test_who_leaves(machine):
 
 
 def test_a_room_that_goes(machine):
+    names = "etc/nginx/fileroom/names.json"
+    machine.write(names, '{"ann": "Ann", "bob": "Bob", "kim": "Kim"}\n')
     for room in "plans", "club":
         machine.does("bound", room, "few", "--user", "ann")
         machine.does("user", "hold", room, "ann")
@@ -292,3 +294,4 @@ def test_a_room_that_goes(machine):
     assert [is_held(machine, "ann", it) for it in ("plans", "club")] == [False, True]
     its = text_of(machine.at("etc/fileroom/bounds.json"))
     assert [f'"{it}"' in its for it in ("plans", "club")] == [False, True]
+    assert json.loads(text_of(machine.at(names))) == {"ann": "Ann", "kim": "Kim"}  # (bob was in this room alone)

@@ -1,4 +1,5 @@
 """Somebody leaves, and what that user owns is handed over first: by the lists, whole, or told and the user stays."""
+import json
 import os
 
 import pytest
@@ -144,6 +145,8 @@ def test_a_table_hands_over_what_those_own_who_go(machine, leaver):
     leaver.holds("kim", "MKDIR", "/kims")
     copied(machine, leaver)
     machine.stand_in("fail2ban-client", TOLD)
+    machine.write("etc/fileroom/bounds.json", '{"plans": {"users": {"ann": "few", "bob": "many"}}}')
+    machine.write("etc/nginx/fileroom/names.json", '{"ann": "Ann", "bob": "Bob"}')
     machine.told()
     status, said, faults = machine.does(*table(machine, "user,rooms,groups\nann,plans club,eng\nnia,plans,eng\n"))
     assert (status, faults) == (0, "")
@@ -154,6 +157,8 @@ def test_a_table_hands_over_what_those_own_who_go(machine, leaver):
     assert leaver.holds("ann", "STAT", "/kims")["owner"] == "ann"
     assert text_of(machine.at("etc/fileroom/plans.toml")) == '[users]\nann = ["eng"]\nnia = ["eng"]\n'
     assert os.listdir(os.path.dirname(machine.at(HELD))) == []
+    assert [json.loads(text_of(machine.at(it))) for it in ("etc/fileroom/bounds.json", "etc/nginx/fileroom/names.json")
+            ] == [{"plans": {"users": {"ann": "few"}}}, {"ann": "Ann"}]
 
 
 def test_a_table_leaves_who_has_something_left_and_goes_on(machine, stuck):

@@ -1,20 +1,22 @@
 """A room that moves: packed on one machine, brought to another, below two roots; and one that is removed, and back."""
+import contextlib
 import json
 import os
 import re
 from unittest import mock
 
 import pytest
-from fileroom_admin import archives
+from fileroom_admin import archives, places, rooms
+from given import each
 from served import bytes_of, text_of
 
-from .machines import Served
+from .machines import ADMIN, Served, stamp
 
 STRACE = "strace", "-qq", "-y", "-e", "trace=fsync", "-e", "signal=none", "-o"
 
 
 def test_an_archive(exported):
-    assert os.stat(exported.path).st_mode & 0o777 == 0o600
+    assert {os.stat(exported.path).st_mode & 0o777, *exported.modes} == {0o600}
     assert sorted(exported.its) == ["about.json", "logins", "names.json", "room.db", "room.db-wal", "roster.toml"]
     assert exported.machine.does("room", "export", "plans", exported.path)[0] == 1  # (over a file)
 
@@ -35,9 +37,51 @@ def test_no_login_of_another_room_is_in_it(exported):
     assert logins(text_of(exported.machine.at("etc/nginx/fileroom/users"))) == ["ann", "bob", "eve"]
 
 
-def test_an_archive_of_no_room(machine, folder):
-    assert machine.does("room", "export", "none", f"{folder}/tar")[0] == 1
+@pytest.mark.parametrize("room", ["none", "club"])
+def test_an_archive_of_no_room(machine, folder, room):
+    """Nor of one without a backup."""
+    assert machine.does("room", "export", room, f"{folder}/tar")[0] == 1
     assert not os.path.exists(f"{folder}/tar")
+
+
+# Calls fileroom-admin where no backup can be made.
+NO_BACKUP = """import sys
+sys.path.insert(0, sys.argv[1])
+from fileroom_admin import copying, leaving, moving, places, rooms
+from fileroom_admin.command import main
+def back_up(_, room):
+    raise places.Fault(f"no backup of {room} now")
+for it in copying, leaving, moving, rooms:
+    it.back_up = back_up
+sys.exit(main(sys.argv[2:]))
+"""
+
+
+def test_no_backup_of_now(machine, folder):
+    """One of before is taken for nothing that wants the room as it is now, and all stays as it was."""
+    machine.backed_up()
+    before, first = machine.files(), ("-c", NO_BACKUP, os.path.dirname(ADMIN))
+    for words in (f"room export plans {folder}/tar", "room renew plans", "room copy plans / club /new",
+                  "room remove plans", "user remove --to ann plans bob"):
+        machine.told()
+        status, said, faults = machine.does(*words.split(), first=first)
+        assert (status, "no backup of plans now" in said + faults) == (1, True), words
+        held = [it for it in {**machine.files(), **before} if machine.files().get(it) != before.get(it)]
+        assert held == ["etc/nginx/fileroom/held/bob@plans"] * ("--to" in words), words
+        assert [it for it in machine.told() if " start " in it or " stop " in it] == [
+            f"systemctl {it} fileroom@plans" for it in ("stop", "start")] * ("room remove" in words), words
+    assert not os.path.exists(f"{folder}/tar")
+
+
+@each("status, hours, why", [
+    ("it fails", 1, 0, "there is no backup"), ("it is none of now", 0, 2, "that was made is not there"),
+    ("it is one", 0, 0, None)])
+def test_a_backup_that_is_asked_for(status, hours, why):
+    its = mock.Mock(is_machine=True, copies=lambda _: [stamp(9), stamp(hours)])
+    with mock.patch.object(rooms.subprocess, "run", return_value=mock.Mock(returncode=status)) as run, \
+            pytest.raises(places.Fault, match=why) if why else contextlib.nullcontext():
+        rooms.back_up(its, "plans")
+    assert run.call_args[0] == (["systemctl", "start", "fileroom-backup@plans"],)
 
 
 def test_room_list(exported):
@@ -53,12 +97,15 @@ def test_room_list(exported):
 def test_brought_to_another_machine(there, exported):
     """It is there as it was, with its users' passwords."""
     there.told()
+    backups = there.at("var/backups/fileroom")
+    os.rmdir(backups)
     status, said, faults = there.does("room", "import", exported.path)
     assert (status, said.splitlines()[0]) == (
         0, "the room plans is served here, with 2 users, and backed up each night"), faults
     assert [it for it in there.told() if "plans" in it] == [f"systemctl enable --now fileroom{it}" for it in (
         "@plans", "-backup@plans.timer", "-try@plans.timer")]
     assert there.fits("bob", exported.word)
+    assert os.stat(backups).st_mode & 0o777 == 0o700  # (the rooms' user makes none)
     assert "ann" in said  # (whose password here stays)
     for it in "fileroom/plans.toml", "fileroom/plans.env", *(f"nginx/fileroom/{it}" for it in (
             "rooms/plans.users.json", "rooms/plans.conf", "queues/plans.conf")):
@@ -74,13 +121,26 @@ def test_brought_to_another_machine(there, exported):
     assert os.path.exists(there.at("var/lib/fileroom/second/room.db"))
 
 
-@pytest.mark.parametrize("what", ["fileroom@plans", "fileroom-backup@plans.timer"])
-def test_a_service_that_does_not_end(machine, what):
+REMOVES = [f"systemctl {it}" for it in (
+    "is-active -q fileroom@plans", "stop fileroom@plans", "disable --now fileroom-try@plans.timer",
+    "disable --now fileroom-backup@plans.timer", "disable --now fileroom@plans", "stop fileroom-proxy@plans.socket",
+    "reload-or-restart nginx")]
+COMES_BACK = [f"systemctl {it}" for it in (
+    "reload-or-restart nginx", *(f"enable --now fileroom{it}" for it in (
+        "@plans", "-backup@plans.timer", "-try@plans.timer")), "start fileroom@plans")]
+
+
+@each("what, asked", [("it is down", "fileroom@plans", REMOVES[:2]),
+                      ("it is served", "fileroom-backup@plans.timer", REMOVES[:4] + COMES_BACK)])
+def test_a_service_that_does_not_end(machine, what, asked):
+    """The room is as it was, and so is what serves it."""
     machine.backed_up()
     before = machine.files()
     machine.breaks(what)
+    machine.told()
     assert machine.does("room", "remove", "plans")[0] == 1
-    assert machine.files() == before
+    assert (machine.files(), machine.told()) == (before, asked)
+    assert os.stat(machine.at("var/backups/fileroom-removed")).st_mode & 0o777 == 0o700
 
 
 def test_removed_and_back(machine):
@@ -91,10 +151,7 @@ def test_removed_and_back(machine):
     machine.told()
     status, said, faults = machine.does("room", "remove", "plans", within=(*STRACE, machine.at("../flushed")))
     assert status == 0, faults
-    assert machine.told() == [f"systemctl {it}" for it in (
-        "is-active -q fileroom@plans", "stop fileroom@plans", "disable --now fileroom-try@plans.timer",
-        "disable --now fileroom-backup@plans.timer", "disable --now fileroom@plans",
-        "stop fileroom-proxy@plans.socket", "reload-or-restart nginx")]
+    assert machine.told() == REMOVES
     assert [it for it in machine.files() if "plans" in it and not it.startswith("var/")] == []
     users = text_of(machine.at("etc/nginx/fileroom/users"))
     assert ("bob:" in users, "ann:" in users) == (False, True)

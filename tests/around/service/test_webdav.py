@@ -22,7 +22,7 @@ def test_stopped_at_a_step(machine):
 
 
 def test_it_goes_with_its_room(machine):
-    """And with the last one the gateway's socket; and it comes back with the room."""
+    """And with the last one the gateway's socket; and it comes back with the room, which is there without it too."""
     of_dav = lambda: [it for it in machine.files().items() if "nginx/fileroom/dav" in it[0]]
     machine.does("dav", "on", "plans")
     before = of_dav()
@@ -34,6 +34,11 @@ def test_it_goes_with_its_room(machine):
     path = said.splitlines()[0].partition(" is in ")[2].partition(": ")[0]
     assert (machine.does("room", "import", path)[0], of_dav()) == (0, before)
     assert [it for it in machine.told() if "fileroom-dav" in it] == ["systemctl enable --now fileroom-dav.socket"]
+    machine.write("../lacks/waitress.py", "raise ImportError")
+    machine.env.update(PYTHONPATH=machine.at("../lacks"))
+    status, said, faults = machine.does("room", "import", "--as", "second", path)
+    lacks = "the room had WebDAV, and has none here: the gateway needs two packages: "
+    assert (status, lacks in said) == (0, True), faults
 
 
 @pytest.mark.parametrize("word, want", [("remove", [WANTS, ROOM_WANTS, OF_GATEWAY]), ("purge", [ROOM_WANTS])])
