@@ -212,6 +212,20 @@ def test_two_people_of_one_login(read, serve):
                                               f"{its[0].lower()} and {of('lou')}\n")
 
 
+def test_two_people_of_one_login_in_a_group_of_logins(read, serve):
+    """It does not say whose it is."""
+    more = f"dn: uid=kim,ou=more,{GROUPS}\nobjectClass: inetOrgPerson\ncn: kim\nsn: x\n"
+    status, table, faults = read(serve(*ENTRIES, more), users=[PEOPLE, GROUPS])
+    assert (status, table, "these have one login, kim: " in faults) == (1, "", True), faults
+
+
+def test_a_login_among_several(read, serve):
+    """Is the one that its DN has: by that it logs in."""
+    entry = person("rob").replace("sn: x", "sn: x\nuid: Robert\nuid: rob")
+    status, table, _ = read(serve(entry, group("some", of("rob"))), rooms='[rooms.plans]\nsome = "eng"\n')
+    assert (status, table) == (0, "user,rooms,groups,name\nrob,plans,eng,rob\n")
+
+
 def test_a_table_that_cannot_be_written_whole(read, serve, folder):
     """Nothing of it is there where the directory fails, and no password goes anywhere unencrypted."""
     table = os.path.join(folder, "table.csv")
