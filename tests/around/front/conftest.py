@@ -1,6 +1,6 @@
 """What tests of the front are given: a front is an nginx of one's own with the files of front/, before a peer in the
-place of the room `plans`; there is none in that of `gone`. It counts who asks, so each test has its own, but where a
-test asks little."""
+place of the room `plans`, and of one with the longest name; there is none in that of `gone`. It counts who asks, so
+each test has its own, but where a test asks little."""
 import functools
 import os
 import sys
@@ -12,12 +12,13 @@ from .sides import standing
 
 sys.path.append(os.path.join(FOLDER, "..", "service", "admin"))
 USERS = "u01", "u02", "u03"
+LONGEST_NAME = "Of_32-Letters_and_Numbers-012345"  # of a room
 
 
 def started(folder, page, room, users=USERS, **how):
     if lacking():
         pytest.skip(f"this machine lacks {' and '.join(lacking())}")
-    rooms = {"plans": room, "gone": os.path.join(folder, "gone.sock")}
+    rooms = {"plans": room, "gone": os.path.join(folder, "gone.sock"), LONGEST_NAME: room}
     return Front(str(folder), {it: f"word of {it}" for it in users}, rooms, page, **how)
 
 

@@ -309,7 +309,8 @@ def test_who_is_not_answered_waits_as_long(behind):
         assert (got, took >= LEAST) == (503, True)
 
 
-def test_a_service_that_speaks_no_http(behind):
+def test_a_service_with_a_fault(behind):
+    """Who is not let in waits, and is told that there was no answer."""
     it = behind()
     it.signin.stop()
     os.remove(it.signin.at)
@@ -317,3 +318,7 @@ def test_a_service_that_speaks_no_http(behind):
         for said, status in (b"HTTP/1.1 204 No Content\r\n\r\n", 200), (b"200 OK\r\n\r\n", 503), (b"", 503):
             peer.said = said
             assert it.status("ann", "ann-word") == status
+        for code in 500, 502, 503, 504:
+            peer.said = b"HTTP/1.1 %d no\r\ncontent-length: 0\r\n\r\n" % code
+            got, took = it.timed("u01", "no")
+            assert (got, took >= LEAST) == (503, True), code

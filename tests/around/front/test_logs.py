@@ -12,9 +12,10 @@ from given import each
 from nginx import FOLDER
 from served import text_of, until, whole
 
+from .conftest import LONGEST_NAME
 from .sides import SLOT, SOON, begun, log_of
 
-REFUSED = b'{"code":5,"error":"a refusal is longer than what is done"}'
+DONE, REFUSED = b'{"code":0,"size":65536}', b'{"code":9,"error":"FBIG"}'  # the longest, and the shortest
 LINE_OF_REFUSAL = 800  # bytes at most, whatever was asked
 GROWN = 257 << 20  # bytes: more than the log of changes may have
 CHANGE = b'{"cmd":"MKDIR","path":"/a"}'
@@ -45,6 +46,20 @@ def test_a_change_without_an_answer(front, peer):
     peer.said = b""
     assert front.status("u01", "POST", SLOT + "1", CHANGE) == 502
     assert [(it["status"], it["asked"]) for it in map(json.loads, changes_of(front))] == [("502", CHANGE.decode())]
+
+
+def test_a_change_in_the_room_of_the_longest_name(front):
+    """With the greatest number that a slot has."""
+    target = f"{SLOT.replace('plans', LONGEST_NAME)}4294967295"
+    assert front.status("u01", "POST", target, CHANGE) == 200
+    assert [(it["by"], f"/rooms/{it['slot']}") for it in map(json.loads, changes_of(front))] == [
+        (f"u01@{LONGEST_NAME}", target)]
+
+
+def test_what_is_done_is_told_whole(front, peer):
+    peer.said, body = whole(DONE), '{"cmd":"MKDIR","path":"/%s"}' % ("p" * 900)
+    assert front.status("u01", "POST", SLOT + "1", body.encode()) == 200
+    assert [json.loads(it)["asked"] for it in changes_of(front)] == [body]
 
 
 @each("pad", [("newlines", b"\n"), ("quotes", b'"'), ("control letters", b"\1")])

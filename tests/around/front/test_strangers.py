@@ -17,6 +17,7 @@ from served import HANGS, Line, end_with_parent, least, message, text_of
 from .sides import BURST, CHECK, OPEN_AT_ONCE, ROOM, SESSION, log_of, said_long, sent_at_once, until_too_many
 
 MANY = 900  # requests over one connection: nginx takes 1,000
+AT_AN_ADDRESS = 2000  # requests that come at once
 ODD = "\u00e9" * 1900  # nginx writes four letters for each byte
 LONG = "x" * 2950  # of a head that nginx takes
 LINE = 700  # bytes of a log's line, at most
@@ -73,6 +74,16 @@ def test_strangers_are_counted(slower, method, target, answer, more):
     """(The front counts an OPEN behind the password, where it comes that far.)"""
     begin, asked = time.monotonic(), message(None, method, target, fields=slower.fields(None, more))
     are_counted(sent_at_once(slower, asked, MANY), answer, begin)
+
+
+def test_an_address_is_counted(slower):
+    """Whatever names it gives."""
+    begin, names = time.monotonic(), range(AT_AN_ADDRESS // BURST + 2)
+    asked = [message(None, "GET", "/whoami", fields=slower.fields(None, [login(f"u{it}", LONG)])) for it in names]
+    found = [status for it in asked for status in sent_at_once(slower, it, BURST - 1)]
+    passed, most = found.count(401), AT_AN_ADDRESS + 2 + time.monotonic() - begin
+    assert set(found) == {401, 429}
+    assert AT_AN_ADDRESS <= passed <= most
 
 
 @each("length, answer", [("too long", 131073, 413), ("of no length", None, 411)])

@@ -14,11 +14,11 @@ import time
 
 import pytest
 from given import each
-from nginx import FOLDER, PATH
-from served import LIBC, loopback, message, text_of
+from nginx import FOLDER, PATH, login
+from served import LIBC, loopback, message, text_of, until
 
 from .conftest import started
-from .sides import LEAST, wrong
+from .sides import CHECK, LEAST, wrong
 
 FRONT, OTHER = 8080, 8001  # ports of that network
 WORKERS = "games"  # the group that stands for the workers'
@@ -31,6 +31,8 @@ SERVER, SIX = "fd00::1", 8003  # of IPv6
 NEAR, FAR = [f"fd00:0:0:1::{at:x}" for at in range(1, 31)], "fd00:0:0:2::1"
 SITE, SITE_AT_ONCE, SITE_A_SECOND = "fd00:5:5", 400, 60  # a network of many networks (/48), and what it begins
 FEW = 8  # elements of a set that is soon full
+SIX_USERS = [f"u{it:02}" for it in range(1, 11)]  # of whom each may have 16 requests under way at an address
+OPEN, BEYOND = 100, 20  # requests under way of a network, and how many are more
 ANY_ADDRESS = 15  # IP_FREEBIND
 NEW_NETWORK = 0x40000000  # CLONE_NEWNET
 SERVICE = os.path.join(FOLDER, "..", "service")
@@ -308,13 +310,14 @@ def test_a_full_set(ports, tmp_path):
         assert 0 < connected((f"{SITE}:{at:x}::2" for at in range(3 * FEW)), 0.5) <= FEW
 
 
-def sent(source, *fields, count=1):
-    """A connection to nginx by IPv6 over which so many requests were sent."""
+def sent(source, *fields, count=1, target="/whoami", size=0):
+    """A connection to nginx by IPv6 over which so many requests were sent, each without the body that it tells of."""
     line = socket.socket(socket.AF_INET6)
     line.settimeout(30)
     line.bind((source, 0))
     line.connect((SERVER, SIX))
-    line.sendall(message(None, "GET", "/whoami", fields=["host: a", *fields]) * count)
+    head = message(None, "POST" if size else "GET", target, fields=["host: a", *fields])
+    line.sendall(head.replace(b"content-length: 0", b"content-length: %d" % size) * count)
     return line
 
 
@@ -334,7 +337,7 @@ def by_six(network, memory, page, alone):
     os.makedirs(os.path.join(folder, "rooms"))
     with open(os.path.join(folder, "rooms", "six.conf"), "w", encoding="ascii") as file:
         file.write(f"listen [{SERVER}]:{SIX};\n")
-    return started(folder, page, os.path.join(memory, "no.sock"), rate="1r/s")
+    return started(folder, page, os.path.join(memory, "no.sock"), SIX_USERS, rate="1r/s")
 
 
 def test_requests_of_a_network(by_six):
@@ -345,6 +348,17 @@ def test_requests_of_a_network(by_six):
     assert set(found) == {b"401", b"429"}
     assert 200 <= passed <= most
     assert answers(sent(FAR)) == [b"401"]
+
+
+def test_open_requests_of_a_network(by_six):
+    """So many are under way, of whichever names and addresses; another network has its own."""
+    right = [login(user, word) for user, word in by_six.users.items()]
+    lines = [sent(NEAR[at % len(NEAR)], right[at % len(right)], target=CHECK, size=9) for at in range(OPEN + BEYOND)]
+    assert until(lambda: len(select.select(lines, [], [], 0)[0]) == BEYOND)
+    assert [answers(it) for it in select.select(lines, [], [], 0)[0]] == [[b"429"]] * BEYOND
+    assert answers(sent(FAR)) == [b"401"]
+    for it in lines:
+        it.close()
 
 
 def test_guesses_of_a_network(by_six):

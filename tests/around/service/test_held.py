@@ -106,8 +106,10 @@ def test_what_a_held_login_may(ground):
     for body, status in ((STAT, 200), ({"cmd": "LIST", "path": "/"}, 200), (PADDED, 429),
                          ({"cmd": "REMOVE", "path": "/sue-1"}, 429), ({"cmd": "WRITE", "path": "/x", "data": ""}, 429)):
         assert sue.asks(body).status == status, body
-    for method, status in ("PUT", 429), ("MKCOL", 429), ("MOVE", 429), ("LOCK", 429), ("GET", 502), ("PROPFIND", 502):
-        assert ground.front.once("sue", method, "/dav/plans/x").status == status, method
+    for method in "PUT", "MKCOL", "MOVE", "LOCK", "DELETE", "COPY", "PROPPATCH", "POST":
+        assert ground.front.once("sue", method, "/dav/plans/x").status == 429, method
+    for method in "GET", "PROPFIND", "UNLOCK":
+        assert ground.front.once("sue", method, "/dav/plans/x").status == 502, method
     assert ground.front.once("sue", "PUT", "/dav/plans/x", b"A" * 1_000_000).status == 429
     assert ground.front.once("sue", "PUT", "/dav/club/x").status == 502
     assert Caller(ground.front, "sue", "club").makes("there") == {200}
