@@ -1,6 +1,8 @@
 """The command `room edit`: a file of the room in an editor here, and back where nobody else wrote it meanwhile."""
+import contextlib
 import os
 import shlex
+import shutil
 import subprocess
 import tempfile
 
@@ -14,6 +16,7 @@ from .words import neat, shown
 
 def edit(asked, settings: Settings) -> None:
     """(The room is let go while somebody types.)"""
+    editor = find_editor()
     with Room(settings) as room:
         path = there(room, need_path(asked.path))
         before = bytes_at(room, path)
@@ -21,7 +24,7 @@ def edit(asked, settings: Settings) -> None:
     here = os.path.join(folder, os.path.basename(path).replace("\0", "_") or "file")
     with open(here, "xb") as file:
         file.write(before or b"")
-    run_editor(here)
+    run_editor(editor, here)
     with open(here, "rb") as file:
         after = file.read()
     if after == (before or b""):
@@ -45,14 +48,20 @@ def bytes_at(room: Room, path: str) -> bytes | None:
         raise
 
 
-def run_editor(path: str) -> None:
+def find_editor() -> list[str]:
+    """Its words. (Before a file is made for it.)"""
     editor = os.environ.get("VISUAL") or os.environ.get("EDITOR") or "vi"
-    try:
-        done = subprocess.run([*shlex.split(editor), path])
-    except (OSError, ValueError) as fault:
-        raise LocalFault(f"no editor {shown(editor)} (VISUAL or EDITOR names one): {fault}") from None
-    if done.returncode:
-        raise LocalFault(f"{shown(editor)} ended with status {done.returncode}: nothing was put; it is in {path}")
+    with contextlib.suppress(ValueError):
+        words = shlex.split(editor)
+        if words and shutil.which(words[0]):
+            return words
+    raise LocalFault(f"no editor {shown(editor)}: name one by VISUAL or EDITOR")
+
+
+def run_editor(editor: list[str], path: str) -> None:
+    status = subprocess.run([*editor, path]).returncode
+    if status:
+        raise LocalFault(f"{shown(editor[0])} ended with status {status}: nothing was put; it is in {path}")
 
 
 def put_back(settings: Settings, path: str, before: bytes | None, after: bytes) -> None:

@@ -10,6 +10,7 @@ import pytest
 from given import each
 from room_client import trees
 from room_client.slots import Slot
+from room_client.words import shown
 
 from .desk import COMMAND, EVERYBODY, Desk
 
@@ -140,3 +141,10 @@ def test_edit_of_a_new_file(desk):
     with mock.patch.dict(os.environ, EDITOR=f"sh -c '{ADDS}' x"):
         desk.prints("edit", "/new", want="/new: 4 bytes\n")
     desk.prints("get", "/new", want=" two")
+
+
+@pytest.mark.parametrize("editor", ["none", "'", " "])
+def test_edit_without_an_editor(desk, editor):
+    """(Nothing is left in the folder of this machine: what ends each file of tests looks there.)"""
+    with mock.patch.dict(os.environ, VISUAL=editor):
+        desk.refuses("edit", "/a", status=5, want=f"no editor {shown(editor)}: name one by VISUAL or EDITOR")
