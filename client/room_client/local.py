@@ -14,9 +14,9 @@ from .faults import LocalFault, reading
 from .manifest import PART
 from .words import FILE, FOLDER, neat, shown
 
-FOLDER_HERE = os.O_RDONLY | os.O_DIRECTORY | os.O_CLOEXEC
-FOUND_HERE = os.O_RDONLY | os.O_NOFOLLOW | os.O_NONBLOCK | os.O_CLOEXEC
-NEW_HERE = os.O_WRONLY | os.O_CREAT | os.O_EXCL | os.O_CLOEXEC
+FOLDER_HERE = os.O_RDONLY | os.O_DIRECTORY
+FOUND_HERE = os.O_RDONLY | os.O_NOFOLLOW | os.O_NONBLOCK
+NEW_HERE = os.O_WRONLY | os.O_CREAT | os.O_EXCL
 MOST_NAME = 64  # bytes of a name in the room
 BAR = 1 << 18  # bytes from which on progress is shown
 

@@ -48,7 +48,7 @@ class State:
         self.path = path
         try:
             os.makedirs(os.path.dirname(os.path.abspath(path)), mode=0o700, exist_ok=True)
-            self.lock = os.open(path + ".lock", os.O_RDWR | os.O_CREAT | os.O_CLOEXEC, 0o600)
+            self.lock = os.open(path + ".lock", os.O_RDWR | os.O_CREAT, 0o600)
         except OSError as fault:
             raise LocalFault(f"{fault.filename}: {fault.strerror}: name another file with --state") from None
         try:
