@@ -18,6 +18,9 @@ def test_odd_names(desk):
         told = name.replace("\u202e", "\\u202e")
         desk.prints("get", f"/{name}", ".", want=f"{len(name.encode())} bytes to ./{told}\n")
     assert "\\u202etxt.exe\n" in desk.does("ls")[1]
+    with desk.room() as room:
+        room.create("/.room-x", b"")
+    desk.refuses("get", "/.room-x", ".", status=5, want=".room-x is no name of a file here: name another one")
     desk.prints("put", "--", "-x", "/other", want="/other: 2 bytes\n")
     desk.prints("acl", "/other", "add", "allow -x read", "allow group:-- read", want="/other: list set\n")
     assert "allow -x read\nallow group:-- read\n" in desk.does("acl", "/other")[1]
@@ -34,6 +37,7 @@ def test_settings_of_a_front(desk):
     assert plain("ls") == (0, "a/\n", "")
     states = [os.stat(it) for it in os.scandir(desk.path(".local/state/room"))]
     assert [stat.S_IMODE(it.st_mode) for it in states] == [0o600] * 2
+    assert stat.S_IMODE(os.stat(desk.path(".local/state/room")).st_mode) == 0o700
     desk.file("secret", b"wrong\n", 0o600)
     wrong = ("answered 401: the login or its password is wrong: correct --login or the password file; nothing was "
              "done, and nothing is kept")

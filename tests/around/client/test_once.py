@@ -94,7 +94,7 @@ def test_a_command_that_moves(desk, words, before, says):
 def test_why_there_is_no_answer_yet(desk, fault, why):
     said = []
     with desk.behind(said.append) as room, mock.patch("room_client.slots.WORD_AFTER", 0):
-        desk.front.faults[:] = [fault]
+        desk.front.faults[:] = [fault] * 2
         room.children("/")
     assert len(said) == 1
     assert f"no answer yet (it answered {fault}): {why}" in said[0]

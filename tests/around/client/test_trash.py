@@ -42,6 +42,10 @@ def test_a_name_again_and_again(desk, in_trash, in_tokyo):
         desk.prints("put", "-", "/d/x", stdin=b"x", want="/d/x: 1 bytes\n")
         with mock.patch("room_client.trash.time.time", return_value=1e9):
             desk.prints("rm", "/d/x", want="/d/x: in /trash/ann\n")
+    desk.prints("put", "-", "/d/x", stdin=b"x", want="/d/x: 1 bytes\n")
+    with mock.patch("room_client.trash.time.time", return_value=1e9), mock.patch("room_client.trash.TRIES", 3):
+        desk.refuses("rm", "/d/x", status=2, want="/trash/ann has too many things of that name: room trash empty")
+    desk.prints("rm", "--for-good", "/d/x", want="/d/x: removed\n")
     names = [f"x~d~200109090146{it}" for it in (40, 41, 42)]
     assert in_trash() == names
     status, _, err = desk.does("trash", "restore", "x")
