@@ -100,6 +100,11 @@ class Source:
         end = its.body[0].lineno - 1 if getattr(its, "body", None) else its.end_lineno
         return [*range(mutant.line, self.line_of(mutant.end) + 1), *range(its.lineno, end + 1)]
 
+    def is_in_body(self, node):
+        """Whether it is in what a function does, and so in its code alone."""
+        chain = [*self.chain(node)]
+        return any(isinstance(it, ast.FunctionDef) and below in it.body for below, it in zip(chain, chain[1:]))
+
     def names(self, node):
         """What a module or class defines by the statement that has this node."""
         for it in self.chain(node):
