@@ -122,10 +122,10 @@ class Source:
         return sorted({it.lineno for it in its if not isinstance(it, (ast.Nonlocal, ast.Pass))})
 
     def mutants(self):
-        """Each, in the order of the text."""
+        """Each, in the order of the text. (Whether it is one takes longer to find out.)"""
         nodes = filter(self.is_meant, ast.walk(self.tree))
         found = (Mutant(self, node, *its) for node in nodes for its in turned(self, node))
-        return sorted({(it.start, it.end, it.new): it for it in found if it.is_one()}.values(), key=lambda it: it.start)
+        return sorted({(it.start, it.end, it.new): it for it in found}.values(), key=lambda it: it.start)
 
     def is_meant(self, node):
         """Whether it does something: no text for people, no type, no part of an f-string (which has no place in 3.11).

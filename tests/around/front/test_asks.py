@@ -431,21 +431,21 @@ def test_neither_yes_nor_no(speaks, code):
     assert len([it for it in got if b"ann-word" in it]) == 1
 
 
-@each("says", [
-    ("another number", lambda asked: answer_to(b"\x30\0\x02\x01\x7f", BIND, 0)),
-    ("another kind", lambda asked: answer_to(asked, EXTENDED, 0)),
-    ("no code", lambda asked: part(0x30, asked[2:5] + part(BIND, part(0x04, b"\0")))),
-    ("a code of no byte", lambda asked: part(0x30, asked[2:5] + part(BIND, part(0x0A, b"")))),
-    ("a code of two", lambda asked: part(0x30, asked[2:5] + part(BIND, part(0x0A, b"\0\0")))),
-    ("a cut one", lambda asked: part(0x30, asked[2:5] + bytes([BIND, 9]) + part(0x0A, b"\0"))),
-    ("nothing in it", lambda asked: part(0x30, asked[2:5])),
-    ("another protocol", lambda asked: b"\x31" + answer_to(asked, BIND, 0)[1:]),
-    ("too much", lambda asked: b"\x30\x83\x01\x00\x01" + answer_to(asked, BIND, 0)[2:] + bytes(1 << 16)),
-    ("the end", lambda asked: b"")])
-def test_no_answer_to_what_was_asked(speaks, says):
+@each("says, why", [
+    ("another number", lambda asked: answer_to(b"\x30\0\x02\x01\x7f", BIND, 0), "something else"),
+    ("another kind", lambda asked: answer_to(asked, EXTENDED, 0), "something else"),
+    ("no code", lambda asked: part(0x30, asked[2:5] + part(BIND, part(0x04, b"\0"))), "something else"),
+    ("a code of no byte", lambda asked: part(0x30, asked[2:5] + part(BIND, part(0x0A, b""))), "something else"),
+    ("a code of two", lambda asked: part(0x30, asked[2:5] + part(BIND, part(0x0A, b"\0\0"))), "something else"),
+    ("a cut one", lambda asked: part(0x30, asked[2:5] + bytes([BIND, 9]) + part(0x0A, b"\0")), "cut"),
+    ("nothing in it", lambda asked: part(0x30, asked[2:5]), "cut"),
+    ("another protocol", lambda asked: b"\x31" + answer_to(asked, BIND, 0)[1:], "no LDAP"),
+    ("too much", lambda asked: b"\x30\x83\x01\x00\x01" + answer_to(asked, BIND, 0)[2:] + bytes(1 << 16), "no LDAP"),
+    ("the end", lambda asked: b"", "ended")])
+def test_no_answer_to_what_was_asked(speaks, says, why):
     """Lets nobody in, is no wrong password, and may have counted as one there."""
     directory, _ = speaks(says)
-    with pytest.raises(Down) as told:
+    with pytest.raises(Down, match=why) as told:
         directory.is_right("ann", "ann-word")
     assert told.value.may_count
 
