@@ -7,7 +7,7 @@ import { Shelf, appOver } from "./shelf.mjs";
 
 const { t } = await page("words");
 const { edit, makeFolder } = await page("actions");
-const { copyInto, emptyTrash, moveInto, putBack, remove } = await page("moving");
+const { copyInto, emptyTrash, moveInto, putAllBack, putBack, remove } = await page("moving");
 const { isOwnTrash, nameAt, ownTrash, toTrash, toldBy, trashOf } = await page("trash");
 const { writeCopy, writeFile } = await page("files");
 const { NOBODY, readFile } = await page("reading");
@@ -160,6 +160,12 @@ test("what comes back is where it was, and never in the place of another thing",
   await press(t.putBack);
   await done;
   assert.deepEqual([shelf.text("/d/a.txt"), shelf.text("/d/a (2).txt")], ["newer", "a"]);
+  const both = [];
+  for (const name of ["a.txt", "a (2).txt"]) both.push(await toTrash(app.room, `/d/${name}`, TRASH));
+  shelf.put("/d/a.txt", "newest");
+  await putAllBack(app, both);
+  assert.deepEqual([shelf.text("/d/a.txt"), shelf.text("/d/a (2).txt")], ["newest", "a"]);
+  assert.ok(shown("div.fault").some((it) => it.textContent.includes(t.placeTaken("/d/a.txt"))));
 });
 
 test("an emptied trash is asked about first, and stays itself", async () => {
@@ -167,9 +173,13 @@ test("an emptied trash is asked about first, and stays itself", async () => {
   const app = appOver(shelf);
   shelf.put(`${TRASH}/x`);
   shelf.put(`${TRASH}/x/y`, "y");
+  shelf.put(`${TRASH}/x/shut`);
+  shelf.refuses = ({ cmd, path }) => (cmd === "LIST" && path.endsWith("/shut") ? 5 : 0);
   const done = emptyTrash(app, TRASH);
   await comes(t.emptyTrash);
+  assert.ok(shown("dialog")[0].textContent.includes(t.shutIn(t.folders(1))));
   assert.deepEqual(shelf.changes(), []);
+  shelf.refuses = () => 0;
   await press(t.emptyTrash);
   await done;
   assert.deepEqual([shelf.names(TRASH), shelf.things.has(TRASH)], [[], true]);
@@ -213,6 +223,8 @@ test("a place is followed as its folder is moved, and none whose name begins ali
   for (const it of ["/d 2", "/d/a", "/d"]) note(app, it, true);
   await moveInto(app, ["/d"], "/e");
   assert.deepEqual(latest(app).map(([it]) => it), ["/e/d", "/e/d/a", "/d 2"]);
+  await app.undo();
+  assert.deepEqual(latest(app).map(([it]) => it), ["/d", "/d/a", "/d 2"]);
 });
 
 test("of several things that are moved, one that is refused stays, and the way back is of the others", async () => {
@@ -240,17 +252,21 @@ test("a text has its mark of UTF-8 and its ends of lines as before, once it is e
   assert.equal(shelf.text("/a.csv"), `${before}c;d\r\n`);
 });
 
-test("a copy goes on in its room, whichever is shown by then", async () => {
+test("a copy goes on in its room, tells what it lacks, and takes nobody's place", async () => {
   const [shelf, other] = [trashed(), trashed()];
   const app = appOver(shelf);
   shelf.put("/d/b.txt", "b");
-  shelf.put("/e");
-  shelf.refuses = ({ cmd }) => {
-    if (cmd === "CREATE") app.room = appOver(other).room;
-    return 0;
+  for (const it of ["/d/shut", "/e"]) shelf.put(it);
+  shelf.refuses = ({ cmd, path }) => {
+    if (cmd === "CREATE") app.room = appOver(other).room; // (another is shown by then)
+    if (path === "/e/b.txt" && cmd === "CREATE") shelf.put(path, "theirs");
+    return path === "/d/shut" && cmd === "LIST" ? 5 : 0;
   };
-  await copyInto(app, ["/d/a.txt", "/d/b.txt"], "/e");
-  assert.deepEqual([shelf.names("/e"), other.asked], [["a.txt", "b.txt"], []]);
+  await copyInto(app, ["/d/shut", "/d/a.txt", "/d/b.txt"], "/e");
+  assert.deepEqual([shelf.names("/e"), shelf.text("/e/b.txt")], [["a.txt", "b.txt", "shut"], "theirs"]);
+  assert.deepEqual(other.asked, []);
+  const told = shown("div.fault").map((it) => it.textContent);
+  for (const words of [t.isShut("/d/shut"), t.refusals[4]]) assert.ok(told.some((it) => it.includes(words)), words);
 });
 
 test("two things of one name are copied into one folder", async () => {
@@ -324,6 +340,14 @@ test("who is let pass stands behind those who are kept out", async () => {
   assert.deepEqual(shelf.things.get("/d").list, { aclflag: 2, entries: [denied, passes, owner] });
   await setBack(app.room, changes);
   assert.deepEqual(shelf.things.get("/d").list, { aclflag: 2, entries: [denied, owner] });
+  app.room.allowed = async () => 0; // (as where they are denied to pass)
+  const left = helpThem(app, { path: "/d/x", kind: "file" }, [{ ...denied, type: 0 }], found, []);
+  await press(t.letPass);
+  for (let times = 0; times < 50; times += 1) await soon();
+  const [dialog] = shown("dialog");
+  assert.ok(dialog.textContent.includes(t.stillShut(["bob"])));
+  dialog.querySelectorAll("button").find((it) => it.textContent === t.close).click();
+  assert.equal(await left, t.cannot(["bob"]));
 });
 
 test("what somebody set meanwhile is not set back, and the top is told by its room", async () => {

@@ -132,6 +132,11 @@ test("who waits is told from the second time on, and may give up; a login is wai
   await other;
   const given = waiting.wait(t.held, 4, true);
   assert.equal(part("busy-login").hidden, true);
+  globalThis.setTimeout = () => 0; // (which never comes)
+  const again = waiting.wait(t.restarting, 4, false);
+  globalThis.setTimeout = plain;
+  part("busy-now").onclick();
+  await again;
   part("busy-stop").onclick();
   await assert.rejects(given, (fault) => fault instanceof GaveUp && fault.message === t.unknown(t.gaveUp));
   waiting.over();
