@@ -1,10 +1,10 @@
 """Which logins were right a moment ago, and of which names so many were wrong that the directory is not asked.
 
-A directory locks an account after some wrong passwords, whoever sends them, and may forget them only once none came for
-half an hour, as Active Directory does: slow guesses add up there. So they do here: after three wrong ones of a name, from
-wherever they came, the directory is asked about the last right password alone, for half an hour from the last. Strangers
-lock nobody out of it, and who was let in since this process began goes on. Once that password is wrong, it is one as any
-other: a program that has the old one still would lock the account.
+A directory locks an account after some wrong passwords, whoever sends them, and may forget them only once none came
+for half an hour, as Active Directory does: slow guesses add up there. So they do here: after three wrong ones of a
+name, from wherever they came, the directory is asked about the last right password alone, until half an hour after
+the third. Strangers lock nobody out of it, and who was let in since this process began goes on. Once that password is
+wrong, it is one as any other: a program that has the old one still would lock the account.
 """
 import hmac
 import secrets

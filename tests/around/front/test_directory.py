@@ -157,8 +157,8 @@ def test_large_files_by_webdav(behind):
 
 
 @each("target, length, status", [
-    ("too long", CHECK, 131073, 413), ("of no length", CHECK, None, 411),
-    ("in another place", "/whoami", 131073, 413), ("by a path like that of the question", f"{CHECK}%20/check", None, 411),
+    ("too long", CHECK, 131073, 413), ("of no length", CHECK, None, 411), ("in another place", "/whoami", 131073, 413),
+    ("by a path like that of the question", f"{CHECK}%20/check", None, 411),
     ("a file that is far too long", "/dav/plans/x", 10 * LIMIT_OF_A_FILE, 413)])
 def test_a_body_that_is_not_passed_on(behind, target, length, status):
     """It is refused as without a directory: by no other answer, nor sooner, a wrong login is told from a right one."""

@@ -22,7 +22,7 @@ ENTRIES = (
     group("inner", of("bob"), of_group("All Teachers"), "cn=gone,dc=school,dc=example"),
     group("posix", "kim", "nobody", kind="posixGroup", is_in="memberUid"),
     group("unique", of("lou"), of("a@b"), kind="groupOfUniqueNames", is_in="uniqueMember"),
-    group("twice", of("eve")),
+    group("twice", of("eve")), group("left", "cn=gone,dc=school,dc=example"),
     f"dn: ou=more,{GROUPS}\nobjectClass: organizationalUnit\n", group("twice", of("lou"), base=f"ou=more,{GROUPS}"))
 ROOMS = """[rooms.plans]
 "all teachers" = "teachers"
@@ -135,6 +135,8 @@ ODD_NAME = "CONF: a user or group of a room is 1 to 32 letters, digits, '.', '_'
     ('[rooms.plans]\nunique = "x"\nlost = "y"\n', "", "nothing is written: the directory has no group lost"),
     ('[rooms.plans]\ntwice = "x"\n', "", "nothing is written: the directory has 2 groups twice: name one by its DN; no "
      "user of the directory is in any of the groups"),
+    ('[rooms.plans]\nposix = "x"\n[rooms.club]\nleft = "y"\n', "", "nothing is written: nobody would be in the room "
+     "club, where all would stay"),
     ('[rooms.plans]\nunique = "a b"\n', "", ODD_NAME),
     ('[rooms.plans]\nunique = "a"\n[local.plans]\n"a b" = []\n', "", ODD_NAME),
     ("", "", "CONF: it lacks rooms, and nobody reads nothing"),
