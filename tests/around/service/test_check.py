@@ -43,6 +43,18 @@ def test_put_wrong(looked_at, what, line):
     is_told(looked_at, what)
 
 
+def test_what_front_puts_right(looked_at):
+    """All that it is told to do for."""
+    does = "run fileroom-admin front"
+    for what, line in PUT_WRONG:
+        if re.search("page's roster|not from the installed version|its part of the front|^768|rooms.json and", what):
+            by_shell(line, looked_at.root, **looked_at.env)
+    remedies = looked_at.does("check")[1].splitlines()[1::2]
+    assert ({it.strip().partition(",")[0] for it in remedies}, len(remedies)) == ({does}, 10)
+    assert looked_at.does("front")[0] == 0
+    assert looked_at.does("check") == NOTHING
+
+
 @pytest.mark.parametrize("program, what", [("openssl", "there is no openssl .. there is no openssl"),
                                            ("sqlite3", "there is no sqlite3"), ("curl", "there is no curl")])
 def test_a_program_that_is_missing(looked_at, program, what):

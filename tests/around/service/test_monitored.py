@@ -109,6 +109,12 @@ def test_no_owner_is_set(folder):
     assert text_of(path) == "numbers"
 
 
+def test_what_cannot_be_written_leaves_nothing(folder):
+    with mock.patch.object(places.os, "replace", side_effect=OSError), pytest.raises(OSError):
+        places.write("numbers", os.path.join(folder, "fileroom.prom"))
+    assert os.listdir(folder) == []
+
+
 def test_another_file_in_its_place(folder):
     """Who has the folder puts a link to a file of root's where the new one was just made: that file stays as it is."""
     secret = os.path.join(folder, "secret")

@@ -1,12 +1,13 @@
 """`fileroom-admin` and its rooms, users and certificate: each change whole or not at all, also where it stops at any
 step, and the next call at one of its own."""
+import errno
 import os
 import subprocess
 from unittest import mock
 
 import pytest
 from fileroom_admin import changes
-from fileroom_admin.places import Fault
+from fileroom_admin.places import Fault, Places
 from given import each
 from nginx import certified
 from served import put_file, text_of
@@ -89,6 +90,32 @@ def test_another_site_is_broken(machine):
     is_aside(machine)
 
 
+def test_the_rooms_program_has_nothing_of_roots(machine, folder):
+    """No word of its environment, no group, and no terminal: it begins a session of its own."""
+    machine.stand_in("setpriv", f'{{ echo "$@"; ps -o sid= -p $$; env; }} >{folder}/seen; shift 4; exec "$@"')
+    machine.env.update(OF_ROOT="a word")
+    assert machine.does("room", "add", "school", "ann", "eng")[0] == 0
+    words, session, *env = text_of(f"{folder}/seen").splitlines()
+    assert words.split()[:4] == ["--reuid=fileroom", "--regid=fileroom", "--clear-groups", "--"]
+    assert int(session) != os.getsid(0)
+    assert {it.partition("=")[0] for it in env} - {"PWD", "SHLVL", "_"} == {"PATH"}
+
+
+def test_a_roster_keeps_its_mode_and_group(machine):
+    roster = machine.at("etc/fileroom/plans.toml")
+    os.chown(roster, -1, 65534)
+    os.chmod(roster, 0o640)
+    assert machine.does("user", "groups", "plans", "bob")[0] == 0
+    assert (os.stat(roster).st_gid, os.stat(roster).st_mode & 0o777) == (65534, 0o640)
+
+
+def test_a_login_without_a_room_is_nobody_elses(machine):
+    """Who is renamed so would have two passwords."""
+    with open(machine.at("etc/nginx/fileroom/users"), "a", encoding="utf-8") as file:
+        file.write("zed:{SSHA}x\n")
+    assert machine.does("user", "rename", "bob", "zed") == (1, "", "fileroom-admin: zed is there already\n")
+
+
 def test_an_update_keeps_the_logs(machine):
     logs = {machine.at(it): it for it in ("var/log/fileroom/changes.log", "var/log/nginx/fileroom-logins.log")}
     for it in logs:
@@ -130,6 +157,40 @@ def test_written_since_it_was_stopped(machine):
     assert (told[0], text_of(roster)) == (0, before + "# by hand\n")
     assert told[2] == "fileroom-admin: undoing a change that was stopped\n"
     assert "lee" not in text_of(machine.at("etc/nginx/fileroom/rooms/plans.users.json"))
+
+
+def of_a_roster(machine):
+    """A change of it, after which a service reads it."""
+    its = changes.Change(Places(machine.root))
+    its.put(machine.at("etc/fileroom/plans.toml"), "[users]\n")
+    its.then("systemctl", "restart", "nginx")
+    return its
+
+
+def test_what_cannot_go_on_is_undone(machine):
+    """Stopped once it was decided, and the service fails still."""
+    before = machine.files()
+    with mock.patch.multiple(changes.Journal, finish=mock.Mock(side_effect=OSError), undo=mock.Mock()), \
+            pytest.raises(OSError):
+        of_a_roster(machine).happen()
+    machine.breaks("nginx")
+    status, _, faults = machine.does("user", "list")
+    assert (status, faults.splitlines()[0]) == (1, "fileroom-admin: continuing a change that was stopped")
+    assert machine.files() == before
+
+
+def test_undone_on_a_full_disk(machine):
+    before, its, states = machine.files(), of_a_roster(machine), []
+
+    def write(self, state, task=changes.Journal.write):
+        states.append(state)
+        if len(states) > 1:
+            raise OSError(errno.ENOSPC, "no space")
+        task(self, state)
+
+    with mock.patch.object(changes.Journal, "write", write), pytest.raises(OSError):
+        its.happen()
+    assert machine.files() == before
 
 
 def test_a_journal_that_is_cut(machine):

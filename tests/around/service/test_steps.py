@@ -13,7 +13,7 @@ from served import HERE, bytes_of, put_file, text_of, until
 from .contents import BACKUP, SERVICE
 from .machines import ADMIN
 
-# Calls fileroom-admin, and says of each rename and each folder whether the disk has it.
+# Calls fileroom-admin, and says of each rename and each folder whether the disk has it, and of what others can read.
 ORDER = """import os, sys
 sys.path.insert(0, sys.argv[1])
 from fileroom_admin.command import main
@@ -22,26 +22,29 @@ def fsync(handle, task=os.fsync):
     kept[os.path.realpath(f"/proc/self/fd/{handle}")] = os.fstat(handle).st_size
     return task(handle)
 def replace(old, new, task=os.replace, **how):
-    is_kept = kept.get(os.path.realpath(old)) == os.path.getsize(old)
+    is_kept = kept.get(os.path.realpath(old)) == os.path.getsize(old) and all(
+        os.path.dirname(os.path.realpath(it)) in kept for it in before if it.endswith(".journal"))
     print("renamed" if is_kept else "NOT KEPT", new, file=told, flush=True)
     kept.pop(os.path.dirname(os.path.realpath(new)), None)
     before.append(new)
     return task(old, new, **how)
-def link(*words, task=os.link):
-    return task(*words)
+def chmod(path, mode, task=os.chmod):
+    if os.stat(path).st_mode & 0o077:
+        print("OPEN", path, file=told, flush=True)
+    return task(path, mode)
 def run(*words, task=__import__("subprocess").run, **how):
     left = [it for it in before if os.path.dirname(os.path.realpath(it)) not in kept]
     print("run", words[0][0], left, file=told, flush=True)
     return task(*words, **how)
 before = []
-os.fsync, os.replace = fsync, replace
+os.fsync, os.replace, os.chmod = fsync, replace, chmod
 __import__("subprocess").run = run
 sys.exit(main(sys.argv[2:]))
 """
 
 
 def test_one_waits(machine):
-    """Two calls at once would undo each other's."""
+    """Two calls at once would undo each other's. Who is to be held is so at once."""
     machine.does("user", "list")
     with open(machine.at("etc/fileroom/admin.lock"), "rb+") as lock:
         fcntl.flock(lock, fcntl.LOCK_EX)
@@ -50,23 +53,30 @@ def test_one_waits(machine):
         names, waits = machine.at("etc/nginx/fileroom/names.json"), rf"-> FLOCK +ADVISORY +WRITE {other.pid} "
         until(lambda: other.poll() is not None or re.search(waits, text_of("/proc/locks")))
         assert (other.poll(), text_of(names)) == (None, "{}\n")
+        for it in "hold", "release":  # (fail2ban asks for these)
+            assert machine.does("user", it, "plans", "bob", within=("timeout", "100"))[0] == 0
     assert (other.wait(300), text_of(names)) == (0, '{"ann": "Ann"}\n')
 
 
-@pytest.mark.parametrize("at", ["etc/nginx/fileroom", "var/log/fileroom", "var/log/nginx"])
-def test_what_a_stopped_call_had_begun_goes(machine, at):
+def test_what_a_stopped_call_had_begun_goes(machine):
     """Before it said in its journal what is to happen, in each folder that has a file of ours."""
-    machine.write(f"{at}/.it.fileroom-new", "half")
+    left = [machine.at(f"{at}/.it.fileroom-{end}") for end in ("new", "old") for at in (
+        "etc/fileroom", "etc/logrotate.d", "etc/nginx", "etc/nginx/conf.d", "etc/nginx/modules-enabled",
+        "var/log/fileroom", "var/log/nginx", "etc/nginx/fileroom",
+        *(f"etc/nginx/fileroom/{it}" for it in ("dav", "queues", "rooms", "signin", "tls")))]
+    for it in left:
+        machine.write(it, "half")
     assert machine.does("user", "list")[0] == 0
-    assert not os.path.exists(machine.at(f"{at}/.it.fileroom-new"))
+    assert [*filter(os.path.exists, left)] == []
 
 
 def test_kept_first(machine):
-    """Each file is on the disk, whole, before it has its name, and its name before what reads it is asked."""
+    """Each file is on the disk, whole, before it has its name, and its name before what reads it is asked, what is to
+    happen before it begins; and until a file has its owner nobody else reads it."""
     words = [sys.executable, "-B", "-c", ORDER, os.path.dirname(ADMIN), "--root", machine.root, "user", "add", "plans",
              "kim", "eng"]
     done = subprocess.run(words, env=machine.env, capture_output=True, text=True)
-    lines = [it for it in done.stdout.splitlines() if it.split()[0] in ("renamed", "NOT", "run")]
+    lines = [it for it in done.stdout.splitlines() if it.split()[0] in ("renamed", "NOT", "OPEN", "run")]
     assert done.returncode == 0, done.stderr
     assert [it.split()[0] for it in lines if not it.startswith("run")] == ["renamed"] * 5
     assert [it for it in lines if it.startswith("run") and not it.endswith("[]")] == []
