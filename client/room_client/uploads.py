@@ -236,9 +236,13 @@ class Upload:
 
     def tidy_same(self) -> None:
         self.keep_manifest(read_manifest(self.before))
+        self.keep_one_spare(read_manifest(self.before).folder)
+
+    def keep_one_spare(self, folder: str) -> None:
+        """Of what was there as it began only that stays, without bytes, and the folder of these pieces."""
         spare = next((it for it in self.spares() if spares.is_empty(self.room, f"{self.path}/{it}") or
                       self.empty(it, it)), None)
-        self.clear_others(self.names, {read_manifest(self.before).folder, spare})
+        self.clear_others(self.names, {folder, spare})
 
     def keep_manifest(self, its: Manifest) -> None:
         """(What was made now is as a new one is.)"""

@@ -56,6 +56,14 @@ class Upload(uploads.Upload):
     def tidy_behind(self, tidies: Callable[[], None]) -> None:
         super().behind(tidies)
 
+    def tidy_aside(self) -> None:
+        """Where what was before the version lies aside, the spare that the file has stays its spare."""
+        if read_manifest(self.before).folder in self.room.children(self.path):
+            return self.tidy(self.names)
+        self.keep_manifest(self.its)
+        self.look_at_taken()
+        self.keep_one_spare(self.its.folder)
+
     def empty(self, name: str, gone: str) -> bool:
         return super().empty(gone, gone)
 
@@ -64,12 +72,12 @@ class Upload(uploads.Upload):
 
     def from_pool(self) -> list[str]:
         """Into a file of the caller's own."""
-        one = self.fitting(list(settled(self.room, self.room.bin)))
-        if one is None:
-            return []
         try:
             self.whole = self.whole or self.room.stat(self.path)
             if self.whole["owner"] != self.room.settings.user:
+                return []
+            one = self.fitting(list(settled(self.room, self.room.bin)))
+            if one is None:
                 return []
             self.room.rename(one, below(self.path, last(one)))
             return [last(one)]
@@ -77,13 +85,14 @@ class Upload(uploads.Upload):
             return []
 
     def fitting(self, found: list[str]) -> str | None:
-        """The one with the number of documents that is nearest to that of the pieces: from half of it to twice, but
-        where the pool is full. (Of one of many more those that are over are removed, and a file of its size makes them
-        anew.)"""
+        """The one of the file's group with the number of documents that is nearest to that of the pieces: from half of
+        it to twice, but where the pool is full. (Of one of many more those that are over are removed, and a file of its
+        size makes them anew.)"""
         need = len(self.its.pieces)
-        told = self.room.ask_all([{"cmd": "LIST", "keep": False, "path": it} for it in found])
-        has = {path: len(it["names"]) for path, it in zip(found, told) if it["code"] == 0}
-        fit = [it for it in has if len(has) >= MOST or has[it] <= 2 * need <= 4 * has[it]]
+        told = self.room.ask_all([ask for it in found for ask in spares.looks(it, "LIST", "STAT")])
+        has = {path: len(names["names"]) for path, names, its in zip(found, told[::2], told[1::2])
+               if names["code"] == 0 and its.get("group") == self.whole["group"]}
+        fit = [it for it in has if len(found) >= MOST or has[it] <= 2 * need <= 4 * has[it]]
         return min(fit, key=lambda it: abs(has[it] - need), default=None)
 
 

@@ -364,12 +364,12 @@ def put_large(visit: Visit, step: Step, version: Manifest, data: bytes) -> None:
     if step.takes:
         visit.rename(f"{step.source}/{step.folder}", f"{step.path}/{step.folder}")
     else:
-        upload.put_pieces(step.path, upload.spares() or upload.from_pool())
+        upload.put_pieces(step.path, [*upload.from_pool(), *upload.spares()])  # (what lies aside goes to the pool)
     upload.share(upload.made_pieces())
     if text_at(visit, step.path) != upload.before:
         raise OtherVersion(overtaken(step.path))
     visit.write(f"{step.path}/{NAME}", version.text())
-    upload.tidy_behind(lambda: upload.tidy(upload.names))
+    upload.tidy_behind(upload.tidy_aside)
 
 
 def finish(visit: Visit, step: Step) -> None:

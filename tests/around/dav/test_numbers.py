@@ -4,10 +4,12 @@ import os
 
 import pytest
 
+from room_client.words import FOLDER
+
 from .desk import PIECE
 from .saves import NO_PUPILS, Saves
 
-HOW = {"kind": Saves}
+HOW = {"kind": Saves, "roster": '[users]\nann = ["eng", "staff"]\nbob = ["eng"]\ncat = ["pupils"]\n'}
 SIZE, COUNT = 1_000_000, 51
 MOST_ASKED = 1.3  # times for each piece
 MOST_MADE = 3  # by a save that renames
@@ -55,16 +57,31 @@ def saved(desk, program, doc, size=SIZE):
     return counts
 
 
+def document(desk):
+    """A large one, of which whoever may pass it may read it too: else no spare of it fits."""
+    doc = desk.made(os.urandom(SIZE))
+    desk.set_list(doc, 1, [NO_PUPILS | {"flag": 0x43, "mask": 0x21}])
+    return doc
+
+
 @pytest.mark.parametrize("program, most", [("office by webdav", 0), ("gimp", 2), ("word", 2), ("vim", 3)])
 def test_a_program(desk, tell, program, most):
     """The third time it takes no more than the second."""
-    doc = desk.made(os.urandom(SIZE))
-    desk.set_list(doc, 1, [NO_PUPILS | {"flag": 0x43, "mask": 0x21}])
+    doc = document(desk)
     before = desk.kept(doc)
     counts = [saved(desk, program, doc) for _ in range(3)]
     assert [it[2] for it in counts[1:]] == [most] * 2, counts
     assert desk.kept(doc) == before
     tell(f"dav: {program}: asked, behind, numbers: {counts}")
+
+
+@pytest.mark.parametrize("program", ["gimp", "word", "vim"])
+def test_a_program_and_plain_saves_in_turn(desk, tell, program):
+    """A file that is saved by renames keeps its spare for who saves it otherwise."""
+    doc = document(desk)
+    made = [saved(desk, it, doc)[2] for it in 4 * (program, "office by webdav")]
+    tell(f"dav: {program} and plain saves in turn: numbers: {made}")
+    assert max(made[4:]) <= MOST_MADE, made
 
 
 def test_documents_of_other_sizes(desk, tell):
@@ -76,3 +93,23 @@ def test_documents_of_other_sizes(desk, tell):
         made.append(saved(desk, "word", doc, size)[2])
     tell(f"dav: of a large and a small one in turn: numbers: {made}")
     assert max(made[2:]) <= MOST_MADE, made
+
+
+def give(desk, path, group):
+    """All of a large file."""
+    for name, kind in desk.inside(desk.at(path)).items():
+        give(desk, f"{path}/{name}", group) if kind == FOLDER else desk.wire(
+            "ann", "CHOWN", f"{path}/{name}", owner="ann", group=group)
+    desk.wire("ann", "CHOWN", path, owner="ann", group=group)
+
+
+def test_documents_of_two_groups(desk, tell):
+    """Each finds pieces in the pool that are of its group."""
+    made, theirs, above = [], document(desk), desk.top
+    ours = document(desk)
+    give(desk, ours, "staff")
+    for desk.top, doc, program in 4 * [(above, theirs, "word"), (desk.top, ours, "vim"),
+                                       (desk.top, ours, "office by webdav")]:
+        made.append(saved(desk, program, doc)[2])
+    tell(f"dav: of two groups in turn: numbers: {made}")
+    assert max(made[6:]) <= MOST_MADE, made
