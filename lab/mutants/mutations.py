@@ -10,7 +10,7 @@ SIGNS = {ast.Lt: "<=", ast.LtE: "<", ast.Gt: ">=", ast.GtE: ">", ast.Eq: "!=", a
 SIGN = re.compile(rb"not\s+in|is\s+not|in\b|is\b|//|[<>=!]+|[-+*/%&]")
 CALLS = {"sorted": "list", "reversed": "list", "min": "max", "max": "min", "any": "all", "all": "any"}
 LEFT_OUT = {"strip", "rstrip", "lstrip", "lower", "upper", "casefold", "resolve", "copy"}  # methods
-TEXTS = {"help", "metavar", "description", "epilog", "prog", "usage"}  # keywords of what people read alone
+TEXTS = {"help", "metavar", "description", "epilog", "prog", "usage", "flush"}  # keywords of what people read alone
 SEARCHES = {"startswith", "endswith", "get", "pop", "removeprefix", "removesuffix", "partition", "rpartition", "split"}
 NAMES = {"ENOENT": "EIO", "LOCK_EX": "LOCK_SH", "LOCK_SH": "LOCK_EX"}
 FUNCTIONS = ast.FunctionDef, ast.Lambda
