@@ -135,7 +135,7 @@ def from_file(config: str | None, names: list[str]) -> dict:
     odd = [it for it in found if it.replace("-", "_") not in names or not isinstance(found[it], (str, int, float))]
     if odd:
         raise BadWords(f"{path}: {odd[0]} is no setting: {', '.join(names)}")
-    return {name.replace("-", "_"): it if name == "patience" else str(it) for name, it in found.items()}
+    return {name.replace("-", "_"): str(it) for name, it in found.items()}
 
 
 def find_settings(flags: dict, config: str | None) -> Settings:
