@@ -32,6 +32,15 @@ def here(tmp_path):
     return tmp_path
 
 
+@each("name, told", [("it reads the terminal", "-", "Ctrl-D ends it\n"), ("a file", "top/a", "")])
+def test_who_types_is_told(here, name, told):
+    (here / "top/a").write_bytes(b"typed")
+    typed, err = types.SimpleNamespace(isatty=lambda: True, buffer=io.BytesIO(b"typed")), io.StringIO()
+    with mock.patch("sys.stdin", typed), contextlib.redirect_stderr(err), contextlib.chdir(here):
+        assert local.read_local(name) == b"typed"
+    assert err.getvalue().partition("; ")[2] == told
+
+
 # Putting: a file is there whole, or as it was before
 
 @contextlib.contextmanager
@@ -112,13 +121,13 @@ def test_find_reads_no_link_and_no_pipe(here, name):
 
 
 def test_find_tells_what_does_not_go_into_the_room(tmp_path):
-    for name in "a", "e\u0301", "\u00e9", f"{local.PART}file", "x" * 65, "\udcff":
+    for name in "a", "e\u0301", "\u00e9", f"{local.PART}file", "x" * 64, "x" * 65, "\udcff":
         (tmp_path / name).write_bytes(b"")
     os.mkfifo(tmp_path / "pipe")
     (tmp_path / "link").symlink_to(tmp_path / "a")
     told = []
     tree = local.tree_here(str(tmp_path), told.append)
-    assert set(tree.kinds) == {"a", "\u00e9"}
+    assert set(tree.kinds) == {"a", "\u00e9", "x" * 64}
     assert tree.places["\u00e9"] == str(tmp_path / "\u00e9")
     assert len(told) == 6
     assert not tree.is_known("link/below")
