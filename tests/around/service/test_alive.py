@@ -37,6 +37,7 @@ def test_one_session_for_good(machine, plans):
     """Each look uses up a number of it, and so is a request that the room has to write down."""
     assert [fault(machine) for _ in range(3)] == [None] * 3
     assert (own(machine)["number"], own(machine)["user"]) == (3, "ann")
+    assert [oct(os.stat(machine.at(it)).st_mode & 0o777) for it in (os.path.dirname(OWN), OWN)] == ["0o700", "0o600"]
     assert machine.numbers()['fileroom_up{room="plans"}'] == "1"
     assert machine.does("watch") == (0, "", "")
     plans.room.kill()
@@ -95,6 +96,12 @@ def test_a_room_that_cannot_write(delaying):
         told = fault(delaying, 1)
     folder = delaying.at("var/lib/fileroom/plans")
     assert told == f"{LACKS}the disk of {folder} is full; nobody can read either until there is space"
+
+
+def test_a_room_without_users(machine):
+    """Nobody can ask it."""
+    machine.write("etc/fileroom/plans.toml", "[users]\n")
+    assert fault(machine) is None
 
 
 def test_the_disk_of_a_folder_that_is_not_there(folder):

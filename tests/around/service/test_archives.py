@@ -1,8 +1,10 @@
 """`fileroom-admin room import` of an archive that anybody may have made: a refusal in one line, and all as it was; of
 its logins those alone that are written here, and no certificate that nobody asked for."""
+import io
 import json
 import os
 import re
+import shutil
 import subprocess
 import sys
 import tarfile
@@ -10,7 +12,7 @@ import time
 from unittest import mock
 
 import pytest
-from fileroom_admin import moving, places
+from fileroom_admin import archives, moving, places
 from served import HERE, bytes_of, put_file, text_of
 
 from .contents import edit
@@ -150,6 +152,14 @@ def test_no_archive_of_a_room(there, exported, path, what):
 
 def test_no_archive_at_all(there):
     assert there.does("room", "import", "/etc/passwd")[0] == 1
+
+
+def test_cut_while_it_is_read(exported, path):
+    shutil.copy(exported.path, path)
+    with archives.opened(path) as archive:
+        os.truncate(path, archive.members["room.db"][0] + 1)
+        with pytest.raises(places.Fault, match="its end is not there, in room.db"):
+            archive.copy("room.db", io.BytesIO())
 
 
 def test_a_pipe(there, path):
@@ -293,6 +303,10 @@ def test_a_certificate_that_is_asked_for(there, certified, pair):
     assert (status, " ssl" in text_of(there.at("etc/nginx/fileroom/listen.conf"))) == (0, True), faults
     key = there.at("etc/nginx/fileroom/tls/key.pem")
     assert (bytes_of(key), os.stat(key).st_mode & 0o777) == (bytes_of(pair[1]), 0o600)
+    there.backed_up()
+    assert there.does("room", "export", "plans", f"{certified}.again")[0] == 0
+    with tarfile.open(f"{certified}.again") as tar:
+        assert [tar.extractfile(f"tls/{it}.pem").read() for it in ("cert", "key")] == [*map(bytes_of, pair)]
 
 
 def test_no_certificate(there, exported):

@@ -37,9 +37,12 @@ def test_no_login_of_another_room_is_in_it(exported):
     assert logins(text_of(exported.machine.at("etc/nginx/fileroom/users"))) == ["ann", "bob", "eve"]
 
 
-@pytest.mark.parametrize("room", ["none", "club"])
+@pytest.mark.parametrize("room", ["none", "club", "plans"])
 def test_an_archive_of_no_room(machine, folder, room):
-    """Nor of one without a backup."""
+    """Nor of one without a backup, or whose backup holds no file."""
+    latest = machine.at(f"var/backups/fileroom/plans/{stamp(1)}")
+    os.makedirs(latest)
+    os.mkfifo(f"{latest}/room.db")
     assert machine.does("room", "export", room, f"{folder}/tar")[0] == 1
     assert not os.path.exists(f"{folder}/tar")
 
@@ -66,7 +69,8 @@ def test_no_backup_of_now(machine, folder):
         machine.told()
         status, said, faults = machine.does(*words.split(), first=first)
         assert (status, "no backup of plans now" in said + faults) == (1, True), words
-        held = [it for it in {**machine.files(), **before} if machine.files().get(it) != before.get(it)]
+        after = machine.files()
+        held = [it for it in {**after, **before} if after.get(it) != before.get(it)]
         assert held == ["etc/nginx/fileroom/held/bob@plans"] * ("--to" in words), words
         assert [it for it in machine.told() if " start " in it or " stop " in it] == [
             f"systemctl {it} fileroom@plans" for it in ("stop", "start")] * ("room remove" in words), words

@@ -54,7 +54,7 @@ def test_one_waits(machine):
         until(lambda: other.poll() is not None or re.search(waits, text_of("/proc/locks")))
         assert (other.poll(), text_of(names)) == (None, "{}\n")
         for it in "hold", "release":  # (fail2ban asks for these)
-            assert machine.does("user", it, "plans", "bob", within=("timeout", "100"))[0] == 0
+            assert machine.does("user", it, "plans", "bob")[0] == 0
     assert (other.wait(300), text_of(names)) == (0, '{"ann": "Ann"}\n')
 
 
