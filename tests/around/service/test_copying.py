@@ -11,7 +11,7 @@ import sys
 import pytest
 from served import text_of
 
-from .contents import SERVICE, large
+from .contents import SERVICE, edit, large
 from .machines import Served
 
 ALL = {"type": 0, "flag": 3, "mask": 0x1F07FF}
@@ -144,6 +144,15 @@ def test_what_is_refused_changes_nothing(made, club, words, why):
     assert club.holds("ann", "MKDIR", "/there")["code"] == 0
     assert made.does("room", "copy", *words.split()) == (1, "", f"fileroom-admin: {why}\n")
     assert club.holds("ann", "LIST", "/")["names"] == [["there", "folder"]]
+
+
+def test_a_backup_in_which_somebody_wrote(made, club):
+    backups = made.at("var/backups/fileroom/plans")
+    latest, = os.listdir(backups)
+    edit(os.path.join(backups, latest, "room.db"), "UPDATE node SET parent = id WHERE name = 'team'")
+    status, said, faults = made.does(*WORDS)
+    assert (status, said, f"the backup {latest} of plans cannot be read: " in faults) == (1, "", True), faults
+    assert club.holds("ann", "LIST", "/")["names"] == []
 
 
 def test_what_does_not_fit_is_told_and_stays_closed(made, club):

@@ -125,6 +125,16 @@ def test_brought_to_another_machine(there, exported):
     assert os.path.exists(there.at("var/lib/fileroom/second/room.db"))
 
 
+def test_a_room_with_a_standby(machine):
+    """It is its manager's to stop."""
+    machine.write("etc/fileroom/plans.hosts", "10.0.0.1\n")
+    machine.told()
+    for it in "renew", "remove":
+        assert machine.does("room", it, "plans") == (1, "", (
+            "fileroom-admin: plans has a standby: bring it back to one machine first (man fileroom-standby)\n"))
+    assert machine.told() == []
+
+
 REMOVES = [f"systemctl {it}" for it in (
     "is-active -q fileroom@plans", "stop fileroom@plans", "disable --now fileroom-try@plans.timer",
     "disable --now fileroom-backup@plans.timer", "disable --now fileroom@plans", "stop fileroom-proxy@plans.socket",
