@@ -101,7 +101,7 @@ def moving(visit: Visit, fault: Refused, source: str) -> Exception:
 
 def need_apart(source: str, target: str) -> None:
     """Nothing takes its own place, or goes into itself, or takes the place of what it is in: what is there would go."""
-    if source == target or is_below(target, source) or is_below(source, target) or target == "/":
+    if source == target or is_below(target, source) or is_below(source, target):
         raise Answered(403, f"{source} and {target} are the same, or one is in the other")
 
 

@@ -5,6 +5,7 @@ import io
 import os
 import socket
 import types
+from unittest import mock
 from urllib.parse import quote
 
 import pytest
@@ -169,6 +170,7 @@ def test_no_password_is_kept(desk, user):
     desk.ask(user, "PUT", f"/both/by-{user}", b"x" * 70_000)
     secrets = PASSWORDS[user].encode(), login(user, PASSWORDS[user]).rpartition(" ")[2].encode()
     kept = kept_by(desk)
+    assert {os.stat(it).st_mode & 0o077 for it in (desk.path("state"), *kept) if not it.endswith(".new")} == {0}
     assert any(user.encode() in os.path.basename(path).encode() for path in kept)
     for path, text in kept.items():
         assert [it for it in secrets if it in text] == [], path
@@ -212,11 +214,13 @@ def test_passing_files_are_few():
 
 
 def test_passing_files_of_one_leave_room_to_others():
-    its = passing.Passing(now=lambda: 0.0)
+    now = [0.0]
+    its = passing.Passing(now=lambda: now[0])
     its.put("plans", "bob", "/._x", b"his")
     for at in range(2 * passing.MOST_OF_ONE // passing.MOST_BYTES):
         its.put("plans", "ann", f"/{at}/._x", bytes(passing.MOST_BYTES))
-    assert its.get("plans", "bob", "/._x") == b"his"
+    for now[0], found in (passing.FRESH - 1, b"his"), (passing.FRESH, None):
+        assert its.get("plans", "bob", "/._x") == found
 
 
 def test_what_is_remembered_is_of_one_room_and_user():
@@ -229,14 +233,26 @@ def test_what_is_remembered_is_of_one_room_and_user():
         assert its.is_plain(room, user, "/f") == is_theirs
 
 
+def test_what_is_remembered_is_little():
+    """What came first goes, and all that is below a change does."""
+    its, told = memory.Memory(now=lambda: 0.0), {it: memory.Told("file", 1, None, False, False) for it in "ab"}
+    with mock.patch.multiple(memory, MOST_NAMES=4, MOST_PLAIN=2):
+        for path in "/f", "/g", "/g/in":
+            its.keep("plans", "ann", path, told, 0, 0.0)
+            its.note_plain("plans", "ann", path)
+    assert [it[2] for it in its.folders] == [it[2] for it in its.plain] == ["/g", "/g/in"]
+    its.changed("plans", "/g")
+    assert (its.folders, its.count) == ({}, 0)
+
+
 @pytest.fixture
 def passes(tmp_path):
     """The status of what does not reach a room."""
     gate = app.Gate("/none", str(tmp_path))
     gate.need_login = lambda *_: b""
-    return lambda method, path: gate.answer({
+    return lambda method, path, **fields: gate.answer({
         "REQUEST_METHOD": method, "PATH_INFO": quote(path, safe="/"), "CONTENT_LENGTH": "1",
-        "wsgi.input": io.BytesIO(b"x"), "HTTP_AUTHORIZATION": login("ann", "word").partition(": ")[2]}).status
+        "wsgi.input": io.BytesIO(b"x"), "HTTP_AUTHORIZATION": login("ann", "word").partition(": ")[2]} | fields).status
 
 
 @pytest.mark.parametrize("path", [f"/dav/plans/{'n' * 65}/._x", f"/dav/plans/{'a/' * 16}._x"], ids=["long", "deep"])
@@ -247,6 +263,7 @@ def test_passing_files_have_names_of_the_room(passes, path):
 def test_passing_files_are_of_one_room(passes):
     asked = ("PUT", "plans"), ("GET", "club"), ("GET", "plans")
     assert [passes(method, f"/dav/{room}/._x") for method, room in asked] == [201, 404, 200]
+    assert [passes("GET", "/dav/plans/._x", HTTP_DAV_ROOM=it) for it in ("club", "plans")] == [400, 200]
 
 
 @pytest.mark.parametrize("space, count", [("n" * 10_000, 900), ("n" * 60_000, 3), ("n", 900), ("&quot;" * 74, 200)],

@@ -107,6 +107,15 @@ def test_no_whole_answer(standing, answer):
     assert (until(lambda: peer.ended == 1, SOON), len(connections.idle)) == (True, 0)
 
 
+def test_a_fault_within_an_answer(standing, monkeypatch):
+    """What comes of it later is nobody else's answer."""
+    _, connections = standing(WHOLE)
+    monkeypatch.setattr(front, "whole", lambda *_: [][0])
+    with pytest.raises(IndexError):
+        asks(connections)
+    assert len(connections.idle) == 0
+
+
 def test_few_are_kept_and_not_for_long(standing, monkeypatch):
     peer, connections = standing(WHOLE)
     lines = [connections.take(5.0) for _ in range(front.MOST_IDLE + 1)]

@@ -5,6 +5,7 @@ import errno
 import json
 import os
 import time
+from dataclasses import replace
 from unittest import mock
 
 import pytest
@@ -46,6 +47,7 @@ def test_locks_end(locked):
     locked.now = 1029.0
     assert its.foreign("plans", "/a", "bob", set()) == lock
     assert its.foreign("club", "/a", "bob", set()) is None
+    assert [its.named(*it) for it in (("plans", lock.token, "ann"), ("club", lock.token, "ann"))] == [lock, None]
     lock = its.refresh(lock, 30)
     locked.now = 1058.0
     assert its.foreign("plans", "/a", "bob", set()) == lock
@@ -58,6 +60,16 @@ def test_locks_end(locked):
     locked.take("/a", user="bob", its=its)
     for it in its, locked.anew():
         assert [one.user for one in it.at("plans", "/a") + it.at("plans", "/b")] == ["bob"]
+
+
+def test_locks_go_with_what_they_are_on(locked):
+    """And with all that was in it; no others do."""
+    for path in "/f", "/f/it", "/f/in/it", "/free":
+        locked.take(path)
+    locked.its.drop_below("club", "/free")
+    locked.its.drop_below("plans", "/f")
+    for its in locked.its, locked.anew():
+        assert [it.path for it in its.held.values()] == ["/free"]
 
 
 @pytest.mark.parametrize("seconds, is_held", [(59.0, True), (60.0, False)])
@@ -158,6 +170,8 @@ def test_two_thousand_locks(locked):
     with pytest.raises(faults.Busy):
         locked.take("/one/more")
     locked.take("/one/more", user="bob")
+    with mock.patch.object(locks, "MOST", 2001), pytest.raises(faults.Busy):
+        locked.take("/too/many", user="cat")
     again = locked.anew()
     for it in held:
         assert again.foreign("plans", it.path, "bob", {it.token}) == it
@@ -231,6 +245,11 @@ def aside(tmp_path):
 
 def test_ten_minutes(aside):
     aside.move("/a", "/a~")
+    for room, user in ("club", "ann"), ("plans", "bob"):  # (of the same names)
+        aside.its.gone(room, user, "/a~")
+        aside.its.ends(room, user, "/a")
+        assert aside.its.is_aside(room, user, "/a~") is None
+    aside.its.moved("club", "ann", "/a~", "/b")
     aside.time = 599.0
     assert (aside.of("/a"), aside.of("/a", "bob")) == (["/a~"], [])
     aside.time = 600.0
@@ -243,6 +262,12 @@ def test_one_user_leaves_room_to_others(aside):
         aside.move(f"/{at}", f"/{at}~")
     assert len(aside.its.kept) == steps.MOST_OF_ONE + 1
     assert (aside.of("/b", "bob"), aside.of("/0")) == (["/b~"], [])
+    with mock.patch.object(steps, "MOST", 9):
+        aside.move("/c", "/c~", "cat", "cat")
+        for at in range(20):
+            aside.its.made("plans", "ann", f"/{at}")
+    assert (len(aside.its.kept), len(aside.its.fresh), aside.of("/c", "cat")) == (9, 9, ["/c~"])
+    assert [aside.its.is_fresh("plans", "ann", f"/{it}") for it in (10, 11)] == [False, True]
 
 
 def test_names_change(aside):
@@ -291,12 +316,38 @@ def test_what_is_not_come_to_is_left(tmp_path):
     assert sorted(it.path for it in its.claim("plans", "ann", set())) == ["/a", "/b"]
 
 
+def test_what_is_left_is_not_kept_for_ever(tmp_path, said):
+    """Too many, and what is too old, is told and forgotten."""
+    now = [0.0]
+    its = steps.Steps(str(tmp_path / "it"), now=lambda: now[0])
+    with mock.patch.object(steps, "MOST_LEFT", 2):
+        for path in "/a", "/b", "/c":
+            its.leave(its.begin(replace(STEP, path=path)))
+    assert [it.path for it in its.kept.values()] == ["/b", "/c"]
+    now[0] = steps.DAYS * 86400 + 1.0
+    its.leave(its.begin(replace(STEP, path="/d")))
+    assert [it.path for it in steps.Steps(str(tmp_path / "it")).kept.values()] == ["/d"]
+    assert said().count("given up in room plans: /") == 3
+
+
 def test_the_next_version_is_later(tmp_path):
     """In its room, whatever has its path in another one."""
     its = seen.Seen(str(tmp_path / "seen"), now=lambda: 1000.0)
     for sum_, when in ("a", 1000), ("b", 1001), ("b", 1001), ("c", 1002):
         assert its.times("plans", {"/it": sum_}) == {"/it": when}
         assert its.times("club", {"/it": "x"}) == {"/it": 1000}
+
+
+def test_times_are_few(tmp_path):
+    """Of too many the older half goes, once in a while."""
+    now = [0.0]
+    its = seen.Seen(str(tmp_path / "seen"), now=lambda: now[0])
+    with mock.patch.object(seen, "MOST", 9):
+        for now[0] in range(10):
+            its.times("plans", {f"/{now[0]}": "sum"})
+        its.calls = 999
+        its.times("plans", {"/10": "sum"})
+    assert [its.has("plans", f"/{it}") for it in (0, 4, 5, 10)] == [False, False, True, True]
 
 
 def test_times_on_a_full_disk(tmp_path):
@@ -309,12 +360,15 @@ def test_times_on_a_full_disk(tmp_path):
         assert its.times("plans", sums).keys() == sums.keys()
 
 
-@pytest.mark.parametrize("how", [{"side_effect": OSError(errno.ENOSPC, "")}, {"return_value": 1}],
-                         ids=["none of it", "a part"])
-def test_an_answer_on_a_full_disk(how):
-    """Also where the disk takes a part of a piece, and says so by its count alone."""
-    with mock.patch.object(os, "pwrite", **how), pytest.raises(faults.Busy):
-        spool.filled(9, lambda put: put(0, b"xy"))
+@pytest.mark.parametrize("how", [{"side_effect": OSError(it, "")} for it in (errno.ENOSPC, errno.EDQUOT)] + [
+    {"return_value": 1}], ids=["none of it", "a quota", "a part"])
+def test_an_answer_on_a_full_disk(tmp_path, how):
+    """Also where the disk takes a part of a piece, and says so by its count alone. A session's file is not cut."""
+    with mock.patch.object(os, "pwrite", **how):
+        with pytest.raises(faults.Busy):
+            spool.filled(9, lambda put: put(0, b"xy"))
+        with pytest.raises(OSError):
+            visit.put(str(tmp_path / "it"), b"xy", os.O_WRONLY | os.O_CREAT)
 
 
 def test_no_file_is_of_two_users(tmp_path):
@@ -325,6 +379,9 @@ def test_no_file_is_of_two_users(tmp_path):
             assert os.path.dirname(os.path.normpath(path)) == str(tmp_path / "sessions/plans")
             found += [path, *(f"{path}.{end}" for end in ("lock", "boot", "new", *range(8)))]
     assert len(found) == len(set(found))
+    with mock.patch.object(seats, "MOST_PACES", 2):
+        assert its.pace("eve") is its.pace("eve")
+    assert [*its.paces] == ["eve"]
 
 
 def test_what_is_kept_of_a_slot(tmp_path):

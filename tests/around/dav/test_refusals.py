@@ -1,11 +1,15 @@
 """What the gateway refuses, and what it takes: each line of docs/DAV.md that a program can be asked about."""
 import os
+import re
 import socket
 import subprocess
 
 import pytest
+from fileroom_dav import faults
 from given import each
-from served import HANGS
+from room_client import files
+from room_client.faults import Refused
+from served import HANGS, HERE, text_of
 
 from .desk import ANNS, BOB_READS, BOB_WRITES, EXCLUSIVE, HERS, PASSWORDS, SHARED, make_folders, tag_of
 
@@ -25,6 +29,7 @@ def started(started):
         make_folders(room, hers=[HERS], read=[HERS, BOB_READS], both=[ANNS, BOB_WRITES])
         room.create("/hers/secret", b"s")
         room.create("/read/it", b"r")
+        files.put(room, "/large", bytes(70_000))
     return started
 
 
@@ -115,10 +120,22 @@ def test_a_name_with_a_blank_that_the_room_has(desk):
     ("GET", "/" + "n" * 65, 404, {}), ("PUT", "/a" * 16, 409, {}), ("PUT", "/a" * 17, 403, {}),
     ("PUT", "/a", 413, {"Content_Length": "99999999999"}), ("PUT", "/dav/plans/%ff", 400, {"raw": True}),
     ("DELETE", "/", 403, {}), ("PATCH", "/both", 501, {}), ("PROPFIND", "/", 403, {"Depth": "infinity"}),
-    ("PROPFIND", "/", 400, {"Depth": "2"})], ids=lambda it: ascii(it)[:30])
+    ("PROPFIND", "/", 400, {"Depth": "2"}), ("LOCK", "/both", 400, {"body": EXCLUSIVE, "Depth": "1"}),
+    ("MKCOL", "/._d", 403, {}), ("COPY", "/hers/secret", 400, {"to": "/both/c", "Overwrite": "no"}),
+    ("LOCK", "/large/in", 409, {"body": EXCLUSIVE}), *((it, "/large/in", 409, {}) for it in ("PUT", "MKCOL")),
+    *((it, "/hers/secret", 409, {"to": "/large/in"}) for it in ("MOVE", "COPY"))], ids=lambda it: ascii(it)[:30])
 def test_where_it_cannot_be(desk, method, path, status, fields):
     got = desk.does("ann", method, path, status, **fields)
     assert (status == 405) == ("PROPFIND" in got.fields.get("allow", ""))
+
+
+def test_what_the_room_refuses():
+    """By the first of docs/DAV.md's statuses that names it."""
+    rows = re.findall(r"^\| (\d{3}) \| ([^|]*) \|", text_of(os.path.join(HERE, "..", "docs", "DAV.md")), re.M)
+    told = {name: int(status) for status, names in reversed(rows)
+            for name in re.findall("[A-Z_]{4,}", re.sub(r"\(.*?\)", "", names)) if name != "DELAY"}
+    got = {it: faults.as_answered(Refused({"code": 99, "error": it}, {}, "")).status for it in told}
+    assert (got, len(told) > 12) == (told, True)
 
 
 def test_nothing_takes_its_own_place(desk):
@@ -142,8 +159,12 @@ def test_versions(desk):
     desk.does("ann", "PUT", "/v", 412, b"two", If_None_Match="*")
     desk.does("ann", "PUT", "/v", 412, b"two", If_Match=tag_of(b"other"))
     desk.does("ann", "PUT", "/none", 412, b"two", If_Match="*")
-    desk.does("ann", "DELETE", "/v", 412, If_Match=tag_of(b"other"))
-    desk.does("ann", "PUT", "/v", 204, b"two", If_Match=tag_of(b"one"))
+    for method, path, body in (("DELETE", "/v", b""), ("MOVE", "/v", b""), ("COPY", "/v", b""), ("MKCOL", "/w", b""),
+                               ("LOCK", "/v", EXCLUSIVE), ("PROPPATCH", "/v", NO_CHANGE)):
+        desk.does("ann", method, path, 412, body, to="/w" if body == b"" else None, If_Match=tag_of(b"other"))
+    for room, told, status in (("plans", "", 204), ("plans", "W/", 204), ("other", "", 412)):
+        desk.does("ann", "PUT", "/v", status, b"one", If=f"</dav/{room}/v> ([{told}{tag_of(b'one')}])")
+    desk.does("ann", "PUT", "/v", 204, b"two", If_Match=f"W/{tag_of(b'one')}")
     with desk.room() as room:
         room.write("/v", b"three, past the gateway")
     desk.does("ann", "PUT", "/v", 412, b"four", If_Match=tag_of(b"two"))
@@ -175,6 +196,7 @@ def test_no_page_of_ours(desk):
     names = "content-type", "content-disposition", "x-content-type-options"
     assert [got.body, *(got.fields[it] for it in names)] == [page, "application/octet-stream", "attachment", "nosniff"]
     assert "sandbox" in got.fields["content-security-policy"]
+    assert "private" in got.fields["cache-control"]
     assert "script-src" not in got.fields["content-security-policy"]
 
 
@@ -184,7 +206,11 @@ def test_no_page_of_ours(desk):
     ("many", "PROPFIND", "/", 400, b"<a>" + b"<b/>" * 2000 + b"</a>"),
     ("long", "PROPFIND", "/", 413, b"<a>" + b" " * 70000 + b"</a>"),
     ("utf-7", "PROPFIND", "/", 400, b'<?xml version="1.0" encoding="utf-7"?><a/>'),
-    ("two of one", "PROPFIND", "/", 400, b"<D:propfind xmlns:D='DAV:'><D:prop/><D:allprop/></D:propfind>")])
+    ("two of one", "PROPFIND", "/", 400, b"<D:propfind xmlns:D='DAV:'><D:prop/><D:allprop/></D:propfind>"),
+    ("another one", "PROPFIND", "/", 400, b"<D:other xmlns:D='DAV:'><D:allprop/></D:other>"),
+    ("no change", "PROPPATCH", "/xml", 400, EXCLUSIVE), ("not to write", "LOCK", "/xml", 400,
+                                                        EXCLUSIVE.replace(b"write", b"other")),
+    ("no scope", "LOCK", "/xml", 400, EXCLUSIVE.replace(b"exclusive", b"other"))])
 def test_xml_of_strangers(desk, method, path, status, body):
     desk.does("ann", method, path, status, body, Depth="0")
 
@@ -292,7 +318,7 @@ def test_who_holds_what(desk):
     assert "<D:href>/dav/plans/both/held</D:href><D:status>HTTP/1.1 424 Failed Dependency</D:status>" in told
     for path, depth in ("/both/held/it", "0"), ("/both/held", "1"):
         told = desk.told("bob", path, depth)
-        assert "<D:owner>me &amp; mine</D:owner>" in told
+        assert "<D:depth>0</D:depth><D:owner>me &amp; mine</D:owner>" in told
         assert f"<D:lockroot>{OF_IT}</D:lockroot>" in told
         assert "locktoken" not in told
     desk.unlock("ann", "/both/held/it", token)

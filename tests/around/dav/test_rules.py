@@ -28,8 +28,11 @@ def started(started):
 def test_a_lock_of_a_folder_alone_keeps_its_names(desk):
     desk.play("ann MKCOL /both/named 201; ann PUT /both/named/it 201 > x")
     token = desk.locked("ann", "/both/named", Depth="0")
-    for method, path in ("PUT", "new"), ("MKCOL", "new"), ("DELETE", "it"):
-        desk.does("bob", method, f"/both/named/{path}", 423)
+    for method, path in ("PUT", "new"), ("MKCOL", "new"), ("DELETE", "it"), ("LOCK", "new"):
+        desk.does("bob", method, f"/both/named/{path}", 423, EXCLUSIVE if method == "LOCK" else b"")
+    desk.play("bob PUT /both/his 201 > y; bob MOVE /both/named/it 423 > /both/it")
+    for method in "MOVE", "COPY":
+        desk.does("bob", method, "/both/his", 423, to="/both/named/new")
     desk.unlock("ann", "/both/named", token)
     desk.does("bob", "PUT", "/both/named/new", 201, b"x")
 
@@ -63,9 +66,12 @@ def test_what_is_told_of_what_is_closed(desk):
 
 def test_who_may_remove_is_told_that_it_is_locked(desk):
     """Also who may not write it; by whom, they are not told."""
+    desk.does("ann", "PUT", "/both/kept", 201, b"k")
+    his = desk.locked("bob", "/both/kept", Depth="0")
     with desk.room() as room:
-        room.create("/both/kept", b"k")
         room.set_list("/both/kept", 0, [HERS | {"flag": 0}, {"flag": 0, "mask": 0x10001, "type": 0, "who": "bob"}])
+    desk.does("bob", "LOCK", "/both/kept", 403, If=f"({his})")  # (nor does he keep others off any longer)
+    desk.unlock("bob", "/both/kept", his)
     token = desk.locked("ann", "/both/kept", Depth="0")
     for method in "DELETE", "MOVE":
         assert b"ann" not in desk.does("bob", method, "/both/kept", 423, to="/both/other").body

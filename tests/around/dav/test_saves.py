@@ -136,7 +136,7 @@ def test_a_new_name_is_of_its_folder(desk, size):
     desk.does("ann", "PUT", "mine.tmp", 201, b"m")
     desk.set_list("mine.tmp", 2, [{"flag": 0, "mask": 0x1F07FF, "type": 0, "who": "OWNER@"}])
     desk.play("ann MOVE mine.tmp 201 > mine.odt; cat GET mine.odt 403; ann PUT .~lock.a.odt# 201 > ann has it open")
-    desk.play("cat GET .~lock.a.odt# 200")
+    desk.play("cat GET .~lock.a.odt# 200; ann PUT 20261201 201 > a day; cat GET 20261201 200")
 
 
 @pytest.mark.parametrize("size, aside", [(SMALL, "~WRL1.tmp"), (LARGE, "a.bak")])
@@ -224,7 +224,7 @@ def test_what_is_aside_as_another_takes_its_name(desk):
 def test_the_trash_does_not_fill(desk):
     before = desk.inside(TRASH)
     desk.made()
-    for name, data in ("4913", "x"), (".a.odt.swp", "x"), ("a.odt~", "x"), ("empty.odt", ""):
+    for name, data in *((it, "x") for it in ("4913", ".a.odt.swp", "a.odt~", "#a.odt#", ".~a.odt")), ("empty.odt", ""):
         desk.play(f"ann PUT {name} 201 > {data}; ann DELETE {name} 204")
     assert desk.inside(TRASH) == before
     desk.does("ann", "DELETE", "a.odt", 204)
