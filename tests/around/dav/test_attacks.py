@@ -204,6 +204,12 @@ def test_a_listing_is_remembered_for_fifteen_seconds():
     for now[0] in 0.0, 5.0, 10.0, 16.0, 20.0, 29.0, 32.0:
         tree.listed(visit, "/folder", True, its, "plans")
     assert [it for it, cmd in said if cmd == "READ"] == [0.0, 16.0, 32.0]
+    said.clear()
+    its = memory.Memory(now=lambda: 0.0)
+    for wants_sums, kind in (False, "file"), (True, "file"), (False, "file"), (False, "folder"):
+        visit.children = lambda _, kind=kind: {"it": kind}
+        tree.listed(visit, "/folder", wants_sums, its, "plans")
+    assert [cmd for _, cmd in said] == ["STAT", "READ", "READ"]  # (the last is of a manifest)
 
 
 def test_passing_files_are_few():

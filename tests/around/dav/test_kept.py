@@ -360,6 +360,17 @@ def test_times_on_a_full_disk(tmp_path):
         assert its.times("plans", sums).keys() == sums.keys()
 
 
+@pytest.mark.parametrize("count, is_told", [(saving.MOST_ENTRIES, True), (saving.MOST_ENTRIES + 1, False)])
+def test_a_long_list_of_somebody_elses(count, is_told):
+    """One that is too long for bytes of before, with those that its folder handed down, is for the caller alone."""
+    entries, set_ = [{"flag": 0, "mask": 1, "type": 0, "who": "cat"}] * count, []
+    one = mock.Mock(settings=mock.Mock(user="bob"), set_list=lambda *its: set_.append(its),
+                    stat=lambda path: {"owner": "ann" if path == "/a" else "bob", "group": "eng"},
+                    get_list=lambda _: {"aclflag": 1, "entries": entries})
+    saving.close_like(one, "/a", "/a~", False)
+    assert set_ == [("/a~", saving.PROTECTED, entries if is_told else [saving.of_one("bob", False)])]
+
+
 @pytest.mark.parametrize("how", [{"side_effect": OSError(it, "")} for it in (errno.ENOSPC, errno.EDQUOT)] + [
     {"return_value": 1}], ids=["none of it", "a quota", "a part"])
 def test_an_answer_on_a_full_disk(tmp_path, how):

@@ -100,6 +100,17 @@ def test_what_is_removed_goes_to_the_trash(desk, trash, name, is_kept):
     assert any(it.startswith(f"{name}~") for it, _ in trash()) == is_kept
 
 
+def test_a_trash_that_others_read(desk, trash):
+    """Nothing goes there, and it stays where it is."""
+    closed = [HERS | {"flag": 0}, HERS | {"who": "ann"}]
+    desk.does("ann", "PUT", "/stays", 201, b"s")
+    before = trash()
+    for entries, status in ([*closed, BOB_READS], 403), (closed, 204):
+        desk.wire("ann", "SETLIST", "/trash/ann", aclflag=2, entries=entries)
+        desk.does("ann", "DELETE", "/stays", status)
+        assert (len(trash()) > len(before)) == (status == 204)
+
+
 @pytest.mark.parametrize("method", ["MOVE", "COPY"])
 @pytest.mark.usefixtures("trash")
 def test_what_is_replaced_goes_to_the_trash(desk, method):

@@ -5,7 +5,7 @@ import unicodedata
 
 import pytest
 
-from .desk import HERS, Wire
+from .desk import HERS, Wire, asks
 from .saves import ENG_CHANGES, ENG_EDITS, LARGE, NO_PUPILS, PROGRAMS, PUPILS_VIEW, SECRET, SIZES, SMALL, TRASH, Saves
 
 HOW = {"kind": Saves, "others": ("other",)}
@@ -124,19 +124,33 @@ def test_with_edit(desk):
 def test_a_new_name_is_of_its_folder(desk, size):
     """What a program put under a name of its own is for nobody else, until it has one that stays."""
     desk.made()
+    desk.wire("ann", "CHOWN", desk.top, owner="ann", group="staff")
     data = os.urandom(size)
     for status in 201, 204:
         desk.does("ann", "PUT", "~WRD1.tmp", status, data)
         for user in "bob", "cat":
             desk.does(user, "GET", "~WRD1.tmp", 403)
     desk.play("ann MOVE ~WRD1.tmp 201 > ~WRD2.tmp; cat GET ~WRD2.tmp 403; ann MOVE ~WRD2.tmp 201 > new.odt")
-    assert desk.kept("new.odt")[1]["aclflag"] == 1
+    its, list_ = desk.kept("new.odt")
+    assert (its["group"], list_["aclflag"]) == ("staff", 1)
     for user in "bob", "cat":
         assert desk.get(user, "new.odt") == data
     desk.does("ann", "PUT", "mine.tmp", 201, b"m")
     desk.set_list("mine.tmp", 2, [{"flag": 0, "mask": 0x1F07FF, "type": 0, "who": "OWNER@"}])
     desk.play("ann MOVE mine.tmp 201 > mine.odt; cat GET mine.odt 403; ann PUT .~lock.a.odt# 201 > ann has it open")
     desk.play("cat GET .~lock.a.odt# 200; ann PUT 20261201 201 > a day; cat GET 20261201 200")
+
+
+@pytest.mark.parametrize("size", SIZES)
+def test_what_is_refused_at_last_leaves_nothing(desk, size):
+    """As the new bytes, which lie in the trash, are to have their name."""
+    desk.made()
+    before = desk.inside(TRASH)
+    for name, status, does in (("m.tmp", 412, lambda: desk.wire("bob", "CREATE", "m.tmp", data="")),
+                               ("n.tmp", 403, lambda: desk.set_list(desk.top, 2, [PUPILS_VIEW]))):
+        with desk.before(asks("RENAME", name), does):
+            desk.does("ann", "PUT", name, status, os.urandom(size))
+        assert desk.inside(TRASH) == before
 
 
 @pytest.mark.parametrize("size, aside", [(SMALL, "~WRL1.tmp"), (LARGE, "a.bak")])
@@ -191,12 +205,15 @@ def test_a_backup_of_what_has_a_list_that_is_not_told(desk):
     assert desk.get("bob", "a.odt.bak") == b"old secret"
 
 
-def test_a_backup_is_for_the_documents_owner_and_group(desk):
-    """Also where somebody else makes it, by a list that names neither."""
+@pytest.mark.parametrize("owner, group, by, looks", [
+    ("cat", "eng", "bob", "cat GET a.odt.bak 200 > old secret; ann GET a.odt.bak 200 > old secret"),
+    ("ann", "pupils", "ann", "cat GET a.odt.bak 200 > old secret; bob GET a.odt.bak 403")])
+def test_a_backup_is_for_the_documents_owner_and_group(desk, owner, group, by, looks):
+    """Also where somebody else makes it, by a list that names neither, or one's own has another group."""
     desk.made()
     desk.set_list("a.odt", 2, [HERS | {"flag": 0}, ENG_CHANGES | {"flag": 0, "who": "GROUP@"}])
-    desk.wire("ann", "CHOWN", "a.odt", owner="cat", group="eng")
-    desk.play("bob COPY a.odt 201 > a.odt.bak; cat GET a.odt.bak 200 > old secret; ann GET a.odt.bak 200 > old secret")
+    desk.wire("ann", "CHOWN", "a.odt", owner=owner, group=group)
+    desk.play(f"{by} COPY a.odt 201 > a.odt.bak; {looks}")
 
 
 @pytest.mark.parametrize("name", ["a.odt.tmp", "5D4A1F00"])

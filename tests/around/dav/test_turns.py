@@ -264,6 +264,28 @@ def test_a_login_is_asked_for_again(tmp_path):
     assert said == [b""] * 3
 
 
+@pytest.mark.parametrize("status, told", [(b"401 Unauthorized", 401), (b"403 Forbidden", 502), (b"404 Not Found", 502)])
+def test_a_login_that_the_front_does_not_take(tmp_path, status, told):
+    with front_saying(str(tmp_path / "front"), status), pytest.raises(faults.Answered) as why:
+        gate = app.Gate(str(tmp_path / "front"), str(tmp_path))
+        try:
+            gate.need_login(ANN, "/whoami")
+        finally:
+            gate.seats.front.take(5.0).close()
+    assert why.value.status == told
+
+
+@pytest.mark.parametrize("cmd, has_changed", [("WRITE", True), ("READ", False)])
+def test_what_many_requests_changed(cmd, has_changed):
+    """(As the session is lost.)"""
+    one = object.__new__(visit.Visit)
+    one.has_changed, one.pace = False, visit.UserPace("eve", turns.Floor())
+    with mock.patch.object(visit.Room, "ask_all", side_effect=SessionLost({"code": 20, "error": "BADSESSION"})), (
+            pytest.raises(SessionLost)):
+        one.ask_all([{"cmd": cmd}])
+    assert one.has_changed == has_changed
+
+
 @pytest.mark.parametrize("has_changed, times", [(False, 2), (True, 1)])
 def test_a_visit_is_not_repeated_after_a_change(tmp_path, has_changed, times):
     """Where the room does not know the session any more, what was done by it is not done a second time."""
