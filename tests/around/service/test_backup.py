@@ -86,6 +86,9 @@ def backups(tmp_path_factory):
     folder = os.path.dirname(it.db)
     for year in (2001, 2002, 2003):
         os.makedirs(os.path.join(folder, f"backups/{year}-01-01T00-00-00Z"))
+    for left in ".new-abcdef", ".look-abcdef":  # (by a power cut, days ago)
+        os.makedirs(os.path.join(folder, f"backups/{left}"))
+        os.utime(os.path.join(folder, f"backups/{left}"), (0, 0))
     status, output, _ = said(BACKUP, it.db, it.roster, f"{folder}/backups", KEEP="2")
     kept = ["2003-01-01T00-00-00Z", os.path.basename(output.strip())]
     assert (status, sorted(os.listdir(f"{folder}/backups"))) == (0, kept)
@@ -117,6 +120,18 @@ def test_no_number_of_backups(room, keep):
 def test_refused(room, folder, why, name, line):
     """(The program refuses to open what sqlite3 would find, so a finding is made up.)"""
     refuses(why, room.db, room.roster, room.backups, PATH=stand_in(folder, name, line))
+
+
+def test_a_folder_of_another_user(room):
+    """Who could put something else in its place."""
+    os.chown(room.backups, NOBODY, NOBODY)
+    refuses("belongs to another user", room.db, room.roster, room.backups)
+
+
+def test_a_restore_on_to_a_full_disk(folder, kept):
+    refuses("MiB free, and this takes", "--restore", kept, os.path.join(folder, "room.db"),
+            PATH=stand_in(folder, "df", "echo Avail; echo 4096"))
+    assert not os.path.exists(os.path.join(folder, "room.db"))
 
 
 def test_a_damaged_room(room):
@@ -365,13 +380,13 @@ def test_a_users_program_is_not_heard_at_roots_terminal(users):
 
 
 def test_a_users_program_has_nothing_of_roots(users):
-    """No terminal, and no word of its environment."""
+    """No terminal, no word of its environment, and no group."""
     seen = users.at("seen")
-    looks = f"{{ env | grep OF_ROOT; [ ! -t 0 ] || echo terminal; : </dev/tty && echo its own; }} >{seen} 2>&1"
+    looks = f"{{ env | grep OF_ROOT; id -G; [ ! -t 0 ] || echo terminal; : </dev/tty && echo its own; }} >{seen} 2>&1"
     program = stand_in(users.mine, "fileroom", f'({looks})\nexec {users.top}/bin/fileroom "$@"').partition(":")[0]
     words = f"{users.top}/bin/fileroom-backup {users.db} {users.roster} {users.backups}"
     assert said("script", "-qec", words, "/dev/null", FILEROOM=f"{program}/fileroom", OF_ROOT="a word")[0] == 0
-    assert [it for it in text_of(seen).splitlines() if "No such device" not in it] == []
+    assert [it for it in text_of(seen).splitlines() if "No such device" not in it] == [str(NOBODY)]
 
 
 # The front's files

@@ -42,7 +42,7 @@ def newest():
 def top(tmp_path_factory):
     """Where it is installed."""
     at = str(tmp_path_factory.mktemp("usr"))
-    status, _, faults = said(os.path.join(SERVICE, "install"), "", at)
+    status, _, faults = said("sh", "-c", 'umask 077; exec "$@"', "sh", os.path.join(SERVICE, "install"), "", at)
     assert (status, faults) == (0, "")
     return at
 
@@ -50,6 +50,8 @@ def top(tmp_path_factory):
 def test_each_file_with_its_mode(top):
     modes = {it: oct(stat.S_IMODE(os.stat(os.path.join(top, it)).st_mode)) for it in below(top)}
     assert modes == MODES | dict.fromkeys(IN_FOLDERS, "0o644")
+    folders = {os.path.dirname(it) for it in modes}
+    assert {oct(stat.S_IMODE(os.stat(os.path.join(top, it)).st_mode)) for it in folders} == {"0o755"}
 
 
 def test_what_is_left_when_it_is_taken_away(folder):
@@ -62,7 +64,12 @@ def test_what_is_left_when_it_is_taken_away(folder):
 
 OF_SITE = {f"etc/nginx/{it}" for it in (
     "conf.d/fileroom.conf", "conf.d/fileroom-redirect.conf", "modules-enabled/60-fileroom.conf")}
-SITE_ENDS = ["systemctl reload nginx", "systemctl stop fileroom-ports.service"]
+OF_A_ROOM = "-backup@{}.timer", "-try@{}.timer", "-proxy@{}.socket", "-proxy@{}.service", "@{}.service"
+OF_ALL = "dav.socket", "dav.service", "signin.socket", "signin.service", "metrics.timer", "roster.timer", "watch.timer"
+SITE_ENDS = [
+    *(" ".join(["systemctl stop", *(f"fileroom{it.format(room)}" for it in OF_A_ROOM)]) for room in ("club", "plans")),
+    " ".join(["systemctl stop", *(f"fileroom-{it}" for it in OF_ALL)]), "systemctl is-active --quiet nginx",
+    "systemctl reload nginx", "systemctl stop fileroom-ports.service"]
 
 
 @pytest.mark.parametrize("reads", [True, False], ids=["nginx reads it", "nginx reads nothing"])
@@ -81,9 +88,7 @@ def test_the_site_goes_with_what_serves_it(machine, pair, reads):
         machine.stand_in("systemctl", TOLD + '[ "$1" != reload ]')
     status, _, faults = does("--remove")
     assert (status, "the wall stays" in faults, below(top)) == (0, not reads, [])
-    asked = machine.told()
-    assert [it for it in asked if it in SITE_ENDS] == SITE_ENDS[:1 + reads]
-    assert "fileroom@plans.service" in asked[1].split()
+    assert machine.told() == (SITE_ENDS if reads else SITE_ENDS[:-1])
     assert before.keys() ^ machine.files().keys() == OF_SITE | {"etc/nginx/fileroom/redirect.conf"}
     does()
     assert (admin("front")[0], machine.files() == before) == (0, True)
@@ -106,17 +111,32 @@ def test_another_copy_goes_alone(machine):
 
 def test_a_package_starts_what_was_enabled(machine):
     """(A room that was switched off is not; nor is one with a standby, which the cluster starts.)"""
-    for it in "systemd-sysusers", "py3compile", "systemd-tmpfiles", "fileroom-admin":
-        machine.stand_in(it, "")
-    machine.stand_in("deb-systemd-invoke", TOLD)
+    for it in "systemd-sysusers", "py3compile", "systemd-tmpfiles", "fileroom-admin", "deb-systemd-invoke":
+        machine.stand_in(it, TOLD)
     machine.breaks("fileroom@club.service\nfileroom-dav.socket\nfileroom-roster.timer\n")
     os.makedirs(machine.at("run/systemd/system"))
     machine.told()
     text = re.sub("/(etc|run)/", rf"{machine.root}/\1/", text_of(os.path.join(SERVICE, "deb/postinst")))
     assert said("sh", "-c", text, "postinst", "configure", **machine.env)[::2] == (0, "")
-    assert [it.partition(" start ")[2] for it in machine.told() if " start " in it] == [
+    told = machine.told()
+    assert told[:5] == ["systemd-sysusers fileroom.conf", "py3compile -p fileroom /usr/share/fileroom",
+                        "systemctl --system daemon-reload", "systemd-tmpfiles --create fileroom.conf",
+                        "fileroom-admin front"]
+    assert [it.partition(" start ")[2] for it in told if " start " in it] == [
         "fileroom-ports.service fileroom@plans.service fileroom-backup@plans.timer fileroom-try@plans.timer",
         "fileroom-signin.socket"]
+    assert said("sh", "-c", text, "postinst", "abort-upgrade", **machine.env)[::2] == (0, "")
+    assert machine.told() == []
+
+
+@pytest.mark.parametrize("word, leaves", [("remove", True), ("upgrade", False)])
+def test_a_package_ends_what_is_served_where_it_goes(machine, word, leaves):
+    for it in "py3clean", "leaves":
+        machine.stand_in(it, TOLD)
+    text = text_of(os.path.join(SERVICE, "deb/prerm")).replace("/usr/share/fileroom/fileroom-leave", "leaves")
+    machine.told()
+    assert said("sh", "-c", text, "prerm", word, **machine.env)[::2] == (0, "")
+    assert [it.strip() for it in machine.told()] == ["py3clean -p fileroom", *["leaves"] * leaves]
 
 
 def test_versions(top):

@@ -88,6 +88,19 @@ def test_said_before(machine, folder):
     assert "configuration: no such word\n" in text
 
 
+def test_what_is_asked_before(machine, folder):
+    """Each with its status, and all that it says. (The sign-in service is not there.)"""
+    machine.write("etc/nginx/fileroom/signin/directory.toml", "")
+    machine.write("etc/fileroom/club.hosts", "10.77.0.1\n")
+    for status, name in enumerate(("nginx", "fail2ban-client", "fileroom-standby"), 3):
+        machine.stand_in(name, f'echo "$*"; echo no >&2; exit {status}')
+    words = [os.path.join(SERVICE, "fileroom-asked"), folder]
+    subprocess.run(words, env={**machine.env, "ETC": machine.at("etc")}, check=True)
+    told = {it: text_of(os.path.join(folder, it)) for it in ("nginx", "fail2ban", "standby-club", "signin")}
+    assert told.pop("signin").startswith("127\n")
+    assert told == {"nginx": "3\n-tq\nno\n", "fail2ban": "4\nstatus\nno\n", "standby-club": "5\ncheck club\nno\n"}
+
+
 def test_to_a_file(machine, folder):
     """As Prometheus reads it, and nothing lies beside it."""
     os.mkdir(os.path.join(folder, "to"))

@@ -11,7 +11,7 @@ import pytest
 from served import HERE, bytes_of, put_file, text_of, until
 
 from .contents import BACKUP, SERVICE
-from .machines import ADMIN
+from .machines import ADMIN, TOLD
 
 # Calls fileroom-admin, and says of each rename and each folder whether the disk has it, and of what others can read.
 ORDER = """import os, sys
@@ -101,6 +101,20 @@ exec /bin/{name} "$@" """)
     has = {it: bytes_of(os.path.join(there, it)) for it in os.listdir(there) if it in whole}
     assert (status == 0) == (most >= 5)
     assert "room.db" not in has or has == whole
+
+
+def test_a_backup_is_on_the_disk_before_it_has_its_name(machine):
+    """And its name before it is told; the front's files too."""
+    for name in "mv", "sync":
+        machine.stand_in(name, f'{TOLD}exec /bin/{name} "$@"')
+    machine.told()
+    made = os.path.basename(machine.backed_up())
+    subprocess.run([BACKUP, "--front", os.path.join(machine.folder, "front")], check=True,
+                   env=machine.env | {"ETC": machine.at("etc")}, stdout=subprocess.DEVNULL)
+    told = [re.sub(r"new-\w+", "new", it) for it in machine.told()]
+    day = made.partition("T")[0]
+    assert told == [f"mv -T ./.new .copied-{made}", f"sync -f .copied-{made}/room.db", f"mv -T .copied-{made} {made}",
+                    "sync -f .", "sync -f ./.new/it", f"mv -T ./.new/it {day}.tar.gz"]
 
 
 @pytest.mark.parametrize("state, want", [("active", ["start"]), ("activating", ["start"]), ("inactive", []),
