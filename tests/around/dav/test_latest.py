@@ -307,9 +307,9 @@ def test_a_room_says_from_which_file_it_is_served(tmp_path):
     """Another one where it was restored, and where none is there or nothing tells; the same after each restart."""
     db, log = tmp_path / "var/lib/fileroom/plans/room.db", tmp_path / "var/log/fileroom/latest.log"
 
-    def begins():
+    def begins(path=os.environ["PATH"]):
         subprocess.run([os.path.join(HERE, "..", "service", "fileroom-began"), "plans"], check=True,
-                       env={**os.environ, "ROOT": str(tmp_path)}, stderr=subprocess.DEVNULL)
+                       env={**os.environ, "ROOT": str(tmp_path), "PATH": path}, stderr=subprocess.DEVNULL)
         its = json.loads(text_of(log).splitlines()[-1])
         assert its["slot"] == "plans/"
         return its["file"]
@@ -325,6 +325,10 @@ def test_a_room_says_from_which_file_it_is_served(tmp_path):
     db.rename(tmp_path / "aside")
     db.write_text("a room")
     assert begins() != first
+    for born in "0", "-":  # (as a standby's file system has it)
+        put_file(str(tmp_path / "stat"), f"#!/bin/sh\necho 7 {born}\n")
+        (tmp_path / "stat").chmod(0o755)
+        assert begins(f"{tmp_path}:{os.environ['PATH']}") != begins(f"{tmp_path}:{os.environ['PATH']}")
     assert Latest("plans", "/f").of([MADE, text_of(log).encode().splitlines()[-1]]).found == {}
 
 

@@ -80,7 +80,7 @@ class Manager:
         with open(os.path.join(folder, "fileroom", "plans.hosts"), "w", encoding="utf-8") as file:
             file.write("10.0.0.1\n")
         stand_in(folder, "systemctl", 'if [ "$2" = -q ]; then exit 1; fi; echo active')
-        stand_in(folder, "crm_resource", "")
+        stand_in(folder, "crm_resource", f'echo "$*" >>{folder}/waited')
         path = f"{folder}/stand-in-systemctl:{folder}/stand-in-crm_resource:{PATH}"
         self.env = {**os.environ, "ETC": folder, "RUN": folder, "CIB_file": self.cib, "PATH": path, "TZ": "XXX5"}
         put_file(self.cib, self.does("cibadmin", "--empty"))
@@ -118,3 +118,4 @@ def test_at_rest_for_its_backup(folder):
             os.remove(it.ran)  # (the machine died, and what it had in /run is gone)
     assert it.does(f"{SERVICE}/fileroom-rest", "--end", "plans") == ""
     assert (it.starts(), os.path.exists(it.ran), "rule" in text_of(it.cib)) == (True, False, False)
+    assert text_of(f"{folder}/waited").splitlines() == ["--wait --timeout=60"] * 3  # (until it has stopped, or runs)
