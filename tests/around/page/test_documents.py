@@ -20,6 +20,8 @@ def test_new_folder_and_new_document(club, browser):
     browser.press("Create")
     browser.sees("plans created.")
     browser.follow("plans")
+    browser.until("the folder", lambda: browser.script(PLACE) == "#open/club/plans")
+    assert "plans created." not in browser.shown()
     make_document(browser, "may.txt", "first")
     browser.follow("may.txt")
     browser.sees("first", "pre")
@@ -206,7 +208,7 @@ def test_a_refused_dialog(club, browser):
     club.open("/plans")
     make_new(browser, "New folder")
     browser.keys("june.txt", "enter")
-    browser.sees("Something has this name already.", "dialog")
+    browser.sees("Something has this name already.", "dialog [role=alert]")
     browser.keys(" 2")
     assert browser.script(TYPED) == "june.txt 2"
     browser.keys("escape")
@@ -242,12 +244,19 @@ def test_a_right_that_is_taken_while_she_types(club, browser):
 
 
 def test_log_out(club, browser):
-    """The browser forgets the login, and no box of its own asks for another. Back shows nothing and fails not."""
+    """The browser forgets the login, or it is told that it did not, and no box of its own asks for another. Back shows
+    nothing and fails not."""
     club.lay("/plans/")
     club.anew("/plans")  # (Back from the first would load another page, which waits for a login)
     ask = ("fetch(new URL('/whoami', location.origin), {signal: AbortSignal.timeout(3000)})"
            ".then((it) => arguments[0](it.status), () => arguments[0]('waits for a login'))")
     assert browser.later(ask) == 200
+    browser.script("const { open } = XMLHttpRequest.prototype; XMLHttpRequest.prototype.open = function (way) { "
+                   "open.call(this, way, '/whoami'); }")  # (a front that lets nobody out)
+    of_user(browser, "Log out")
+    browser.sees("Not logged out", "h1")
+    browser.go("about:blank")
+    club.anew("/plans")
     club.user = ""
     of_user(browser, "Log out")
     browser.sees("You are logged out", "h1")

@@ -16,6 +16,9 @@ WIDTH = "return document.documentElement.scrollWidth"
 MENU_AT = ("document.querySelector(arguments[0]).dispatchEvent(new MouseEvent('contextmenu', {bubbles: true, "
            "cancelable: true, button: 2, clientX: 90, clientY: 300}))")
 BOX = "const it = document.querySelector('.menu').getBoundingClientRect(); return [it.left, it.bottom]"
+ALL_TICK = "const it = document.querySelector('.things thead input'); return [it.checked, it.indeterminate]"
+EXPANDED = "return document.querySelector('[aria-label=\"More for attic\"]').ariaExpanded"
+OFFERED = "return document.querySelector('[role=menu], .chosen:not([hidden])') !== null"
 STOPS = "return [...document.querySelectorAll('.things [tabindex=\"0\"]')].map((it) => it.ariaLabel)"
 TO_SEARCH = "return document.activeElement.closest('#search') !== null"
 AWAY = "document.activeElement.blur()"
@@ -169,15 +172,15 @@ def test_keys_move_in_the_list(browser, frame):
 
 
 def test_keys_choose_in_the_list(browser, frame):
-    """Space, Shift and an arrow, Ctrl+A and Escape."""
+    """Space, Shift and an arrow, Ctrl+A and Escape. The tick above tells whether all are."""
     browser.keys(*TO_ROW, "end", "up", "space")
     assert browser.script(CHOSEN) == ["list.xlsx"]
     browser.chord("shift", "down")
-    assert browser.script(CHOSEN) == ["list.xlsx", "notes.txt"]
+    assert (browser.script(CHOSEN), browser.script(ALL_TICK)) == (["list.xlsx", "notes.txt"], [False, True])
     browser.chord("ctrl", "a")
-    assert browser.script(CHOSEN) == NAMES
+    assert (browser.script(CHOSEN), browser.script(ALL_TICK)) == (NAMES, [True, False])
     browser.keys("escape")
-    assert browser.script(CHOSEN) == []
+    assert (browser.script(CHOSEN), browser.script(ALL_TICK)) == ([], [False, False])
 
 
 def test_f2_renames_and_delete_removes(club, browser, frame):
@@ -256,7 +259,7 @@ def test_a_slash_leads_to_the_search(browser, frame):
 
 
 def test_keys_hold_for_the_whole_page(club, browser, frame):
-    """Wherever the focus is: Ctrl+A, Escape, Ctrl+Z, and Alt and an arrow."""
+    """Wherever the focus is: Ctrl+A, Escape, Ctrl+Z, and Alt and an arrow, which alone scrolls."""
     browser.script(AWAY)
     browser.chord("ctrl", "a")
     browser.sees("6 selected", ".chosen")
@@ -272,6 +275,10 @@ def test_keys_hold_for_the_whole_page(club, browser, frame):
     browser.sees("/frame/notes.txt is there again.", "#notices")
     assert "notes.txt" in club.names(TOP)
     browser.script(AWAY)
+    browser.keys("up")
+    browser.later("fetch('/whoami').then(() => arguments[0]())")
+    assert browser.script("return location.hash") == f"#open/club{TOP}"
+    browser.script("document.querySelector('.things a.name').focus()")
     browser.chord("alt", "up")
     browser.until("the folder above", lambda: browser.script(PLACE) == "#open/club")
 
@@ -288,9 +295,13 @@ def test_menu_of_a_row(browser, frame):
     browser.keys("down")
     assert browser.script(FOCUS) == "Rename"
     browser.keys("end", "down")
-    assert browser.script(FOCUS) == "Download as zip"
+    assert (browser.script(FOCUS), browser.script(EXPANDED)) == ("Download as zip", "true")
     browser.keys("escape")
-    assert browser.script(FOCUS) == "More for attic"
+    assert (browser.script(FOCUS), browser.script(EXPANDED)) == ("More for attic", "false")
+    browser.keys("enter")
+    offers(browser)
+    browser.keys("tab")
+    browser.until("it is closed", lambda: browser.script("return document.querySelector('[role=menu]') === null"))
 
 
 @pytest.mark.parametrize("key", ["enter", "space"])
@@ -377,7 +388,10 @@ def test_others_changes_are_seen_by_who_does_nothing(club, browser, frame):
 
 def test_others_changes_are_not_seen_where_that_is_not_wished(club, browser, frame):
     """A folder is looked at again by itself, but not for who turned that off."""
-    comes_back = "dispatchEvent(new Event('focus')); fetch('/whoami').then(() => arguments[0]())"
+    comes_back = ("dispatchEvent(new Event('focus')); fetch('/whoami').then(() => fetch('/whoami'))"
+                  ".then(() => arguments[0]())")  # (by then what it asks is sent)
+    are_known = lambda: all("0 items" in row(browser, it) for it in NAMES[:2])
+    browser.until("what they are", are_known)  # (which asks for what is in them)
     for words, name, is_shown in ("Do not refresh by itself", "one.txt", False), ("Refresh by itself", "two.txt", True):
         of_user(browser, words)
         club.lay(f"{TOP}/{name}")
@@ -387,10 +401,14 @@ def test_others_changes_are_not_seen_where_that_is_not_wished(club, browser, fra
             browser.until(words, lambda before=sent: club.lossy.times('"LIST"') > before)
         assert (words, club.lossy.times('"LIST"') > sent) == (words, is_shown)
     browser.sees("two.txt", ".things")
-    browser.act("//tr[.//bdi='two.txt']//input", "click")  # (what is chosen stays so)
-    sent = club.lossy.times('"LIST"')
-    browser.later(comes_back)
-    assert club.lossy.times('"LIST"') == sent
+    browser.until("what they are", are_known)
+    for path in "//*[@aria-label='More for two.txt']", "//tr[.//bdi='two.txt']//input":
+        browser.act(path, "click")  # (a menu stays open, and what is chosen stays so)
+        browser.until("what is offered", lambda: browser.script(OFFERED))
+        sent = club.lossy.times('"LIST"')
+        browser.later(comes_back)
+        assert club.lossy.times('"LIST"') == sent
+        browser.keys("escape")
 
 
 def test_one_click_downloads_what_cannot_be_shown(club, browser, frame):

@@ -91,8 +91,10 @@ def test_zip_can_be_unpacked(club, browser):
 
 def test_search(club, browser, tree):
     """In the whole room, or from where one is; capitals do not count; who comes back finds it again."""
-    club.lay(("/large.txt", b"elsewhere"))
     club.open("/t")
+    search(browser, "LARGE")
+    ends(browser, "1 result among")
+    club.lay(("/large.txt", b"elsewhere"))
     search(browser, "LARGE")
     ends(browser, "2 results among")
     assert sorted(browser.script(FOUND)) == ["/large.txt", "/t/sub/large.bin"]

@@ -42,6 +42,14 @@ def test_lost_answers_over_a_reload(club, browser, log):
     browser.sees(DONE, "#notices")
     browser.sees("after a reload", "pre")
     assert log() == "after a reload\n"
+    club.lossy.lose("APPEND", 10_000, passes=False)
+    append(browser, "too late")
+    browser.sees("times so far.", "#busy")
+    browser.go("about:blank")
+    club.lossy.lose("")
+    club.does({"cmd": "REMOVE", "path": LOG})
+    club.open("/plans")
+    browser.sees(f"APPEND of {LOG}: There is nothing at this path", "#notices .fault")
 
 
 def test_given_up(club, browser, log):
@@ -75,7 +83,7 @@ def test_a_killed_room(club, browser, log):
     browser.sees("The room is busy", "#busy")
     club.room.start()
     browser.sees("Saved.")
-    assert log() == "killed\n"
+    assert (log(), browser.text_of("#busy")) == ("killed\n", "")
 
 
 def test_a_browser_that_lost_what_it_kept_last(club, browser, log):

@@ -5,11 +5,13 @@ import pytest
 from .club import CHOSEN, DIALOG, PIECE, ROWS, TOP, ends, forget_told, row, search_in, to_folder
 from .drawn import PNG
 
-CELLAR, BOX = f"{TOP}/cellar", f"{TOP}/attic/box"
+CELLAR, ATTIC = f"{TOP}/cellar", f"{TOP}/attic"
+BOX = f"{ATTIC}/box"
 BOTH = ["list.xlsx", "notes.txt"]
 BAR = "return [...document.querySelectorAll('.chosen:not([hidden]) button:not([hidden])')].map((it) => it.textContent)"
 IN_MAIN = ("return document.querySelector('.chosen').hidden && "
            "document.querySelector('main').contains(document.activeElement)")
+IN_TREE = "return [document.activeElement.path, document.querySelectorAll('.tree [tabindex=\"0\"]').length]"
 TR = "//tr[.//bdi='{}']".format
 # what the mouse would do, event by event: a row is taken, held over an element, and let go; whether it may be
 DRAG = """const data = new DataTransfer(), [from, to] = [arguments[0], arguments[1]].map((path) =>
@@ -74,9 +76,13 @@ def test_several_are_downloaded(club, browser, both):
 
 
 def test_several_are_moved_and_back(club, browser, both):
-    """Into a folder that is made on the way."""
+    """Into a folder that is made on the way, to which keys lead too."""
     of_chosen(browser, "Move")
     to_folder(browser, "attic")
+    for key, path in ("down", CELLAR), ("left", TOP), ("right", ATTIC), ("end", CELLAR), ("up", ATTIC):
+        browser.keys(key)
+        browser.sees(f"To the folder {path}", "dialog")
+        assert (key, browser.script(IN_TREE)) == (key, [path, 1])
     browser.press("New folder", DIALOG)
     browser.fill("Name", "box")
     browser.press("Create")
@@ -195,7 +201,13 @@ def test_all_that_are_chosen_among_what_was_found_are_cut(club, browser, frame):
 
 
 def test_a_text_that_is_copied_moves_nothing(club, browser, both):
-    """What is marked is copied as such, and what others put into the clipboard is none of what was cut."""
+    """What is marked is cut or copied as such, and what others put into the clipboard is none of what was cut."""
+    browser.act("//header//input[@type='search']", "value", {"text": "words"})
+    browser.chord("ctrl", "a")
+    browser.chord("ctrl", "x")
+    assert browser.script("return document.querySelector('header input').value") == ""
+    assert "cut" not in browser.text_of("#notices")
+    browser.script("document.querySelector('.things a.name').focus()")
     browser.chord("ctrl", "x")
     browser.sees("2 items are cut", "#notices")
     club.open(CELLAR)

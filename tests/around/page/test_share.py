@@ -7,6 +7,10 @@ from .club import (ADD, ALL, CHANGE, DIALOG, EDIT, GROUP, MENU, PASS, TEXTS, VIE
 TOP, PATH = "/board", "/board/plans"
 SHARES = ("return [...document.querySelectorAll('.shares li')].map((it) => [it.querySelector('span').textContent, "
           "it.querySelector('button').textContent])")
+# of the names that fit, as a screen reader is told: whether they are shown, the one that is stood on, those chosen
+STANDS = ("const it = document.querySelector('[role=combobox]'), at = it.getAttribute('aria-activedescendant');"
+          "return [it.ariaExpanded, document.getElementById(at)?.textContent ?? null, [...document.querySelectorAll("
+          "'.fits:not([hidden]) [aria-selected=true]')].map((it) => it.textContent)]")
 STAFF = GROUP | 3
 
 
@@ -26,7 +30,9 @@ def passed(club, board):
 
 def give(browser, what):
     """Chooses it in the menu of the first who has something."""
+    now = browser.script(TEXTS, ".shares > li:first-child > button")[:1]
     browser.act("//main//*[@class='shares']/li[1]/button", "click")
+    browser.until("what it is", lambda: browser.script(TEXTS, "[role=menuitemradio][aria-checked=true]") == now)
     browser.press(what, MENU)
 
 
@@ -46,7 +52,7 @@ def test_share_with_a_group(club, browser, board):
     """By two choices; its members are let pass, work in it, and cannot remove it."""
     club.open(PATH, "access")
     share(browser, "staf", "Can view")
-    browser.sees("Nobody here is called staf.", ".share")
+    browser.sees("Nobody here is called staf.", ".share [role=alert]")
     share(browser, "staff", "Can edit and delete")
     browser.sees("bob cannot get through /board", "dialog")
     browser.press("Allow")
@@ -76,14 +82,18 @@ def test_share_is_changed(club, browser, passed):
 def test_share_in_the_place_of_odd_entries(club, browser, passed):
     club.sets(PATH, entry("staff", 0x1200AD, STAFF))
     club.open(PATH, "access")
-    browser.sees("Custom", ".share")
+    browser.press("Custom", "//main")
+    assert browser.script("return document.activeElement.tagName") == "SUMMARY"
+    assert "Only its owner" not in browser.text_of(".share")
     share(browser, "staff", "Can view")
     browser.until("it takes their place", lambda: club.own(PATH) == [(0, STAFF, VIEW, "staff"), (0, 3, ALL, "ann")])
     browser.sees("the group staff", ".shares")
+    share(browser, "Everyone", "Can view")
+    browser.until("all", lambda: club.own(PATH)[::2] == [(0, STAFF, VIEW, "staff"), (0, 3, VIEW, "EVERYONE@")])
 
 
 def test_share_beside_a_denial(club, browser, passed, tells):
-    """What a list denies is told where it decides; what is shared is taken away again."""
+    """What a list denies is told where it decides; what is shared is taken away again, and no denial goes with it."""
     tells("names.json", {"bob": "Bob Ray"})
     club.log_in("ann")
     club.sets(PATH, entry("bob", 0x10006, 3, kind=1), entry("staff", VIEW, STAFF))
@@ -95,6 +105,8 @@ def test_share_beside_a_denial(club, browser, passed, tells):
     browser.sees("These cannot get there, or not do it: Bob Ray (bob).", "#notices")
     browser.press("Stop sharing with the group staff")
     browser.until("it is gone", lambda: club.own(PATH) == [(1, 3, 0x10006, "bob")])
+    share(browser, "bob", "Can view")
+    browser.until("both", lambda: club.own(PATH) == [(1, 3, 0x10006, "bob"), (0, 3, VIEW, "bob")])
 
 
 def given(browser):
@@ -242,21 +254,28 @@ def test_share_for_the_first_time_keeps_the_owners_access(club, browser, passed,
     share(browser, "staff", level)
     browser.sees("Sharing updated.", "#notices")
     assert [it[3] for it in club.own(PATH)] == whos
+    browser.until("it is asked once", lambda: "keeps full" not in browser.text_of(".share"))
 
 
 def test_share_by_keys_with_people_by_name(club, browser, passed, tells):
-    """Of those whose names fit one is taken; two of a name are told apart."""
+    """Of those whose names fit one is taken, and a screen reader told which; two of a name are told apart."""
     tells("names.json", {"ann": "Ann Lee", "bob": "Bob Ray", "eve": "bob ray"})
     club.log_in("ann")
     club.open(PATH, "access")
     field = "//main//input[@role='combobox']"
     browser.act(field, "value", {"text": "bob"})
     assert browser.script(TEXTS, ".fits:not([hidden]) li") == ["Bob Ray (bob)", "bob ray (eve)"]
+    browser.keys("tab")
+    assert browser.script(STANDS) == ["false", None, []]
     share(browser, "Bob Ray", "Can view")
     browser.sees("Bob Ray are several people. Choose one by login: Bob Ray (bob) and bob ray (eve).", ".share")
     browser.act(field, "clear")
     browser.act(field, "value", {"text": "bob"})
-    browser.keys("down", "down", "up", "enter", "enter")
+    browser.keys("escape")
+    assert browser.script(STANDS) == ["false", None, []]
+    browser.keys("down", "down", "down", "up")
+    assert browser.script(STANDS) == ["true", "Bob Ray (bob)", ["Bob Ray (bob)"]]
+    browser.keys("enter", "enter")
     browser.until("it is shared", lambda: (0, 3, VIEW, "bob") in club.own(PATH))
 
 
@@ -264,7 +283,9 @@ def test_share_tells_by_name_who_cannot_get_there(club, browser, board, tells):
     tells("names.json", {"bob": "Bob Ray"})
     club.log_in("ann")
     club.open(PATH, "access")
-    share(browser, "Bob Ray", "Can view")
+    browser.act("//main//input[@role='combobox']", "value", {"text": "ray"})
+    browser.act("//main//*[@role='option']", "click")  # (by the mouse)
+    browser.press("Share", "//main//section[@class='share']")
     browser.sees("Bob Ray (bob) cannot get through /board.", "dialog")
     browser.press("Allow", DIALOG)
     browser.sees("Checked: the user Bob Ray (bob) can get there.", "#notices")

@@ -154,18 +154,19 @@ def letters(browser, where):
 
 def test_fault_of_a_closed_door_says_whom_to_ask(club, browser, tells):
     """By name, with a letter to them, and without ways to what may not be seen."""
-    club.lay("/closed/in.txt")
-    club.lets("eve", "/", VIEW, 0)
-    club.sets("/closed", entry("OWNER@", ALL), flags=2)
-    tells("names.json", {"ann": "Ann Lee"})
+    club.lay("/bobs/closed/in.txt")
+    club.lets("eve", "/bobs", VIEW, 0)
+    club.sets("/bobs/closed", entry("OWNER@", ALL), flags=2)
+    club.does({"cmd": "CHOWN", "group": "eng", "owner": "bob", "path": "/bobs"})  # (the nearest folder that tells it)
+    tells("names.json", {"bob": "Bob Ray"})
     club.log_in("eve")
-    club.open("/closed/in.txt")
-    browser.sees("You don't have access to /closed/in.txt. Ask its owner, or Ann Lee (ann), who owns a "
+    club.open("/bobs/closed/in.txt")
+    browser.sees("You don't have access to /bobs/closed/in.txt. Ask its owner, or Bob Ray (bob), who owns a "
                  "folder above.", "main")
     assert browser.script("return document.querySelector('.views')") is None
-    link = club.address("#open/club/closed/in.txt")
+    link = club.address("#open/club/bobs/closed/in.txt")
     assert letters(browser, "main") == [
-        ("Write to Ann Lee", ["Access to /closed/in.txt"], [f"Please give me access to this:\n\n{link}"])]
+        ("Write to Bob Ray", ["Access to /bobs/closed/in.txt"], [f"Please give me access to this:\n\n{link}"])]
 
 
 def test_fault_of_a_closed_door_names_who_owns_what_is_further_above(club, browser):
@@ -230,11 +231,11 @@ def test_who_shares_can_send_the_link(club, browser):
     browser.press("Stop sharing with bob")
     browser.until("it is taken back", lambda: "bob" not in browser.text_of(".shares"))
     browser.sees("Sharing updated.", "#notices")
-    assert letters(browser, "#notices") == []
+    assert (letters(browser, "#notices"), "Checked" in browser.text_of("#notices")) == ([], False)
 
 
 def test_fault_of_a_list_is_told_until_it_is_taken(club, browser):
-    """Once."""
+    """Once. Of a denial nobody is told that they get there."""
     club.lay(f"{TOP}/")
     club.open(TOP, "access")
     set_list(browser, "the user", "bob", "view", here_alone=True)
@@ -247,10 +248,11 @@ def test_fault_of_a_list_is_told_until_it_is_taken(club, browser):
     browser.press("Save the list")
     browser.until("it is asked again", lambda: club.lossy.times('"SETLIST"') > asked)
     browser.act(here, "click")
+    browser.act("//main//ol[1]/li[1]//select/option[.='Deny']", "click")
     assert told(browser) == fault
     browser.press("Save the list")
     browser.sees("Sharing updated.", "#notices")
-    assert told(browser) == []
+    assert (told(browser), "Checked" in browser.text_of("#notices")) == ([], False)
 
 
 def test_fault_of_a_copy_is_told_where_the_place_is_chosen(club, browser, shut):

@@ -258,7 +258,7 @@ def test_trash_that_is_full(club, browser, thrown, trashes):
     club.open("/other/thrown.txt")
     browser.press("Remove", "//main")
     browser.sees("The trash is full: it has 256 items. Empty it first.", "#notices")
-    assert "thrown.txt" in club.names("/other")
+    assert ("thrown.txt" in club.names("/other"), browser.script(FOCUSED)) == (True, "Remove")
     club.does({"cmd": "REMOVE", "path": f"{TRASH}/7"})
     browser.press("Remove", "//main")
     browser.sees("/other/thrown.txt is in the trash.", "#notices")

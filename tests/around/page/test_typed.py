@@ -64,7 +64,7 @@ def test_escape_asks_where_something_is_typed(club, browser, june):
     browser.press("Add text", "//main")
     browser.fill("Text", "typed")
     browser.keys("escape", "escape", "escape")
-    browser.sees("What you typed is not saved.", "dialog")
+    browser.sees("What you typed is not saved.", "dialog [role=alert]")
     assert browser.script(FOCUS) == "Go on typing"
     browser.keys("space")
     browser.until("the question goes", lambda: "not saved" not in browser.shown())
@@ -97,6 +97,10 @@ def test_a_changed_list_asks(club, browser, june):
                  lambda: browser.script("history.back()"), lambda: of_user(browser, "Log out")):
         asks(browser, does, place)
         assert browser.script(ENTRIES) == count
+    browser.press("Discard it", "//main")
+    browser.until("the list as it is", lambda: browser.script(ENTRIES) < count)
+    assert browser.script(ASKED) is False
+    browser.press("Add an entry")
     leaves(browser, lambda: browser.follow("Who may do what"), f"#who/club{PATH}")
     assert club.holds({"cmd": "GETLIST", "path": PATH}) == before
 
@@ -111,7 +115,7 @@ def meets(club, browser, mine, theirs, words):
     browser.sees("Somebody changed this meanwhile", "dialog")
     browser.sees(theirs, "dialog pre")
     browser.sees(mine, "dialog pre")
-    browser.press(words)
+    browser.press(words, "//dialog[@aria-label='Somebody changed this meanwhile']")
 
 
 def test_conflict_keeps_mine_as_a_copy(club, browser, june):
@@ -128,8 +132,12 @@ def test_conflict_takes_theirs(club, browser, june):
 
 
 def test_conflict_goes_on_with_mine(club, browser, june):
-    """Whoever saw the other's text puts both together, unless another came since."""
-    meets(club, browser, "mine", "theirs again", "Go on with mine")
+    """Whoever saw the other's text puts both together, unless another came since. Who cancels is asked again."""
+    meets(club, browser, "mine", "theirs again", "Cancel")
+    browser.sees("Nothing is saved yet.", "dialog")
+    browser.press("Save")
+    browser.sees("theirs again", "dialog pre")
+    browser.press("Go on with mine")
     browser.sees("Nothing is saved yet.", "dialog")
     club.writes(PATH, b"theirs once more")
     browser.press("Save")
@@ -182,7 +190,7 @@ def test_an_unknown_room(club, browser):
 
 def test_nothing_can_be_pressed_until_a_view_is_there(club, browser):
     """Also as that of a place left before comes."""
-    lossy, inert = club.lossy, "return document.querySelector('main').inert"
+    lossy, inert = club.lossy, "const it = document.querySelector('main'); return [it.inert, it.ariaBusy]"
     club.lay("/plans/", "/long/")
     club.open()
     lossy.hold('"LIST"', '"path":"/long"')
@@ -194,7 +202,7 @@ def test_nothing_can_be_pressed_until_a_view_is_there(club, browser):
     browser.until("the other too", lambda: lossy.times('"path":"/plans"') > sent)
     lossy.go_on()
     time.sleep(1)  # (the first one comes, and is not shown)
-    assert (browser.script(inert), browser.script(PLACE)) == (True, "#open/club")
+    assert (browser.script(inert), browser.script(PLACE)) == ([True, "true"], "#open/club")
     lossy.lose("")
     browser.until("the other", lambda: browser.script(PLACE) == "#open/club/plans")
-    assert browser.script(inert) is False
+    assert browser.script(inert) == [False, None]

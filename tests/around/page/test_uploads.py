@@ -8,7 +8,7 @@ import re
 import cases
 import pytest
 
-from .club import ALL, DIALOG, MIB, NAME, PIECE, PLACE, SLOW, VIEW, choose, entry, row
+from .club import ALL, DIALOG, MIB, NAME, PIECE, PLACE, SLOW, VIEW, choose, entry, make_new, row
 from .test_typed import ASKED
 
 dice = random.Random(7)
@@ -113,6 +113,7 @@ def test_upload_by_a_name_that_is_there(club, browser, large):
     club.put("/big", club.on_disk("large", b"both"))
     browser.press("Keep both")
     browser.sees("1 file uploaded", "#notices")
+    assert browser.script(ASKED) is False
     assert (club.held("/big/large (2)"), club.held(large)) == (b"both", LARGE)
 
 
@@ -197,10 +198,13 @@ def test_upload_that_is_cancelled(club, browser, big):
     club.put("/big", club.on_disk("cancelled", dice.randbytes(3 * MIB)))
     browser.until("it waits", lambda: club.lossy.held)
     assert browser.script(ASKED) is True
+    club.open("/big", "access")
+    browser.press("Add an entry")
     browser.until("it ends", lambda: browser.press("Cancel", "//section[@id='transfers']") or
                   "ends …" in browser.text_of("#transfers"))
     club.lossy.go_on()
     browser.sees("Upload cancelled: cancelled.", "#notices")
+    browser.press("Up", "//main")  # (what is typed of another view is still there)
     assert club.names("/big") == []
 
 
@@ -251,8 +255,12 @@ def test_upload_of_what_is_dropped_goes_to_what_is_shown(club, browser):
 
 
 def test_upload_of_what_is_dropped_where_one_may_not(club, browser):
-    """The browser stays on the page, and nothing is sent."""
+    """The browser stays on the page, and nothing is sent. Nor is it under a dialog."""
     club.lay("/dropped/")
+    club.open("/dropped")
+    make_new(browser, "New folder")
+    browser.sees("Name", "dialog")
+    assert drop(browser, club.on_disk("one.txt", b"one")) == ""
     club.lets("eve", "/dropped", VIEW)
     club.log_in("eve")
     club.open("/dropped")
@@ -272,14 +280,20 @@ def test_upload_on_the_first_page_is_seen(club, browser):
 def test_upload_over_a_name_keeps_both_first(club, browser):
     club.lay(("/twice/letter.txt", b"old"))
     club.open("/twice")
-    choose(browser, "Upload", club.on_disk("letter.txt", b"new"))
+    letter = club.on_disk("letter.txt", b"new")
+    choose(browser, "Upload", letter, club.on_disk("cancelled.txt"))
+    browser.press("Cancel", DIALOG)  # (then nothing goes up)
+    choose(browser, "Upload", letter, club.on_disk("other.txt", b"other"))
+    browser.press("Leave these out", DIALOG)
+    browser.sees("1 file uploaded", "#notices")
+    choose(browser, "Upload", letter)
     browser.sees("This is there already", "dialog")
     assert browser.script("return document.activeElement.textContent") == "Keep both"
     assert "keep the old" not in browser.text_of("dialog")  # (there is no trash)
     browser.keys("enter")
     browser.sees("letter (2).txt", ".things")
     assert {it: club.text(f"/twice/{it}") for it in club.names("/twice")} == {
-        "letter.txt": "old", "letter (2).txt": "new"}
+        "letter.txt": "old", "letter (2).txt": "new", "other.txt": "other"}
 
 
 @pytest.mark.parametrize("size", [3, PIECE + 1], ids=["small", "large"])
