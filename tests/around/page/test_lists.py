@@ -8,6 +8,8 @@ from .club import (ADD, ALL, BUTTONS, CHANGE, EDIT, MATRIX, NAME, PASS, PIECE, V
 WORDS = "import('/lists.js').then((it) => arguments[0]([it.RIGHTS.map(({bit, words}) => [bit, words]), " \
         "it.SETS.map(({name, mask}) => [name, mask])]))"
 TAKES_OVER = "//main//label[contains(., 'takes over')]"
+TICKED = ("const it = document.querySelector('.entries details[open]'); return [it.querySelector('select[aria-label="
+          "Rights]').selectedOptions[0].textContent, it.querySelectorAll('fieldset input:checked').length]")
 SUMMARIES = "return [...document.querySelectorAll('.entries > li > details > summary')].map((it) => it.textContent)"
 
 
@@ -65,16 +67,18 @@ def test_a_list_of_its_own(club, browser):
 
 def test_an_entry_that_is_moved_keeps_the_focus(club, browser):
     club.lay("/june.txt")
-    club.sets("/june.txt", entry("bob", VIEW, 0), entry("eve", VIEW, 0))
+    club.sets("/june.txt", *(entry(it, VIEW, 0) for it in ("bob", "eve", "ann")))
     club.open("/june.txt", "access")
     browser.act("//main//ol[1]/li[1]//summary", "click")
+    browser.press("Up", "//main//ol[1]/li[1]")
+    assert "bob" in browser.script(SUMMARIES)[0]
     browser.press("Down", "//main//ol[1]/li[1]")
     browser.until("it stands below", lambda: "bob" in browser.script(SUMMARIES)[1])
     assert browser.script("return document.activeElement.textContent") == browser.script(SUMMARIES)[1]
 
 
 def test_two_change_a_list(club, browser):
-    """An unknown user is pointed out; then both lists are shown."""
+    """An unknown user is pointed out; then both lists are shown, of which one is chosen."""
     path = "/june.txt"
     club.lay(path)
     club.open(path, "access")
@@ -89,7 +93,14 @@ def test_two_change_a_list(club, browser):
     browser.sees("Allow the user nobody-here to view.", "dialog")
     browser.press("Take theirs")
     browser.sees("Allow the user bob to read it.", "summary")
-    assert club.own(path) == [(0, 0, 1, "bob")]
+    browser.act("//main//ol[1]/li[1]//summary", "click")  # (once the page is at rest)
+    assert (club.own(path), "updated" in browser.text_of("#notices")) == ([(0, 0, 1, "bob")], False)
+    club.sets(path, entry("eve", 1, 0))
+    set_list(browser, "the user", "bob", "view")
+    browser.press("Save the list")
+    browser.press("Set it all the same")
+    browser.sees("Sharing updated.", "#notices")
+    assert club.own(path) == [(0, 0, VIEW, "bob"), (0, 0, 1, "bob")]
 
 
 def test_one_vocabulary(club, browser):
@@ -100,14 +111,19 @@ def test_one_vocabulary(club, browser):
     assert dict(sets) == {name: mask for name, mask in SETS.items() if name != "none"}
 
 
-def test_matrix_has_the_words_of_share(club, browser):
-    """Who may edit and delete in a folder may not remove it."""
+def test_matrix_has_the_words_of_share(club, browser, tells):
+    """Who may edit and delete in a folder may not remove it. Where no users are told, those whom lists name are."""
     club.lay("/plans/")
     club.sets("/plans", entry("bob", WORK_HERE, 0), entry("bob", CHANGE, 0xB), entry("OWNER@", ALL), flags=2)
     club.lay("/plans/sub/", "/plans/a.txt")
+    told = lambda words: [[it, "Full control", words] for it in ("plans/", "a.txt", "sub/")]
     club.open("/plans", "who")
-    assert [row[:3] for row in browser.script(MATRIX)] == [
-        [it, "Full control", "Can edit and delete"] for it in ("plans/", "a.txt", "sub/")]
+    assert [row[:3] for row in browser.script(MATRIX)] == told("Can edit and delete")
+    tells("rooms/club.users.json", None)
+    club.log_in("ann")
+    club.open("/plans", "who")
+    browser.sees("Users are not told here", "main")
+    assert browser.script(MATRIX) == told("Shut out")  # (bob's group passes the top)
 
 
 # A large file
@@ -149,7 +165,7 @@ def test_matrix_of_a_large_file_whose_pieces_are_closed(club, browser, whole, cl
 
 
 def test_list_of_a_large_file(club, browser, whole, closed):
-    """In words it is a document's, and what is given counts for its pieces."""
+    """In words it is a document's, and what is given counts for its pieces. Ticks and their sum go together."""
     club.open(whole, "access")
     browser.sees("One must also pass through each folder above.", "main")
     assert browser.script(SUMMARIES) == [
@@ -158,6 +174,10 @@ def test_list_of_a_large_file(club, browser, whole, closed):
     set_list(browser, "the user", "bob", "edit")
     assert browser.script(SUMMARIES)[0] == "Allow the user bob to edit."
     assert "Counts for" not in browser.text_of("main")
+    for words, count in ("edit", 9), ("do what is chosen below", 8), ("edit", 9):
+        assert browser.script(TICKED) == [words, count]
+        browser.act("(//main//ol[1]/li[1]//fieldset//input)[1]", "click")
+    browser.act("(//main//ol[1]/li[1]//fieldset//input)[1]", "click")
     saves(browser)
     assert club.holds({"cmd": "GETLIST", "path": whole})["entries"] == [entry("bob", EDIT | 0x40), *closed]
     assert club.holds({"cmd": "READ", "path": f"{whole}/{NAME}"}, "bob")["code"] == 0
@@ -190,3 +210,5 @@ def test_what_a_folder_and_its_rows_offer(club, browser):
     browser.keys("escape")
     browser.press("More for dot.txt")
     assert offers(browser) == ["Download", "Copy", "Copy the link", "Add to favourites"]
+    browser.keys("escape", "f2")
+    browser.sees("You may not do that with dot.txt.", "#notices")

@@ -1,7 +1,7 @@
 """Who can see a thing, beside its name: what Share and the matrix tell, in few words."""
 import pytest
 
-from .club import ALL, GROUP, PASS, PIECE, PLACE, TOP as FRAME_TOP, USERS, VIEW, entry, search_in
+from .club import ALL, GROUP, MATRIX, PASS, PIECE, PLACE, TOP as FRAME_TOP, USERS, VIEW, entry, search_in
 
 TOP = "/seen"
 SEERS = ("return Object.fromEntries([...document.querySelectorAll('.things tbody tr')].map((it) => "
@@ -15,13 +15,15 @@ LISTS = {"alone": [OWNER], "bob": [OWNER, BOB], "eng": [OWNER, ENG], "eve": [OWN
          "everyone": [OWNER, EVERYONE], "not bob": [OWNER, entry("bob", 1, 3, 1), EVERYONE, ENG],
          "staff": [OWNER, entry("staff", VIEW, 3 | GROUP)]}
 WORDS = {"alone": "Only you", "bob": "You, Bob Ray", "eng": "eng", "eve": "You, eve", "everyone": "Everyone here",
-         "not bob": "You, eve", "staff": "You, staff", "nobody": "Nobody"}
+         "not bob": "You, eve", "staff": "You, staff", "nobody": "Nobody", "bob alone": "Bob Ray"}
 
 
 def lay(club, top=EVERYONE):
-    """Folders with each of the lists, in one of whose list that is, and a document that nobody may read."""
-    club.lay(*(f"{TOP}/{it}/" for it in LISTS), f"{TOP}/nobody")
-    club.sets(f"{TOP}/nobody", entry("OWNER@", 0x20080, 0), flags=2)
+    """Folders with each of the lists, in one of whose list that is, and documents that its owner may not read."""
+    club.lay(*(f"{TOP}/{it}/" for it in LISTS))
+    for name, its in ("nobody", []), ("bob alone", [entry("bob", VIEW, 0)]):
+        club.lay(f"{TOP}/{name}")
+        club.sets(f"{TOP}/{name}", entry("OWNER@", 0x20080, 0), *its, flags=2)
     for name, its in LISTS.items():
         club.sets(f"{TOP}/{name}", *its, flags=2)
     club.sets("/", OWNER, EVERYONE, flags=2)
@@ -91,13 +93,20 @@ def test_a_large_file_is_seen_by_whom_its_pieces_let(club, browser):
 
 
 def test_what_one_may_not_know_is_left_out(club, browser):
-    """What is not told of a list, or of the list of a folder above, is no guess; who is alone is alone anyway."""
+    """What is not told of a list, or of the list of a folder above, is no guess, nor in the matrix; who is alone is
+    alone anyway."""
     lay(club, entry("EVERYONE@", VIEW & ~0x20000))
     club.sets(f"{TOP}/bob", OWNER, entry("EVERYONE@", VIEW & ~0x20000), flags=2)
     club.sets(f"{TOP}/alone", entry("eve", VIEW), flags=2)
     club.log_in("eve")
     club.open(TOP)
     told(browser, {it: "Only you" if it == "alone" else "" for it in WORDS})
+    for name, levels, words in ("alone", ["Some?", "No access?", "Can view"], "You may not see whether ann gets"), \
+            ("staff", ["?", "?", "No access"], "you may not see who has access."):
+        club.open(f"{TOP}/{name}", "who")
+        assert browser.script(MATRIX) == [[f"{name}/", *levels]]
+        browser.act("//main//tbody/tr[1]/td[1]/button", "click")
+        browser.sees(words, ".detail")
 
 
 def test_rows_out_of_sight_ask_for_no_list(club, browser):
