@@ -4,6 +4,7 @@ from room_client.words import RIGHTS, SETS
 
 from .club import (ADD, ALL, BUTTONS, CHANGE, EDIT, MATRIX, NAME, PASS, PIECE, VIEW, WORK_HERE, entry, offers,
                    set_list)
+from .test_several import BAR
 
 WORDS = "import('/lists.js').then((it) => arguments[0]([it.RIGHTS.map(({bit, words}) => [bit, words]), " \
         "it.SETS.map(({name, mask}) => [name, mask])]))"
@@ -212,3 +213,5 @@ def test_what_a_folder_and_its_rows_offer(club, browser):
     assert offers(browser) == ["Download", "Copy", "Copy the link", "Add to favourites"]
     browser.keys("escape", "f2")
     browser.sees("You may not do that with dot.txt.", "#notices")
+    browser.act("//main//input[@aria-label='Select dot.txt']", "click")
+    browser.until("of several", lambda: browser.script(BAR) == ["Copy", "Download", "Clear selection"])

@@ -51,6 +51,8 @@ def test_a_saved_list_that_lets_nobody_get_there(club, browser, board):
 def test_share_with_a_group(club, browser, board):
     """By two choices; its members are let pass, work in it, and cannot remove it."""
     club.open(PATH, "access")
+    browser.press("Share", "//main//section[@class='share']")
+    browser.sees("It is for nobody yet: choose for whom.", ".share [role=alert]")
     share(browser, "staf", "Can view")
     browser.sees("Nobody here is called staf.", ".share [role=alert]")
     share(browser, "staff", "Can edit and delete")

@@ -106,7 +106,8 @@ for (const count of [0, 7]) { // (where several ended the next one goes on as th
   test(`what was under way as tab ${count} ended is sent by the next one, once, and told`, async () => {
     const its = await begun();
     await endsIn(() => its.session.ask(append("x")), "lose");
-    for (const [key, text] of Object.entries(localStorage).map(([it]) => [it, localStorage.getItem(it)])) {
+    for (const key of Object.keys(localStorage)) {
+      const text = localStorage.getItem(key);
       localStorage.removeItem(key);
       localStorage.setItem(key.replace("/club/0", `/club/${count}`), text);
     }
