@@ -161,6 +161,7 @@ def test_the_second_click_of_a_double_click_leads_nowhere(browser, frame):
 def test_keys_move_in_the_list(browser, frame):
     """Arrows, Home, End and letters. The tab key stops at one place of it."""
     browser.devtools("Emulation.setFocusEmulationEnabled", enabled=True)  # (else no tab but the first is told of it)
+    browser.until("who sees each", lambda: browser.text_of(".things td.who").count("eng") == len(NAMES))
     browser.keys(*TO_ROW)
     for keys, at in (["down"], "cellar"), (["end"], "notes.txt"), (["home"], "attic"), (["l"], "letter.docx"), \
             (["up"], "bill.pdf"), (["li"], "list.xlsx"), (["right", "right"], "eng"), \
