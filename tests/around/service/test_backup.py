@@ -16,7 +16,7 @@ from served import Room, bytes_of, put_file, session, text_of
 from .contents import BACKUP, INSIDE, SERVICE, backed_up, below, odd_manifests, said
 
 ROUNDS = number("ROUNDS", 5)
-NOBODY = 65534
+NOBODY, OTHER = 65534, 4  # of whom the second is a group that root may have
 pytestmark = pytest.mark.usefixtures("alone")
 
 
@@ -384,7 +384,7 @@ def test_a_users_program_has_nothing_of_roots(users):
     seen = users.at("seen")
     looks = f"{{ env | grep OF_ROOT; id -G; [ ! -t 0 ] || echo terminal; : </dev/tty && echo its own; }} >{seen} 2>&1"
     program = stand_in(users.mine, "fileroom", f'({looks})\nexec {users.top}/bin/fileroom "$@"').partition(":")[0]
-    words = f"{users.top}/bin/fileroom-backup {users.db} {users.roster} {users.backups}"
+    words = f"setpriv --groups={OTHER} {users.top}/bin/fileroom-backup {users.db} {users.roster} {users.backups}"
     assert said("script", "-qec", words, "/dev/null", FILEROOM=f"{program}/fileroom", OF_ROOT="a word")[0] == 0
     assert [it for it in text_of(seen).splitlines() if "No such device" not in it] == [str(NOBODY)]
 
