@@ -1,6 +1,6 @@
 """A plugin of pytest that tries mutants in children of a process that has collected its tests, which is far sooner than
 one process for each. TRY has the numbers of two open files: from the one come lines of JSON that ask, into the other go
-those that answer.
+those that answer, the first one once all is collected.
 
 A mutant is of a function's body: the functions of that source that this process has get the code of the edited text.
 """
@@ -77,6 +77,7 @@ def pytest_runtestloop(session):
     items = {it.nodeid: it for it in session.items}
     asks, answers = map(int, os.environ["TRY"].split(","))
     with open(asks) as lines, open(answers, "w") as told:
+        print("null", file=told, flush=True)
         for line in lines:
             asked = json.loads(line)
             its = [items[it] for it in asked["tests"] if it in items]
