@@ -5,7 +5,7 @@ from room_client.faults import Refused
 
 from . import locks as form
 from .asked import Asked
-from .faults import Answered, is_refused
+from .faults import Answered, NotThere, is_refused
 from .locks import Condition, Lock, Locks
 from .names import above, href, is_below, split_destination
 from .tree import Thing, spelled, thing_at
@@ -40,9 +40,7 @@ class Rules:
         if path not in self.tags:
             try:
                 self.tags[path] = thing_at(self.visit, path).etag or ""
-            except Answered as fault:
-                if fault.status != 404:
-                    raise
+            except NotThere:
                 self.tags[path] = None
         return self.tags[path]
 

@@ -5,6 +5,7 @@ import unicodedata
 
 import pytest
 from given import each
+from room_client import files
 from room_client.words import FOLDER
 
 from .desk import PIECE, asks
@@ -168,6 +169,20 @@ def test_a_file_that_comes_meanwhile(desk, cmd, way):
     assert after == before
 
 
+def test_a_version_that_comes_meanwhile(desk):
+    """As the document, a large one, has its name again: somebody else's is not written over."""
+    old, new, theirs = (os.urandom(LARGE) for _ in range(3))
+    desk.made(old)
+    desk.does("ann", "MOVE", "a.odt", 201, to="x~")
+
+    def writes():
+        with desk.room("bob") as room:
+            files.write(room, desk.at("a.odt"), theirs)
+    with desk.before(asks("GETLIST", f'"path":"{desk.at("a.odt")}"'), writes):
+        desk.does("ann", "PUT", "a.odt", 412, new)
+    assert desk.get("ann", "x~") == theirs
+
+
 def test_a_lock_makes_none(desk):
     aside(desk)
     desk.wire("bob", "RENAME", "x~", to="y")
@@ -179,6 +194,7 @@ def test_a_lock_makes_none(desk):
 
 @each("steps", [
     ("to another folder", "ann MKCOL in 201; ann MOVE x~ 201 > in/x~; ann PUT a.odt 201 > new"),
+    ("over another one", "ann PUT other 201 > other; ann MOVE x~ 204 > other; ann PUT a.odt 201 > new"),
     ("another one over it", "ann PUT other 201 > other; ann MOVE other 204 > x~; ann PUT a.odt 201 > new"),
     ("away", "ann MKCOL in 201; ann MOVE x~ 201 > y; ann MOVE y 201 > in/y; ann PUT a.odt 201 > new"),
     ("a folder of its name", "ann MKCOL a.odt 201; ann MOVE n.tmp 204 > a.odt"),

@@ -295,6 +295,8 @@ def test_a_long_owner_of_a_lock():
     words = "a" * (bodies.MOST_OWNER - 2) + "&amp;" * 9
     _, owner = bodies.lockinfo_of(EXCLUSIVE.replace(b"me &amp; mine", words.encode()))
     assert bodies.parsed(f"<x>{owner}</x>".encode()).text == words[:bodies.MOST_OWNER - 2] + "&&"
+    address = "<D:href>mailto:me@example.org</D:href>"
+    assert bodies.lockinfo_of(EXCLUSIVE.replace(b"me &amp; mine", address.encode())) == (False, address)
 
 
 def test_shared_locks_of_many(tmp_path):

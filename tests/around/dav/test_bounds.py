@@ -206,8 +206,3 @@ def test_listings_of_many_properties():
     text = body.read(1 << 24)
     assert (len(text), text.count(b"property189"), text.count(b"<D:response>")) == (len(body), 400, 200)
     assert text.endswith(b"</D:response>\n</D:multistatus>\n"[-20:])
-    ends = []
-    body.at_end = lambda: ends.append(1)
-    for _ in range(2):
-        body.close()
-    assert ends == [1]  # (of a login's share)

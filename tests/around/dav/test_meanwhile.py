@@ -61,7 +61,10 @@ def test_a_copy_that_may_not_replace(desk):
     desk.does("ann", "PUT", "/source", 201, b"mine")
     with meanwhile(desk, "CREATE", "/target", lambda room: room.create("/target", b"theirs")):
         desk.does("ann", "COPY", "/source", 412, to="/target", Overwrite="F")
-    assert desk.get("ann", "/target") == b"theirs"
+    desk.does("ann", "MKCOL", "/place", 201)
+    with meanwhile(desk, "CREATE", "/place", lambda room: room.create("/place", b"theirs")):
+        desk.does("ann", "COPY", "/source", 412, to="/place")  # (of the folder alone)
+    assert [desk.get("ann", it) for it in ("/target", "/place")] == [b"theirs"] * 2
 
 
 def test_a_copied_folder_that_may_not_replace(desk):

@@ -16,6 +16,8 @@ from .desk import ANNS, BOB_READS, BOB_WRITES, EXCLUSIVE, HERS, PASSWORDS, SHARE
 HOW = {"is_lossy": False}
 OF_IT = "<D:href>/dav/plans/both/held/it</D:href>"
 NO_CHANGE = b'<D:propertyupdate xmlns:D="DAV:"/>'
+CHANGE = (b'<D:propertyupdate xmlns:D="DAV:" xmlns:Z="urn:schemas-microsoft-com:" xmlns:x="urn:x"><D:set><D:prop>%s'
+          b"</D:prop></D:set></D:propertyupdate>")
 BOMB = (b'<?xml version="1.0"?><!DOCTYPE a [<!ENTITY b "0123456789"><!ENTITY c "&b;&b;&b;&b;&b;&b;&b;&b;&b;">]>'
         b'<D:propfind xmlns:D="DAV:"><D:prop><D:x>&c;</D:x></D:prop></D:propfind>')
 FILE_ENTITY = (b'<?xml version="1.0"?><!DOCTYPE a [<!ENTITY b SYSTEM "file:///etc/passwd">]>'
@@ -41,7 +43,8 @@ def test_logins(desk):
         assert (got.fields["dav"], got.body) == ("1, 2", b"")
     desk.does("ann", "PROPFIND", "/dav/other/", 404, raw=True, Depth="0")
     desk.does("ann", "GET", "/hers/secret", 403, Origin="http://elsewhere.example")
-    desk.does("cat", "PROPFIND", "/", 403, Depth="1")
+    for depth in "0", "1":
+        desk.does("cat", "PROPFIND", "/", 403, Depth=depth)
 
 
 @pytest.mark.parametrize("field", [b"", b"Authorization: Basic YW5uOndyb25n\r\n",
@@ -185,7 +188,7 @@ def test_a_range(desk):
     for told, first, last in (("0-4", 0, 4), ("-3", 20, 22), ("-99", 0, 22), ("-23", 0, 22), ("0-99", 0, 22)):
         got = desk.does("ann", "GET", "/range", 206, Range=f"bytes={told}")
         assert (got.fields["content-range"], got.body) == (f"bytes {first}-{last}/23", bytes(range(first, last + 1)))
-    for told in "99-", "-0":
+    for told in "99-", "-0", "5-2":
         desk.does("ann", "GET", "/range", 416, Range=f"bytes={told}")
 
 
@@ -220,6 +223,14 @@ def test_odd_names_and_conditions(desk):
     assert b'xmlns:x="a&quot;&lt;b"' in desk.does("ann", "PROPFIND", "/", 207, odd, Depth="0").body
     for it in "(<a", "(<a>)" * 200:
         desk.does("ann", "PUT", "/odd", 400, b"x", If=it)
+
+
+@each("inside, statuses", [("Explorers", b"<Z:Win32FileAttributes>0</Z:Win32FileAttributes>", ["200"]),
+                           ("ones own", b"<x:y/>", ["403"]), ("both", b"<x:y/><Z:a/>", ["403", "424"])])
+def test_properties_that_are_set(desk, inside, statuses):
+    """All of them, or none."""
+    told = desk.does("ann", "PROPPATCH", "/both", 207, CHANGE % inside).body.decode()
+    assert re.findall(r"<D:status>HTTP/1.1 (\d+) ", told) == statuses
 
 
 def test_a_body_of_a_length_that_is_not_told(desk):
@@ -263,6 +274,7 @@ def test_locks(desk):
     token = desk.locked("ann", "/both/l", Depth="0", Timeout="Infinite, Second-4100000000")
     desk.locked("bob", "/both/l", 423)
     desk.does("bob", "PUT", "/both/l", 423, b"2")
+    desk.does("bob", "PROPPATCH", "/both/l", 423, NO_CHANGE)
     desk.does("bob", "PUT", "/both/l", 412, b"2", If=f"({token})")  # (somebody else's)
     desk.does("ann", "PUT", "/both/l", 423, b"2")
     desk.does("ann", "PUT", "/both/l", 204, b"2", If=f"({token})")
