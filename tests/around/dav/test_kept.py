@@ -11,7 +11,7 @@ from unittest import mock
 import pytest
 from fileroom_dav import app, faults, locks, saving, seats, seen, spool, steps, visit
 from room_client import slots
-from room_client.faults import NoAnswer
+from room_client.faults import NoAnswer, Refused
 
 
 @pytest.fixture
@@ -358,6 +358,16 @@ def test_times_on_a_full_disk(tmp_path):
     for at in range(3):
         sums = {f"/{'n' * 60}{at}-{it}": "s" for it in range(500)}
         assert its.times("plans", sums).keys() == sums.keys()
+
+
+@pytest.mark.parametrize("owner, aclflag, fits", [("ann", saving.VEIL, True), ("bob", saving.VEIL, False),
+                                                  ("ann", saving.PROTECTED, False)])
+def test_where_the_pieces_of_before_go(owner, aclflag, fits):
+    """Into what is the caller's, and for nobody else: no folder that somebody laid there since."""
+    one = mock.Mock(settings=mock.Mock(user="ann"), stat=lambda _: {"owner": owner},
+                    get_list=lambda _: {"aclflag": aclflag, "entries": [saving.of_one("OWNER@", True)]})
+    with contextlib.nullcontext() if fits else pytest.raises(Refused):
+        saving.need_veiled(one, replace(STEP, copy="/a~"))
 
 
 @pytest.mark.parametrize("count, is_told", [(saving.MOST_ENTRIES, True), (saving.MOST_ENTRIES + 1, False)])
