@@ -137,7 +137,7 @@ def add_users(words):
     one.add_argument("--made", action="store_true", help="of objects")
     one = add_command(user, "list", user_list, "rooms, users, groups, and who has a login", how=TELLS)
     one.add_argument("ROOM", nargs="?")
-    one.add_argument("--csv", action="store_true", help="of ROOM, as `user import --update` reads it")
+    one.add_argument("--csv", action="store_true", help="as `user import` reads it")
 
 
 def add_bounds(words):
@@ -208,8 +208,6 @@ def say_copy(call):
 
 
 def user_list(call, room, csv):
-    if csv and not room:
-        raise Fault("--csv is for one ROOM")
     if csv:
         # (as `user import` reads it, whatever letters a terminal here has)
         sys.stdout.reconfigure(encoding="utf-8", errors="backslashreplace")

@@ -286,11 +286,12 @@ def bound(call, room, its_bound, user, group):
 def user_list(call, room=None, is_table=False):
     places, names = call.places, now.names(call.places)
     logins, without = now.logins(places), "directory" if signin.is_on(places) else "no login"
+    there = {it: now.users(places, it) for it in ([room] if room else places.rooms())}
     if is_table:
-        call.say(sheets.written(now.users(places, room), names).rstrip("\n"))
+        call.say(sheets.written(there, names, not room).rstrip("\n"))
         return
-    for it in [room] if room else places.rooms():
-        for user, groups in now.users(places, it).items():
+    for it, users in there.items():
+        for user, groups in users.items():
             name = f"  {names[user]}" if user in names else ""
             call.say(f"{it}  {user}  {','.join(groups) or '-'}  {'login' if user in logins else without}{name}")
 

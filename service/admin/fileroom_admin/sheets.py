@@ -138,10 +138,12 @@ def row_of(head, row):
     return its["user"], groups, its.get("name"), rooms
 
 
-def written(users, names):
-    """A roster as such a table."""
+def written(there, names, has_rooms):
+    """Rosters as such a table: of one room, or with the column of rooms, a line for each user in each."""
     made = io.StringIO()
     lines = csv.writer(made, lineterminator="\n")
-    lines.writerow(COLUMNS)
-    lines.writerows(map(as_cell, (user, " ".join(groups), names.get(user, ""))) for user, groups in users.items())
+    lines.writerow([*COLUMNS[:1], *[ROOMS] * has_rooms, *COLUMNS[1:]])
+    for room, users in there.items():
+        lines.writerows(map(as_cell, (user, *[room] * has_rooms, " ".join(groups), names.get(user, "")))
+                        for user, groups in users.items())
     return made.getvalue()
