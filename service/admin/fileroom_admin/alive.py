@@ -141,10 +141,18 @@ def has_ended(places):
     return f"the front's certificate has expired: {end_of(cert)}; fileroom-admin tls, with a new one, replaces it"
 
 
+def is_down(places):
+    """That nginx is, by which people reach the rooms. (Where it was killed, Debian's unit does not start it again.)"""
+    is_served = any(os.path.exists(places.socket(it)) for it in places.rooms())
+    if not is_served or not said("systemctl", "is-active", "-q", "nginx")[0]:
+        return None
+    return "nothing reaches a room: nginx is not running: systemctl start nginx; journalctl -u nginx shows why"
+
+
 def watch(places, say):
     """Says of each room that takes no request why, and if no room can be reached by people; its unit brings that to the
     journal. The status."""
-    faults = [*filter(None, (has_ended(places), *(or_why_not(places, it) for it in places.rooms())))]
+    faults = [*filter(None, (is_down(places), has_ended(places), *(or_why_not(places, it) for it in places.rooms())))]
     for it in faults:
         say(it)
     return 1 if faults else 0

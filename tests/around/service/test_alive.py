@@ -177,3 +177,9 @@ def test_a_certificate_that_has_ended_is_said(machine, folder):
     subprocess.run(["openssl", "x509", *words], check=True, capture_output=True)
     status, said, _ = machine.does("watch")
     assert (status, said.partition(": ")[0]) == (1, "the front's certificate has expired")
+
+
+def test_a_front_that_does_not_run_is_said(machine, plans):
+    machine.breaks("nginx")
+    status, said, _ = machine.does("watch")
+    assert (status, said.partition(": systemctl")[0]) == (1, "nothing reaches a room: nginx is not running")
