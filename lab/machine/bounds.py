@@ -13,8 +13,6 @@ OWN = "/etc/fail2ban/jail.d/zz-scene.conf"
 PUT = ("/etc/fail2ban/filter.d/fileroom*.conf", "/etc/fail2ban/action.d/fileroom*.conf",
        "/etc/fail2ban/jail.d/fileroom*.conf", OWN, "/etc/fileroom/bounds.json")
 STATUS = "sleep 5; fail2ban-client status fileroom"
-NO_LOG = "Have not found any log file for sshd jail"
-SSHD = "printf '[sshd]\\nbackend = systemd\\n' >/etc/fail2ban/jail.d/sshd.conf"  # the remedy of jail.conf
 
 
 class Scene:
@@ -35,21 +33,12 @@ class Scene:
         self.it.must("systemctl", "restart", "fail2ban")
 
     def installed(self):
-        """(Debian 12 has fail2ban look for a log of sshd, which a machine without rsyslog lacks.)"""
-        self.tally.differs("lines", len(self.lines), 11)
+        self.tally.differs("lines", len(self.lines), 12)
         failed = [line for line in self.lines if self.shell.does(line)[0] != 0]
         self.tally.differs("lines that fail", [it for it in failed if it != STATUS], [])
-        self.it.until(lambda: self.is_up() or self.it.state("fail2ban") == "failed", "it has begun, or ended")
-        if not self.is_up():
-            why = self.it.must("journalctl", "--no-pager", "--lines=20", "--output=cat", "--unit=fail2ban")
-            self.tally.differs(f"as the remedy says: {why}", NO_LOG in why, True)
-            self.shell.does(SSHD)
         self.it.write(OWN, FEW)
         self.it.must("systemctl", "restart", "fail2ban")
         self.it.until(lambda: self.it.said("fail2ban-client", "status", "fileroom-made-few")[0] == 0, "it counts")
-
-    def is_up(self):
-        return self.it.said("fail2ban-client", "status", "fileroom")[0] == 0
 
     # Guesses, from another machine.
 
