@@ -51,7 +51,7 @@ def test_a_saved_list_that_lets_nobody_get_there(club, browser, board):
 def test_share_with_a_group(club, browser, board):
     """By two choices; its members are let pass, work in it, and cannot remove it."""
     club.open(PATH, "access")
-    browser.press("Share", "//main//section[@class='share']")
+    browser.press("Can view", "//main//section[@class='share']//form")
     browser.sees("It is for nobody yet: choose for whom.", ".share [role=alert]")
     share(browser, "staf", "Can view")
     browser.sees("Nobody here is called staf.", ".share [role=alert]")
@@ -108,7 +108,7 @@ def test_share_beside_a_denial(club, browser, passed, tells):
     browser.press("Stop sharing with the group staff")
     browser.until("it is gone", lambda: club.own(PATH) == [(1, 3, 0x10006, "bob")])
     share(browser, "bob", "Can view")
-    browser.until("both", lambda: club.own(PATH) == [(1, 3, 0x10006, "bob"), (0, 3, VIEW, "bob")])
+    browser.until("both", lambda: club.own(PATH)[:2] == [(1, 3, 0x10006, "bob"), (0, 3, VIEW, "bob")])
 
 
 def given(browser):
@@ -287,7 +287,7 @@ def test_share_tells_by_name_who_cannot_get_there(club, browser, board, tells):
     club.open(PATH, "access")
     browser.act("//main//input[@role='combobox']", "value", {"text": "ray"})
     browser.act("//main//*[@role='option']", "click")  # (by the mouse)
-    browser.press("Share", "//main//section[@class='share']")
+    browser.press("Can view", "//main//section[@class='share']//form")
     browser.sees("Bob Ray (bob) cannot get through /board.", "dialog")
     browser.press("Allow", DIALOG)
     browser.sees("Checked: the user Bob Ray (bob) can get there.", "#notices")
