@@ -81,7 +81,7 @@ class FrontLine:
     away = contextlib.nullcontext  # (the floor's, once a seat has it)
 
     def __init__(self, connections: Connections, settings: Settings):
-        pair = base64.b64encode(f"{settings.login}:{settings.password}".encode(errors="surrogateescape"))
+        pair = base64.b64encode(f"{settings.login}:{settings.password}".encode())
         self.fields = {"Host": "localhost", "Content-Type": "application/json",
                        "Authorization": f"Basic {pair.decode()}"}
         self.base, self.connections = read_url(settings.url)[0].path, connections

@@ -11,7 +11,7 @@ from unittest import mock
 import pytest
 from fileroom_dav import app, faults, locks, saving, seats, seen, spool, steps, visit
 from room_client import slots
-from room_client.faults import NoAnswer, Refused
+from room_client.faults import NoAnswer, Refused, SessionLost
 
 
 @pytest.fixture
@@ -280,6 +280,14 @@ def test_names_change(aside):
     with pytest.raises(ValueError), aside.its.moving("plans", "ann", "/a", "/a~", "ann"):
         raise ValueError
     assert aside.its.kept == []
+
+
+@pytest.mark.parametrize("fault", [NoAnswer("none"), SessionLost({"code": 20, "error": "BADSESSION"})])
+def test_what_may_be_aside(aside, fault):
+    """Nobody knows whether it has another name by now: it is on record."""
+    with pytest.raises(type(fault)), aside.its.moving("plans", "ann", "/a", "/a~", "ann"):
+        raise fault
+    assert aside.of("/a") == ["/a~"]
 
 
 def test_a_step_on_a_full_disk(tmp_path):

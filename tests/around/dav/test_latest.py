@@ -7,12 +7,14 @@ import signal
 import subprocess
 import time
 from concurrent.futures import ThreadPoolExecutor
+from unittest import mock
 from urllib.parse import quote
 
 import pytest
 from served import HERE, put_file, text_of, until, waiting_at
 
 from .desk import ANNS, BOB_READS, BOB_WRITES, make_folders
+from fileroom_dav import latest as its_log
 from fileroom_dav.latest import Latest
 
 CATS = BOB_READS | {"who": "cat"}
@@ -257,6 +259,7 @@ IS = {"a": ("ann", 1)}
       line(3, "ann", "WRITE", "/f/a", number=2)], {"a": ("ann", 3)}),
     ([line(1, "ann", "CREATE", "/f/a", status=502, length="-"), line(2, "bob", "REMOVE", "/f/a"),
       line(3, "bob", "CREATE", "/f/a", number=2), line(4, "ann", "CREATE", "/f/a")], {}),
+    ([MADE, line(2, "ann", "REMOVE", "/f/a")], {}),  # (another one under its number)
     # two lines that may have come in either order, as one whose answer was held back
     ([line(5, "bob", "CREATE", "/f/a"), line(9, "ann", "RENAME", "/x", "/f/a", took=8)], {}),
     ([line(5, "bob", "CREATE", "/f/a"), line(9, "ann", "WRITE", "/f/a", took=8)], {}),
@@ -265,6 +268,8 @@ IS = {"a": ("ann", 1)}
     ([line(5, "ann", "RENAME", "/x", "/f"), line(6, "bob", "CREATE", "/f/a", took=0.5)], {"a": ("bob", 6)}),
     ([line(5, "ann", "CREATE", "/f/a"), line(6, "bob", "WRITE", "/f/a", took=2),
       line(7, "ann", "WRITE", "/f/a", number=2)], {"a": ("ann", 7)}),
+    ([line(9, "bob", "WRITE", "/f/a"), line(5, "bob", "WRITE", "/f/a", number=2),
+      line(10, "ann", "WRITE", "/f/a", took=3)], {}),
     # what cannot be read
     ([MADE, b"{"], {}),
     ([MADE, MADE[:-30]], {}),
@@ -293,6 +298,18 @@ IS = {"a": ("ann", 1)}
 ])
 def test_a_line_counts_as_long_as_it_must_be_of_what_is_there(lines, want):
     assert Latest("plans", "/f").of(lines).found == want
+
+
+@pytest.mark.parametrize("newest, older, want", [
+    (b"t}\n{2}\n", (206, b"{1}\n"), [b"{2}"]), (b"{2}\n", (206, b"t}\n{1}\n"), [b"{1}", b"{2}"]),
+    (b"{2}\n", (404, b"none\n"), [b"{2}"])])
+def test_the_end_of_the_log(newest, older, want):
+    """A line that is cut where it begins is none, and the log before counts where this one is short."""
+    said = iter([(206, newest), older])
+    gate = mock.Mock()
+    gate.seats.file_of_front = lambda *_, **fields: next(said)
+    with mock.patch.object(its_log, "MOST", 7):
+        assert its_log.lines(gate, mock.Mock()) == want
 
 
 def test_what_came_with_a_folder_above_has_no_dates():
