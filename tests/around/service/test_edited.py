@@ -102,6 +102,8 @@ def test_another_folder_in_the_place_of_ours(folder, one, kept, what):
     with mock.patch.object(os, "mkdir", swapped), pytest.raises((one.Fault, OSError)):
         one.take(kept, "/a.txt", one.Target(to))
     assert (os.listdir(its), os.path.exists(to)) == ([], False)
+    left, = [it for it in os.listdir(folder) if it.startswith(".fileroom-")]  # (it is none of ours to clear)
+    assert os.listdir(os.path.join(folder, left)) == ["it"] * (what == "full")
 
 
 def test_what_comes_to_the_target_meanwhile_stays(folder, one, kept):

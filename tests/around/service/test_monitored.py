@@ -200,6 +200,7 @@ def test_a_trial(machine, latest):
     """Also of one whose log was cut, and where one of before left something."""
     os.truncate(os.path.join(latest, "room.db-wal"), 41)
     os.mkdir(machine.at(f"{PLANS}/.try-left"))
+    os.mkdir(machine.at(f"{PLANS}/{stamp(53)}"))  # (an older one, which is none)
     assert tries(machine) == (0, f"{latest}: restored, served, and asked\n", "")
     assert hidden(machine) == [".tried"]
     assert text_of(machine.at(f"{PLANS}/.tried")) == os.path.basename(latest) + "\n"
