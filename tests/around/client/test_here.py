@@ -278,6 +278,12 @@ def test_what_is_no_reply_of_a_room(body):
     assert reply_of(body) is None
 
 
+@each("told", [("none", None), ("a page", b"<html>"), ("a list", b"[1]"), ("no groups", b'{"ann": 1}'),
+               ("too deep", b"[" * 100_000)])
+def test_what_is_no_roster_of_a_front(told):
+    assert who.roster_of_front(types.SimpleNamespace(file_of_front=lambda _: told)) is None
+
+
 def test_pace_of_a_front():
     clock = types.SimpleNamespace(now=0.0, monotonic=lambda: clock.now)
 

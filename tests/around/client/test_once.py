@@ -89,6 +89,25 @@ def test_a_command_that_moves(desk, words, before, says):
     assert AGAIN in err
 
 
+@each("to, words, want", [("another one", "/c", ["/b", "/d"], {"c", "d"}),
+                          ("one that was refused", "/b", ["/a", "/b"], {"b"})])
+def test_a_move_behind_one_that_was_pending(desk, to, words, want):
+    """It is done itself."""
+    with desk.room() as room:
+        for path in "/a", "/b":
+            room.create(path, b"")
+    with desk.losing("RENAME"):
+        assert desk.does("mv", "/a", to)[0] == 3
+    with desk.other() as other:
+        if to == "/b":
+            other.remove("/b")
+    status, out, err = desk.does("mv", *words)
+    assert (status, out) == (0, f"{words[0]} is now {words[1]}\n"), err
+    assert f"finished what was pending: RENAME /a {to}: {'EXIST' if to == '/b' else 'done'}" in err
+    with desk.other() as other:
+        assert {*other.children("/")} == want
+
+
 @pytest.mark.parametrize("fault, why", [
     (503, "the room is being started again"), (429, "the front lets no more of yours through")])
 def test_why_there_is_no_answer_yet(desk, fault, why):

@@ -5,7 +5,8 @@ import threading
 from unittest import mock
 
 import pytest
-from room_client import files, uploads
+from given import each
+from room_client import files, spares, uploads
 from room_client.faults import OtherVersion, Refused
 from room_client.manifest import PIECE
 from room_client.room import unheard
@@ -185,3 +186,14 @@ def test_meanwhile_a_version_comes_as_its_pieces_are_cleared(one, other):
         files.write(other, "/a", versions[1])
         other.settle()
     assert files.read(one, "/a") == versions[2]
+
+
+# Kind (0 allows, 1 denies), flags (1 for files, 8 not here) and mask (1 reads, 0x20 passes) of an entry
+@each("kind, flag, mask, want", [
+    ("passes and reads", 0, 1, 0x21, True), ("passes alone", 0, 1, 0x20, False), ("reads here", 0, 0, 0x21, False),
+    ("passes not here", 0, 9, 0x20, True), ("reads alone", 0, 1, 1, True), ("is denied both", 1, 1, 0x21, True),
+    ("is denied to read", 1, 1, 1, False), ("is denied to pass", 1, 0, 0x20, True),
+    ("is denied both below", 1, 9, 0x21, False)])
+def test_who_may_pass_a_spare_may_read_in_it(kind, flag, mask, want):
+    both = {"type": 0, "flag": 1, "mask": 0x21}, {"type": kind, "flag": flag, "mask": mask}
+    assert [spares.may_read(it) for it in (both, both[::-1], both[:1])] == [want, want, True]
