@@ -293,11 +293,11 @@ test("what was cut is pasted once, in its room, and by who has the same on the c
   const event = (type) => ({ type, target: {}, preventDefault() {},
     clipboardData: { files: [], getData: () => text, setData: (_, its) => { text = its; } } });
   const paste = async (path, data = text) => {
-    [app.watched, text] = [{ path, things: null, put: true }, data];
+    [app.watched, text] = [{ path, put: true }, data];
     happens("paste", event("paste"));
     for (let times = 0; times < 20; times += 1) await soon();
   };
-  app.watched = { path: "/d", things: { chosen: [{ path: "/d/a.txt", link: { href: "#it" } }] } };
+  app.things = { chosen: [{ path: "/d/a.txt", link: { href: "#it" } }] };
   happens("cut", event("cut"));
   await paste("/f", "something else");
   assert.deepEqual(shelf.names("/f"), []);
