@@ -143,6 +143,21 @@ def test_who_comes_back_is_told_who_sees_it_now(club, browser):
     browser.until("that bob sees it", comes_back)
 
 
+def test_who_comes_back_is_offered_what_the_folder_allows_now(club, browser):
+    def comes_back():
+        browser.script("dispatchEvent(new Event('focus'))")
+        return "+ New" in browser.text_of("main")
+    club.lay("/own/a.txt")
+    for path in "/", "/own":
+        club.sets(path, OWNER, EVERYONE, flags=2)
+    club.log_in("bob")
+    club.open("/own")
+    told(browser, {"a.txt": "Everyone here"})
+    assert "+ New" not in browser.text_of("main")
+    club.sets("/own", OWNER, EVERYONE, entry("bob", 0x6), flags=2)
+    browser.until("that bob may add to it", comes_back)
+
+
 def test_who_comes_back_is_told_who_sees_each_row_now(club, browser, tells):
     """Where the folder is as it was: by a row's own list, and by users who are new."""
     def comes_back():
