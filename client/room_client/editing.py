@@ -59,7 +59,12 @@ def find_editor() -> list[str]:
 
 
 def run_editor(editor: list[str], path: str) -> None:
-    status = subprocess.run([*editor, path]).returncode
+    try:
+        status = subprocess.run([*editor, path]).returncode
+    except OSError as fault:  # (what was found is no program: nothing was typed)
+        os.remove(path)
+        os.rmdir(os.path.dirname(path))
+        raise LocalFault(f"{shown(editor[0])}: {fault.strerror}: name an editor by VISUAL or EDITOR") from fault
     if status:
         raise LocalFault(f"{shown(editor[0])} ended with status {status}: nothing was put; it is in {path}")
 

@@ -148,3 +148,14 @@ def test_edit_without_an_editor(desk, editor):
     """(Nothing is left in the folder of this machine: what ends each file of tests looks there.)"""
     with mock.patch.dict(os.environ, VISUAL=editor):
         desk.refuses("edit", "/a", status=5, want=f"no editor {shown(editor)}: name one by VISUAL or EDITOR")
+
+
+def test_edit_by_what_is_no_program(desk):
+    """(What a program would have been given goes again.)"""
+    editor, tmp = desk.path("editor"), desk.path("tmp")
+    desk.file("editor", b"no program")
+    os.chmod(editor, 0o700)
+    os.mkdir(tmp)
+    with mock.patch.object(tempfile, "tempdir", tmp), mock.patch.dict(os.environ, VISUAL=editor):
+        desk.refuses("edit", "/a", status=5, want=f"{editor}: Exec format error: name an editor by VISUAL or EDITOR")
+    assert os.listdir(tmp) == []
