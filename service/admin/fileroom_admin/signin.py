@@ -14,7 +14,7 @@ SOCKET, SERVICE = "fileroom-signin.socket", "fileroom-signin.service"
 PROGRAMS = "../../signin/fileroom-signin", "../../../signin/fileroom-signin"  # as it was installed, or in a checkout
 NEEDS = ("waitress",)
 PACKAGES = "apt-get install " + " ".join(f"python3-{it}" for it in NEEDS)
-SERVER = re.compile(r"(ldaps?://)?([A-Za-z0-9.-]+|\[[0-9A-Fa-f:]+\])(:[0-9]{1,5})?")
+SERVER = re.compile(r"(?:ldaps?://)?(?:[A-Za-z0-9.-]+|\[[0-9A-Fa-f:]+\])(?::([0-9]{1,5}))?")
 # Of Active Directory: its short name, by which a name is an account's sAMAccountName and nothing else; or its long one.
 SHORT, LONG = re.compile(r"[A-Za-z0-9][A-Za-z0-9_-]{0,14}"), re.compile(r"[A-Za-z0-9-]+(\.[A-Za-z0-9-]+)+")
 DAYS_LEFT = 21  # of a server's certificate
@@ -35,7 +35,8 @@ def lacks_parts():
 def conf_of(kind, servers, domain, binds, ca):
     """The text of CONF. (JSON's texts are TOML's.)"""
     for it in servers:
-        if not SERVER.fullmatch(it):
+        named = SERVER.fullmatch(it)
+        if not named or named[1] and not 0 < int(named[1]) < 1 << 16:
             raise Fault(f"{it!r} is no server: HOST, ldaps://HOST or ldap://HOST, with :PORT")
     if kind == "ad":
         if binds or not any(it.fullmatch(domain or "") for it in (SHORT, LONG)):
