@@ -1,6 +1,6 @@
 /** Files and folders are moved, copied, removed to the trash or for good, and put back. */
 import { ACCESS, ADD_FILE, ADD_FOLDER, EXIST, FILE, FOLDER, MAX_NAMES, NOBODY, NOENT, NOTDIR, ROOT, TOO_DEEP, GaveUp,
-  Refusal, ask, calledAt, clean, faultLine, folderOf, follow, forEach, freePath, freePaths, inFolder, isInTrash,
+  Refusal, Seers, ask, calledAt, clean, faultLine, folderOf, follow, forEach, freePath, freePaths, inFolder, isInTrash,
   isRefused, isWithin, lastName, nameAt, nameInput, namesOf, note, noteGone, offered, orFault, readFile, removeAll,
   shown, t, tellFaults, toTrash, toldBy, transferring, trashOf, wasAt, whole, withoutPool,
   writeFile } from "./shared.js";
@@ -72,7 +72,10 @@ async function moveTo(app, paths, goals) {
   const where = only(done, to.get(done[0])) ?? folderOf(goals[0]);
   const undo = wayBack(app, new Map(done.map((it) => [it, to.get(it)])));
   const moved = only(done, { from: done[0], to: where });
-  return () => app.done(t.isNow(named(done), shown(where), done.length), moved, undo);
+  const seers = new Seers(app);
+  const seen = await Promise.all(done.map((it) => seers.of({ path: to.get(it) })));
+  const who = new Set(seen.map((it) => (it ? ` ${t.about(t.heads.who, it.words)}.` : "")));
+  return () => app.done(t.isNow(named(done), shown(where), done.length) + [...who].join(""), moved, undo);
 }
 
 export async function move(app, paths) {

@@ -147,7 +147,7 @@ export const t = {
   yoursThen: "Everyone with access to this folder will have access to it.",
   isHeld: "{0} {1|is|are} {2|cut|copied}: Ctrl V puts {1|it|them} into the folder that is shown.",
   toFolder: "To the folder ", isHere: "That is where it is: choose another folder above, or another name.",
-  moveWords: "Access will be as in the new folder, beside what it has of its own.",
+  moveWords: "Access will be as in the new folder, beside its own.",
   copyWords: "Its own access does not go with it.", forGood: "It cannot be brought back.",
   intoItself: "Nothing goes into itself: choose another folder.", documents: "{0} {0|document|documents}",
   isCopied: "{0} {2|is|are} copied to {1}.", goesWith: "With it go {0} that {1|is|are} in it.",

@@ -206,6 +206,29 @@ test("a move goes back by one press", async () => {
   assert.deepEqual([shelf.names("/d"), shelf.names("/e")], [["a.txt"], []]);
 });
 
+test("who can see what is moved is told with its new place", async () => {
+  const [shelf, ALL] = [new Shelf(), 0x1f07ff];
+  const mine = { aclflag: 1, entries: [{ type: 0, flag: 0, mask: ALL, who: "ann" }] };
+  const app = appOver(shelf);
+  app.room.users = async () => ({ ann: [], bob: [] });
+  const sees = (user) => ({ who }) => ["EVERYONE@", user].includes(who);
+  app.room.allowed = async ({ entries }, user) => (entries.some(sees(user)) ? ALL : 0);
+  for (const it of ["/d", "/e", "/f"]) shelf.put(it);
+  const open = shelf.things.get("/d").list;
+  for (const it of ["a", "b"]) shelf.put(`/d/${it}`, it, { list: mine });
+  await moveInto(app, ["/d/a"], "/f");
+  assert.equal(app.told, "/d/a is now /f/a. Who can see it: Only you.");
+  shelf.refuses = ({ cmd, path }) => { // (where everyone may see what comes)
+    if (cmd === "RENAME") shelf.things.get(path).list = open;
+    return 0;
+  };
+  await moveInto(app, ["/f/a", "/d/b"], "/e");
+  assert.equal(app.told, "2 items are now /e. Who can see it: Everyone here.");
+  app.room.users = async () => null;
+  await moveInto(app, ["/e/b"], "/d");
+  assert.equal(app.told, "/e/b is now /d/b.");
+});
+
 test("a folder is chosen whatever folder is closed whose name begins its own", async () => {
   const shelf = new Shelf();
   for (const it of ["/pro", "/pro/x", "/projects"]) shelf.put(it);
