@@ -3,7 +3,7 @@ import { asButton, makeDocument, makeFolder, offersFor, rightsAt, textOffers } f
 import { head } from "./heads.js";
 import { emptyTrash } from "./moving.js";
 import { ACCESS, ADD_FILE, ADD_FOLDER, FILE, FOLDER, LARGE, MANIFEST, NOBODY, PASS_THROUGH, READ, READ_LIST, ROOT,
-  UNFINISHED, Refusal, Seers, addressOf, beforeWords, beside, button, byName, canShow, changesIn, checkbox, clean,
+  TRASH, UNFINISHED, Refusal, Seers, addressOf, beforeWords, beside, button, byName, canShow, changesIn, checkbox, clean,
   closedLine, faultLine, filesButton, folderOf, foldersAbove, fromBase64, givenHere, hasDav, icon, inFolder, inOrder,
   isAlike, isFor, isInTrash, isNamed, isOwnTrash, isPart, isPdf, isPicture, isTrash, kindBy, lastName, latest, link,
   make, manifestAt, menuButton, nameAt, note, nothing, offered, once, orFault, ownOf, ownTrash, ownedWords, part,
@@ -40,10 +40,11 @@ async function leftWords(names) {
 async function folder(app, place, stat, rights, found) {
   const { path } = place;
   const isOwn = isOwnTrash(app, path);
+  const trash = (isOwn || path === ROOT) && (await ownTrash(app)).path;
   const news = isOwn ? [] : newsFor(app, path, rights.own);
   const mayPut = (rights.own & ADD_FILE) !== 0 && !isOwn;
   const listed = found.names ? withoutPool(path, found.names) : [];
-  const mayEmpty = isOwn && listed.length > 0 && (await ownTrash(app)).path === path;
+  const mayEmpty = isOwn && listed.length > 0 && trash === path;
   const top = head(place, { app, menu: () => offersFor(app, path, FOLDER, rights),
     ...isTrash(path) && { title: t.trashOf(lastName(path)) } });
   const share = (rights.own & READ_LIST) !== 0 && !isOwn && link(addressOf({ ...place, view: "access" }), t.share);
@@ -55,7 +56,8 @@ async function folder(app, place, stat, rights, found) {
     closedLine(found, place, rights.own & PASS_THROUGH ?
       [t.byLink, " ", link(addressOf({ ...place, view: "shared" }), t.sharedWithYou)] : "")];
   note(app, path, true);
-  const names = listed.filter(([name]) => !isPart(name)).sort(byName);
+  // (one's own has its way beside)
+  const names = listed.filter(([it]) => !isPart(it) && !(trash && inFolder(path, it) === TRASH)).sort(byName);
   const changes = names.length > 0 && hasDav(app) && !isInTrash(path) ? changesIn(app, [path]) : null;
   const things = names.length ? new Things(app, place, names, rights, changes) : null;
   const words = isOwn ? t.inTrash : mayPut && t.dropHere;
@@ -191,7 +193,7 @@ class Search {
 
   meet({ path, kind, isShut }) {
     this.looked += 1;
-    if (isShut) this.shut += 1;
+    if (isShut && !isInTrash(path)) this.shut += 1;
     if (this.fits(path)) this.find(path, kind);
     this.tell(t.looking(this.done, this.known));
   }

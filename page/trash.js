@@ -3,7 +3,7 @@ import { EXIST, FOLDER, FOLDER_FULL, ROOT, Refusal, folderOf, inFolder, isPrivat
   language, lastName, nameFault, namesOf, orFault, pathFault, shortened, shown, t } from "./common.js";
 import { isSpare } from "./manifest.js";
 
-const TRASH = "/trash";
+export const TRASH = "/trash";
 
 /** Where a user's trash is, or was in rooms of before. */
 function placesFor(user) {
@@ -12,7 +12,7 @@ function placesFor(user) {
 }
 
 export const isInTrash = (path) => isWithin(path, TRASH);
-export const isTrash = (path) => isInTrash(path) && placesFor(lastName(path)).includes(path);
+export const isTrash = (path) => !/@.$/.test(path) && placesFor(lastName(path)).includes(path);
 export const isOwnTrash = ({ user }, path) => placesFor(user).includes(path);
 
 /** (The gateway keeps emptied pieces in a trash.) */

@@ -57,7 +57,7 @@ def test_limit_of_a_folder_leads_what_is_made_into_another(club, browser, full):
     for name in "one", "two":
         club.open(FULL)
         make_new(browser, "New folder")
-        browser.sees(f"{FULL} is full: it has 256 items. What you make goes into {FULL} (2), beside it.", "dialog")
+        browser.sees(f"{FULL} is full (256 items). What you make goes into {FULL} (2), beside it.", "dialog")
         browser.fill("Name", name)
         browser.press("Create")
         browser.sees(f"{name} created.", "#notices")
@@ -95,7 +95,7 @@ def test_limit_of_a_name_as_it_is_typed(club, browser):
 
 def test_limit_of_a_name_in_an_upload(club, browser):
     club.put("", club.on_disk(LONG, b"long"))
-    browser.sees(f"64 are the most: letters with accents count double or more. A shorter name is {SHORT}.", "dialog")
+    browser.sees(f"64 are the most. Accents count double or more. A shorter name is {SHORT}.", "dialog")
     assert club.names("/") == []
     browser.press("Upload it by a shorter name", DIALOG)
     browser.sees("1 file uploaded", "#notices")
@@ -112,7 +112,7 @@ def deep(club):
 def test_limit_of_depth_is_told_before_it_is_typed(club, browser, deep):
     club.open(DEEP)
     make_new(browser, "New folder")
-    browser.sees("Something would have more than 16 names in its path.", "dialog")
+    browser.sees("A path would have more than 16 names.", "dialog")
 
 
 def test_limit_of_depth_is_told_before_an_upload(club, browser, deep):
@@ -129,7 +129,7 @@ def test_limit_of_depth_in_the_trash(club, browser):
     club.lay("/d" * 15 + "/")
     club.open("/d")
     of_folder(browser, "Remove")
-    browser.sees("Something would have more than 16 names", "#notices")
+    browser.sees("A path would have more than 16 names", "#notices")
     assert club.names("/d" * 14) == ["d"]
 
 

@@ -165,7 +165,7 @@ def test_files_are_dropped_on_a_folders_row(club, browser, frame):
 def test_cut_and_paste(club, browser, both):
     """Once, and back by Undo."""
     browser.chord("ctrl", "x")
-    browser.sees("2 items are cut: Ctrl V puts them into the folder that is shown.", "#notices")
+    browser.sees("2 items are cut: Ctrl V puts them into the folder shown.", "#notices")
     assert (len(club.names(TOP)), club.names(CELLAR)) == (6, [])
     club.open(CELLAR)
     browser.chord("ctrl", "v")

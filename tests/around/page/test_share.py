@@ -52,7 +52,7 @@ def test_share_with_a_group(club, browser, board):
     """By two choices; its members are let pass, work in it, and cannot remove it."""
     club.open(PATH, "access")
     browser.press("Can view", "//main//section[@class='share']//form")
-    browser.sees("It is for nobody yet: choose for whom.", ".share [role=alert]")
+    browser.sees("Choose for whom.", ".share [role=alert]")
     share(browser, "staf", "Can view")
     browser.sees("Nobody here is called staf.", ".share [role=alert]")
     share(browser, "staff", "Can edit and delete")
@@ -102,7 +102,7 @@ def test_share_beside_a_denial(club, browser, passed, tells):
     club.open(PATH, "access")
     browser.sees("Denied", ".share")
     give(browser, "Full control")
-    browser.sees("Bob Ray (bob) may still not make folders in it, make documents in it and remove", "dialog")
+    browser.sees("Bob Ray (bob) may still not make folders or large files in it, make documents in it and remove", "dialog")
     browser.press("Close", DIALOG)
     browser.sees("These cannot get there, or not do it: Bob Ray (bob).", "#notices")
     browser.press("Stop sharing with the group staff")

@@ -38,7 +38,7 @@ def test_what_names_one_or_ones_group_is_found(club, browser, shared, tells):
     assert found(browser) == ["/open/bob.txt", "/team"]
     browser.until("who shares them", lambda: browser.script(TEXTS, ".things .who") ==
                   ["Shared by", "Ann Lee", "Ann Lee"])
-    browser.sees("You may not look into 1 folder. What is shared with you in it opens by its link.", "main")
+    browser.sees("You may not look into 1 folder. What is shared with you there opens by its link.", "main")
     browser.follow("team")
     browser.until("it leads there", lambda: browser.script(PLACE) == "#open/club/team")
 

@@ -212,7 +212,7 @@ def test_folder_to_pass_says_how_to_go_on(club, browser):
     club.log_in("eve")
     club.open()
     browser.sees("You don't have access to club. Ask its owner. "
-                 "What is shared with you in it opens by its link.", "main")
+                 "What is shared with you there opens by its link.", "main")
     browser.follow("Shared with you")
     browser.sees("You may not look into 1 folder.", "main")
     club.open("/shared")

@@ -14,6 +14,7 @@ WIDE = 15 * "\u00e4" + ".txt"
 FOCUSED = "return document.activeElement.textContent"
 ACTIONS = "return [...document.querySelectorAll('dialog .actions button')].map((it) => [it.textContent, it.className])"
 MAKERS = "main > .makers > *"
+NAMES = ".things tbody a.name"
 
 
 @pytest.fixture
@@ -118,9 +119,28 @@ def test_who_restores_the_last_thing_stands_at_the_name(club, browser, trashes):
     browser.until("the focus is there", lambda: browser.script(FOCUSED) == "Trash of ann")
 
 
+def test_all_trashes_are_no_row_beside_ones_own(club, browser, trashes):
+    """By its menu they could be moved, and shared; and what is dropped on it would be in nobody's. In one's own the way
+    up leads to the room, where others' begin by a closed door."""
+    club.lay("/a.txt", f"{TRASH}/t~other~{STAMP}/b.txt")
+    club.open()
+    browser.until("the rows", lambda: browser.script(TEXTS, NAMES) == ["a.txt"])
+    club.open(TRASH)
+    assert browser.script(TEXTS, ".way a") == ["club"]
+    club.open(f"{TRASH}/t~other~{STAMP}")
+    assert browser.script(TEXTS, ".way a") == ["club", "Trash"]
+
+
 def test_trash_that_is_not_there_has_no_way(club, browser):
+    """Who has none sees the folder of others', where it is."""
+    place = trash.places_of("eve")[0]
+    club.make_trash(place, "eve")
     club.open()
     browser.until("the rail", lambda: browser.script(TEXTS, "#rail a") == ["club", "Shared with you"])
+    browser.until("the rows", lambda: browser.script(TEXTS, NAMES) == ["trash"])
+    above = place.rpartition("/")[0]
+    club.open(above)
+    assert browser.script(TEXTS, "h1") == [above.rpartition("/")[2]]
 
 
 def test_trash_on_a_phone(club, browser, trashes):
@@ -213,7 +233,7 @@ def test_save_that_cannot_keep_the_version_before(club, browser, trashes):
     club.open(path)
     edit(browser, "second")
     browser.press("Save")
-    browser.sees("The trash is full: it has 256 items. Empty it first.", "dialog")
+    browser.sees("The trash is full (256 items). Empty it first.", "dialog")
     assert club.text(path) == "first"
     browser.act(TICK, "click")
     browser.press("Save")
@@ -231,7 +251,7 @@ def test_save_that_cannot_keep_the_version_before(club, browser, trashes):
 
 @pytest.mark.parametrize("called, name, why, free", [
     ("taken.txt", f"taken.txt~other~{STAMP}", "Something else has the name /other/taken.txt now.", "taken (2).txt"),
-    ("gone.txt", f"gone.txt~left~{STAMP}", "The folder where it was, /left, is there no more.", "gone.txt"),
+    ("gone.txt", f"gone.txt~left~{STAMP}", "Its folder, /left, is there no more.", "gone.txt"),
     (WIDE, f"{WIDE}~…~{STAMP}", "Its name does not tell where it was.", WIDE)],
     ids=["taken", "gone", "unknown"])
 def test_put_back_elsewhere(club, browser, trashes, called, name, why, free):
@@ -257,7 +277,7 @@ def test_trash_that_is_full(club, browser, thrown, trashes):
     club.lay(*(f"{TRASH}/{count}" for count in range(256)))
     club.open("/other/thrown.txt")
     browser.press("Remove", "//main")
-    browser.sees("The trash is full: it has 256 items. Empty it first.", "#notices")
+    browser.sees("The trash is full (256 items). Empty it first.", "#notices")
     assert ("thrown.txt" in club.names("/other"), browser.script(FOCUSED)) == (True, "Remove")
     club.does({"cmd": "REMOVE", "path": f"{TRASH}/7"})
     browser.press("Remove", "//main")

@@ -90,7 +90,7 @@ def test_a_changed_list_asks(club, browser, june):
     browser.press("Add an entry")
     assert browser.script(ASKED) is True
     browser.press("Save the list")
-    browser.sees("It is for nobody yet: choose for whom.", "#notices")
+    browser.sees("Choose for whom.", "#notices")
     browser.press("Close", "//*[@id='notices']")
     count = browser.script(ENTRIES)
     for does in (lambda: browser.follow("Contents"), lambda: browser.follow("plans"),

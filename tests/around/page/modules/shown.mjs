@@ -54,7 +54,7 @@ test("a text of several blanks has each of them in its place, in German too", as
     ["ruling", [true, "bob", "lesen"], "Verboten für bob: lesen."],
     ["ruling", [false, "bob", "lesen"], "Erlaubt für bob: lesen."],
     ["cannotUpload", [1, 3], "1 von 3 lässt sich nicht"], ["cannotUpload", [2, 3], "2 von 3 lassen sich nicht"],
-    ["narrow", ["", 4, 1], "Benutzer und Gruppen, deren Name diese Buchstaben hat (Benutzer: 4, Gruppen: 1)"],
+    ["narrow", ["", 4, 1], "Benutzer und Gruppen mit diesen Buchstaben (Benutzer: 4, Gruppen: 1)"],
     ["handsDown", [false, ["Ordner"], true], "Gilt hier nicht, aber für Ordner darin und weiter unten."],
     ["handsDown", [true, ["Ordner"], false], "Gilt hier und für Ordner darin, weiter unten nicht."]]) {
     assert.equal(german[key](...parts).slice(0, words.length), words);
