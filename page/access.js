@@ -9,12 +9,12 @@ import { FOLDER, LARGE, MANIFEST, MOST_ENTRIES, NOBODY, REACH, RIGHTS, ROOT, SET
   setList, setOf, shown, shutOut, standing, standingAt, t, tellFault, whomFault, whomOf, whomText, withFollows,
   withWhom } from "./shared.js";
 
-const knownNames = (roster) => make("datalist", { id: "known-names" },
-  [...new Set(Object.entries(roster ?? {}).flat(2))].sort().map((value) => make("option", { value })));
+const knownNames = roster => make("datalist", { id: "known-names" },
+  [...new Set(Object.entries(roster ?? {}).flat(2))].sort().map(value => make("option", { value })));
 
 let isDetailed = false; // whether the editor is open, from one list to the next
 const sentences = (entries, standing, how = {}) =>
-  make("ol.entries", how, entries.map((it) => make("li", sentence(it, standing.kind, standing))));
+  make("ol.entries", how, entries.map(it => make("li", sentence(it, standing.kind, standing))));
 const CHOSEN = "chosen";
 
 class Entry {
@@ -43,20 +43,20 @@ class Entry {
       this.set(withWhom(this.entry, { id: whom.value, name: name.value.trim() }));
     };
     const how = { ariaLabel: t.heads.name, list: "known-names", hidden: now.name === "", oninput };
-    const [name, ids] = [input(now.name, how), Object.keys(t.whom).filter((id) => id !== "" || now.id === "")];
-    const whom = select(ids.map((id) => [id, t.whom[id]]), now.id, oninput, { ariaLabel: t.whomLabel });
+    const [name, ids] = [input(now.name, how), Object.keys(t.whom).filter(id => id !== "" || now.id === "")];
+    const whom = select(ids.map(id => [id, t.whom[id]]), now.id, oninput, { ariaLabel: t.whomLabel });
     return [whom, name];
   }
 
   rights() {
-    const words = (it) => `${this.kind === FOLDER ? bothWords(it) : it[this.kind]} (${it.words.join(", ")})`;
-    this.boxes = RIGHTS.map((it) => checkbox(words(it), (this.entry.mask & it.bit) !== 0,
+    const words = it => `${this.kind === FOLDER ? bothWords(it) : it[this.kind]} (${it.words.join(", ")})`;
+    this.boxes = RIGHTS.map(it => checkbox(words(it), (this.entry.mask & it.bit) !== 0,
       () => this.setMask(this.entry.mask ^ it.bit)));
     const choices = [...SETS.map(({ mask, does }) => [String(mask), does]), [CHOSEN, t.chosenBelow]];
-    this.sets = select(choices, this.setNow(), (it) => {
+    this.sets = select(choices, this.setNow(), it => {
       if (it !== CHOSEN) this.setMask(Number(it));
     }, { ariaLabel: t.rightsLabel });
-    const some = (isAsked) => this.boxes.filter((_, at) => RIGHTS[at].isAsked === isAsked);
+    const some = isAsked => this.boxes.filter((_, at) => RIGHTS[at].isAsked === isAsked);
     return make("fieldset", make("legend", t.rightsLabel), some(true),
       make("details", make("summary", t.unaskedRights), some(false)));
   }
@@ -78,7 +78,7 @@ class Entry {
   element(isOpen, buttons) {
     const rights = this.rights();
     const verb = select([["0", t.allow], ["1", t.deny]], isDeny(this.entry) ? "1" : "0",
-      (it) => this.set({ ...this.entry, type: Number(it) }), { ariaLabel: `${t.allow} / ${t.deny}` });
+      it => this.set({ ...this.entry, type: Number(it) }), { ariaLabel: `${t.allow} / ${t.deny}` });
     return make("li", make(`details.${isDeny(this.entry) ? "deny" : "allow"}`, { open: isOpen }, this.summary,
       make("p.row", verb, this.whom(), t.to, this.sets), this.fault, rights,
       this.kind === FOLDER && this.reach(), make("p.tools", buttons)));
@@ -98,7 +98,7 @@ class ListView {
 
   get text() { return JSON.stringify([this.aclflag, this.own]); }
   get called() { return t.listOf(shown(calledIn(this.place.room, this.place.path))); }
-  linkTo = (path) => link(addressOf({ ...this.place, path }), nameText(calledIn(this.place.room, path)));
+  linkTo = path => link(addressOf({ ...this.place, path }), nameText(calledIn(this.place.room, path)));
   get inherited() { return follows(this.aclflag) ? this.list.entries.filter(isInherited) : []; }
 
   draw() {
@@ -117,7 +117,7 @@ class ListView {
   taking() {
     if (this.place.path === ROOT) return null;
     const its = follows(this.aclflag);
-    return make("div", checkbox(t.takesOver, its, (it) => this.take(it)),
+    return make("div", checkbox(t.takesOver, its, it => this.take(it)),
       make("p.about", its ? t.without : t.alone));
   }
 
@@ -129,7 +129,7 @@ class ListView {
 
   /** Without what is handed down, copies of it become its own; with it again, unchanged ones go. */
   take(isWanted) {
-    this.own = this.own.filter((it) => !this.copied.includes(it));
+    this.own = this.own.filter(it => !this.copied.includes(it));
     this.copied = isWanted ? [] : this.inherited.map(asOwn);
     this.own.push(...this.copied);
     this.aclflag = withFollows(this.aclflag, isWanted);
@@ -137,7 +137,7 @@ class ListView {
   }
 
   entry(it, at) {
-    const changed = (now) => { this.own[at] = now; };
+    const changed = now => { this.own[at] = now; };
     return new Entry(it, { standing: this.standing, roster: this.roster, changed }).element(this.opened === at, [
       button(t.up, () => this.move(at, at - 1)), button(t.down, () => this.move(at, at + 1)),
       button(t.remove, () => this.drop(at))]);
@@ -167,12 +167,12 @@ class ListView {
 
   async save(news = this.news()) {
     const [about, count] = [this.called, this.own.length];
-    const fault = this.own.some((it) => it.who === "") ? t.noWhom :
+    const fault = this.own.some(it => it.who === "") ? t.noWhom :
       count > MOST_ENTRIES ? t.listFull(count, MOST_ENTRIES) : "";
     if (fault) return tellFault(t.about(about, fault));
-    const unknown = this.own.map((it) => whomFault(it, this.roster)).filter(Boolean);
+    const unknown = this.own.map(it => whomFault(it, this.roster)).filter(Boolean);
     if (unknown.length && !await ask({ title: `${t.setAllTheSame}?`, does: t.setAllTheSame,
-      words: unknown.map((it) => t.countsForNobody(it)) })) return;
+      words: unknown.map(it => t.countsForNobody(it)) })) return;
     const why = { title: `${t.saveList}?`, words: t.noControl, does: t.saveList };
     if (!this.keepsControl && !await ask(why)) return false;
     const now = await this.app.attempt(about, async () => {
@@ -195,7 +195,7 @@ class ListView {
 
   news() {
     const before = ownOf(this.list);
-    return this.own.filter((it) => !isDeny(it) && !before.some((other) => isAlike(it, other)));
+    return this.own.filter(it => !isDeny(it) && !before.some(other => isAlike(it, other)));
   }
 
   async setTo(own, news) {
@@ -216,11 +216,11 @@ class ListView {
 
   async tellMore(panel) {
     const { app, object, list } = this;
-    const handed = await origins(app.room, object.path, this.inherited.filter((it) => !isDeny(it)));
+    const handed = await origins(app.room, object.path, this.inherited.filter(it => !isDeny(it)));
     for (const [it, folder] of handed) panel.tellFrom(whomOf(it), this.linkTo(folder));
-    const found = await shutOut(app, object, list.entries.filter((it) => !isDeny(it)));
+    const found = await shutOut(app, object, list.entries.filter(it => !isDeny(it)));
     for (const its of Map.groupBy(found, ({ whom }) => JSON.stringify(whom)).values()) {
-      const [isBarred, who] = [its.some((it) => it.folders.length), named(its)];
+      const [isBarred, who] = [its.some(it => it.folders.length), named(its)];
       const words = isBarred ? t.cannotReach(who) : t.lacksStill(who, rightsIn(its[0].lacks, object.kind));
       panel.tellShut(its[0].whom, words, isBarred && this.mayChange && (() => this.allow(its)));
     }
@@ -228,7 +228,7 @@ class ListView {
 
   async allow(found) {
     const [changes, { whom }] = [[], found[0]];
-    const entries = this.list.entries.filter((it) => !isDeny(it) && isAlike(whomOf(it), whom));
+    const entries = this.list.entries.filter(it => !isDeny(it) && isAlike(whomOf(it), whom));
     const isDone = await this.app.attempt(t.letPass, () => letAll(this.app, this.object, entries, found, changes));
     if (isDone) await this.app.done(t.allCan([whomText(whom)]), null, this.undo(changes));
   }
@@ -260,7 +260,7 @@ class ListView {
 
 async function changers(app, path, kind) {
   const users = await new Seers(app).able({ path, kind }, WRITE_LIST);
-  return `${t.onlySeen} ${users?.length ? t.canChange(named(users.map((user) => ({ user })))) : t.askAnyOwner}`;
+  return `${t.onlySeen} ${users?.length ? t.canChange(named(users.map(user => ({ user })))) : t.askAnyOwner}`;
 }
 
 export async function showAccess(app, place) {

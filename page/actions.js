@@ -9,8 +9,8 @@ import { ADD_FILE, ADD_FOLDER, APPEND, DELETE, DELETE_CHILD, FILE, FOLDER, LARGE
 
 export const rightsOn = async (room, path) => await room.rights(path) ?? -1;
 
-const copyLink = (address) => navigator.clipboard.writeText(wholeLink(address))
-  .then(() => say(t.linkCopied), (fault) => tellFault(t.about(t.copyLink, fault.message)));
+const copyLink = address => navigator.clipboard.writeText(wholeLink(address))
+  .then(() => say(t.linkCopied), fault => tellFault(t.about(t.copyLink, fault.message)));
 
 export function star(app, path, isFolder) {
   turnStar(app, path, isFolder);
@@ -19,7 +19,7 @@ export function star(app, path, isFolder) {
   drawRail(app, app.place);
 }
 
-const has = (rights, ...bits) => bits.every((it) => rights & it);
+const has = (rights, ...bits) => bits.every(it => rights & it);
 
 export async function rightsAt(room, path) {
   const [own, above] = await Promise.all([rightsOn(room, path), path === ROOT ? 0 : rightsOn(room, folderOf(path))]);
@@ -27,19 +27,19 @@ export async function rightsAt(room, path) {
 }
 
 export function offersFor(app, path, kind, { own, above, size }) {
-  const [isFile, isLarge, isUnfinished, isFolder] = [FILE, LARGE, UNFINISHED, FOLDER].map((it) => it === kind);
+  const [isFile, isLarge, isUnfinished, isFolder] = [FILE, LARGE, UNFINISHED, FOLDER].map(it => it === kind);
   const [isTop, isThrown] = [path === ROOT, toldBy(path) !== null];
   const isOver = (isLarge || isUnfinished) && has(own, ADD_FILE, ADD_FOLDER, PASS);
   const isWhole = isFolder && isTrash(path); // (somebody's, with what they may want back)
   const isMovable = !isTop && !isWhole && (has(own, DELETE) || has(above, DELETE_CHILD));
   const replaces = isUnfinished ? null : { mayKeep: has(own, READ) && has(above, ADD_FILE, ADD_FOLDER) };
-  const at = (view) => addressOf({ view, room: app.room.name, path });
+  const at = view => addressOf({ view, room: app.room.name, path });
   return offered([
     [isFile && has(own, READ) || isLarge && has(own, READ, PASS),
       { words: t.download, does: () => download(app, path, size) }],
     [isFolder && has(own, READ, PASS), { words: t.downloadZip, does: () => downloadFolder(app, path) }],
     [!isThrown && (isFile && has(own, WRITE) || isOver),
-      { words: t.newVersion, files: { isOne: true }, chosen: (it) => newVersion(app, path, it, replaces) }],
+      { words: t.newVersion, files: { isOne: true }, chosen: it => newVersion(app, path, it, replaces) }],
     [!isThrown && isMovable && has(above, isFile ? ADD_FILE : ADD_FOLDER),
       { key: "rename", words: t.rename, does: () => rename(app, path) }],
     [isThrown && isMovable, { words: t.putBack, does: () => putBack(app, path) }],
@@ -68,9 +68,9 @@ const tooLong = ({ length }) => (length > MOST_BYTES ? t.tooLong(length, MOST_BY
 async function makeNew(app, folder, { title, fields = [], faultOf = () => "", does }) {
   const [name, full] = [nameInput(), faultLine()];
   const place = placeIn(app.room, folder);
-  place.then((goal) => {
+  place.then(goal => {
     if (goal !== folder) full.textContent = t.isFull(shown(folder), shown(goal));
-  }).catch((fault) => { full.textContent = fault.message; });
+  }).catch(fault => { full.textContent = fault.message; });
   const task = async () => {
     if (await place !== folder) await makeLike(app.room, await place, folder);
     await does(inFolder(await place, clean(name.value)));
@@ -84,11 +84,11 @@ async function makeNew(app, folder, { title, fields = [], faultOf = () => "", do
 
 export function makeFolder(app, folder) {
   let [isMine, made] = [false, null]; // (where its list was refused, it stays)
-  const mine = checkbox(t.about(t.heads.who, t.onlyYou), false, (it) => {
+  const mine = checkbox(t.about(t.heads.who, t.onlyYou), false, it => {
     mine.closest("form").querySelector("p").hidden = isMine = it;
   });
   const own = { aclflag: withFollows(1, false), entries: entriesOf("all", { id: "user", name: app.user }, FOLDER) };
-  return makeNew(app, folder, { title: t.newFolder, fields: [["", mine]], does: async (path) => {
+  return makeNew(app, folder, { title: t.newFolder, fields: [["", mine]], does: async path => {
     if (!made) await app.room.run("MKDIR", path);
     else if (made !== path) await app.room.run("RENAME", made, { to: path });
     made = path;
@@ -100,7 +100,7 @@ export function makeDocument(app, folder) {
   const text = area();
   return makeNew(app, folder, { title: t.newDocument, fields: [[t.text, text]],
     faultOf: () => tooLong(fromText(text.value)),
-    does: (path) => app.room.run("CREATE", path, { data: toBase64(fromText(text.value)) }) });
+    does: path => app.room.run("CREATE", path, { data: toBase64(fromText(text.value)) }) });
 }
 
 function asLines(text, before) {
@@ -133,7 +133,7 @@ const kept = new Set();
 export async function edit(app, path) {
   const title = t.doTo(t.edit, shown(lastName(path)));
   const found = await app.attempt(title, () => Promise.all([app.room.run("READ", path),
-    app.room.look("GETLIST", path).then((it) => (it ? trashOf(app) : {}))]));
+    app.room.look("GETLIST", path).then(it => (it ? trashOf(app) : {}))]));
   if (!found) return;
   let [[{ data: seen }, { path: trash }], told, written] = [found, t.replaced];
   const text = toText(fromBase64(seen));

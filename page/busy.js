@@ -11,7 +11,7 @@ export class GaveUp extends Error {}
 const section = part("busy");
 
 function tell() {
-  const told = [...waiting].filter((it) => it.times >= 2 || it.isShut).sort((a, b) => b.times - a.times)[0];
+  const told = [...waiting].filter(it => it.times >= 2 || it.isShut).sort((a, b) => b.times - a.times)[0];
   section.hidden = !told;
   if (told) part("busy-text").textContent = t.waits(told.why, waiting.size, told.times);
   part("busy-login").hidden = told?.why !== t.loginGone;
@@ -48,11 +48,11 @@ export function standIn(element) {
   return () => parentNode.insertBefore(section, nextSibling?.parentNode === parentNode ? nextSibling : null);
 }
 
-const goOn = () => waiting.forEach((it) => it.isShut && it.goOn());
+const goOn = () => waiting.forEach(it => it.isShut && it.goOn());
 
-part("busy-now").onclick = () => waiting.forEach((it) => it.goOn());
+part("busy-now").onclick = () => waiting.forEach(it => it.goOn());
 // (so that nothing goes that was typed here)
 part("busy-login").onclick = () => open("/sign-in?beside");
 addEventListener("focus", goOn);
 onLogin(goOn);
-part("busy-stop").onclick = () => waiting.forEach((it) => it.stop());
+part("busy-stop").onclick = () => waiting.forEach(it => it.stop());

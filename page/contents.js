@@ -13,14 +13,14 @@ import { Things } from "./things.js";
 
 const PREVIEWED = 2 ** 22; // bytes of a large file that are read unasked
 
-const orShut = (task, path) => orFault(task, (it) => it.code === ACCESS && it.path === path);
+const orShut = (task, path) => orFault(task, it => it.code === ACCESS && it.path === path);
 
 function about(place, stat, size) {
   return make("p.about", [size, ownedWords(stat), beforeWords(place.path)].filter(Boolean).join(", "));
 }
 
 function newsFor(app, path, own) {
-  const put = (chosen) => upload(app, path, chosen);
+  const put = chosen => upload(app, path, chosen);
   return offered([
     [own & ADD_FOLDER, { words: t.newFolder, does: () => makeFolder(app, path) }],
     [own & ADD_FILE, { words: t.newDocument, does: () => makeDocument(app, path) }],
@@ -50,7 +50,7 @@ async function folder(app, place, stat, rights, found) {
   const share = (rights.own & READ_LIST) !== 0 && !isOwn && link(addressOf({ ...place, view: "access" }), t.share);
   const adder = news.length > 0 && menuButton(`+ ${t.new}`, { className: "main" }, () => news, t.new);
   const bar = make("p.tools.makers", adder,
-    mayPut && filesButton(t.upload, {}, (chosen) => upload(app, path, chosen)), share,
+    mayPut && filesButton(t.upload, {}, chosen => upload(app, path, chosen)), share,
     mayEmpty && button(t.emptyTrash, () => emptyTrash(app, path)));
   if (found instanceof Refusal) return [...top, bar, about(place, stat, t.kinds.folder),
     closedLine(found, place, rights.own & PASS_THROUGH ?
@@ -67,7 +67,7 @@ async function folder(app, place, stat, rights, found) {
     things?.element ?? make(mayPut ? "div.empty.inviting" : "div.empty", icon(isOwn ? "trash" : "folder"),
       make("p", t.nothingThere), more),
     about(place, stat, t.allThings(names.length)), things && more);
-  area.oncontextmenu = (event) => {
+  area.oncontextmenu = event => {
     if (!adder || ![area, things?.element].includes(event.target)) return;
     event.preventDefault();
     adder.show(pointOf(event));
@@ -88,11 +88,11 @@ async function folder(app, place, stat, rights, found) {
 }
 
 async function object(app, place, { stat, rights, kind, size, words, first = [], bytes = null }, body) {
-  const offers = [...first, ...offersFor(app, place.path, kind, { ...rights, size }).filter((it) => !it.isView)];
+  const offers = [...first, ...offersFor(app, place.path, kind, { ...rights, size }).filter(it => !it.isView)];
   const printer = bytes && canShow(bytes) && !isPdf(bytes) && button(t.print, () => print());
   const bar = make("p.tools", offers.map(asButton), printer, await neighbours(app, place));
   // (what is offered follows the rights)
-  bar.isOther = () => rightsAt(app.room, place.path).then((its) => !isAlike(its, rights), () => false);
+  bar.isOther = () => rightsAt(app.room, place.path).then(its => !isAlike(its, rights), () => false);
   return [...head(place), bar, about(place, stat, words), body];
 }
 
@@ -116,14 +116,14 @@ async function large(app, place, stat, rights) {
   const area = make("div");
   const show = async () => {
     const told = [];
-    const bytes = await readFile(app.room, path, { ...NOBODY, fail: (it) => told.push(faultLine(it)) });
+    const bytes = await readFile(app.room, path, { ...NOBODY, fail: it => told.push(faultLine(it)) });
     area.replaceChildren(...told, preview(bytes, lastName(path)));
   };
   const start = await app.room.look("READ", inFolder(path, its.folder, its.pieces[0]), { keep: false });
   const bytes = start && fromBase64(start.data);
   const isAsked = its.size <= PREVIEWED || bytes && isPdf(bytes);
   if (bytes && !canShow(bytes)) area.append(nothing());
-  else if (rights.own & READ && isAsked) await show().catch((fault) => area.append(fault.message));
+  else if (rights.own & READ && isAsked) await show().catch(fault => area.append(fault.message));
   else area.append(button(t.show, () => app.attempt(shown(path), show)));
   const more = { kind: LARGE, size: its.size, words: sizeWords(its.size), bytes: isAsked ? bytes : null };
   return object(app, place, { stat, rights, ...more }, area);
@@ -155,7 +155,7 @@ export async function showContents(app, place) {
 const MOST = 500; // things
 const [MOST_CHANGES, MOST_FOLDERS] = [100, 20]; // that are shown, and asked about
 const kept = new Map(); // by address, until something is changed, or the page looks again
-const small = (name) => clean(name).toLowerCase();
+const small = name => clean(name).toLowerCase();
 export const forgetFound = () => kept.clear();
 const entryOf = (path, kind) => [lastName(path), kind, folderOf(path)];
 
@@ -166,7 +166,7 @@ class Search {
     this.end = button(t.cancel, () => { this.isStopped = true; }, "small");
     this.area = make("div");
     const here = place.path !== ROOT &&
-      checkbox(t.onlyIn(shown(lastName(place.path))), place.isHere, (isHere) => goTo(app, { ...place, isHere }));
+      checkbox(t.onlyIn(shown(lastName(place.path))), place.isHere, isHere => goTo(app, { ...place, isHere }));
     this.element = make("div", here, make("p", this.told, " ", this.end), this.area);
     this.run();
   }
@@ -175,7 +175,7 @@ class Search {
     const { room, place } = this;
     try {
       await this.begin?.();
-      await walk(room, place.isHere ? place.path : ROOT, (it) => this.meet(it), this);
+      await walk(room, place.isHere ? place.path : ROOT, it => this.meet(it), this);
       this.tell();
     } catch (fault) {
       this.told.textContent = fault.message;
@@ -249,7 +249,7 @@ class Shared extends Search {
   async fits(path) {
     const { groups, room, app: { user } } = this;
     const its = ownOf(await room.look("GETLIST", path) ?? { entries: [] })
-      .filter((it) => isNamed(whomOf(it).id) && isFor(it, {}, user, groups));
+      .filter(it => isNamed(whomOf(it).id) && isFor(it, {}, user, groups));
     return (givenHere(its) & READ) !== 0 && (await room.rights(path) & READ) !== 0 &&
       (await room.look("STAT", path))?.owner !== user;
   }
@@ -275,7 +275,7 @@ export const showShared = (app, place) => [...head(place, { title: t.sharedWithY
 
 export async function showRecent(app, place) {
   const own = [...stars(app), ...latest(app)].map(([path, isFolder]) => (isFolder ? path : folderOf(path)));
-  const folders = new Set([ROOT, ...own.filter((it) => !isInTrash(it))]);
+  const folders = new Set([ROOT, ...own.filter(it => !isInTrash(it))]);
   const found = await changesIn(app, [...folders].slice(0, MOST_FOLDERS));
   const newest = [...found].sort(([, one], [, other]) => other.when - one.when).slice(0, MOST_CHANGES);
   const entries = newest.map(([path, { kind }]) => entryOf(path, kind));

@@ -3,12 +3,12 @@ import { ask, displayName, forEach, inFolder, language, make, namesOf, t, toldAt
 
 let rooms = [];
 export const learnDav = async () => { rooms = await toldAt("/dav.json", []); };
-export const hasDav = (app) => rooms.includes(app.room?.name);
+export const hasDav = app => rooms.includes(app.room?.name);
 const wayTo = (app, path) => ["/dav", ...[app.room.name, ...namesOf(path)].map(encodeURIComponent), ""].join("/");
 
 export async function changesIn(app, folders) {
   const found = new Map();
-  await forEach(hasDav(app) ? folders : [], async (folder) => {
+  await forEach(hasDav(app) ? folders : [], async folder => {
     const its = await toldAt(`${wayTo(app, folder)}?latest`, {});
     for (const [name, [who, when, kind]] of Object.entries(its)) found.set(inFolder(folder, name), { who, when, kind });
   }, 3);

@@ -16,44 +16,44 @@ function added(set, it) {
   return () => set.delete(it);
 }
 
-export const watch = (look) => added(typed, look);
-export const watchEnd = (what) => added(running, what);
-export const isUnsaved = () => !isEnding && [...typed].some((it) => it());
+export const watch = look => added(typed, look);
+export const watchEnd = what => added(running, what);
+export const isUnsaved = () => !isEnding && [...typed].some(it => it());
 
 export const end = () => { isEnding = true; };
 
-addEventListener("beforeunload", (event) => {
+addEventListener("beforeunload", event => {
   if (isUnsaved() || !isEnding && running.size > 0) event.preventDefault();
 });
 
-export const closeAll = () => open.forEach((it) => it.end(null));
+export const closeAll = () => open.forEach(it => it.end(null));
 
 export async function untilClosed() {
-  while (open.size > 0) await Promise.race([...open].map((it) => it.closed));
+  while (open.size > 0) await Promise.race([...open].map(it => it.closed));
 }
 
 class Dialog {
   constructor({ title, words, fields = [], does, faultOf = () => "", task = () => {}, others = [], wayOn,
     stays = t.cancel, isFinal = false }) {
     Object.assign(this, { faultOf, task, wayOn, first: isFinal && stays, fields: fields.map(([, field]) => field) });
-    this.isText = this.fields.some((it) => it.tagName === "TEXTAREA"); // (nobody misses a name)
+    this.isText = this.fields.some(it => it.tagName === "TEXTAREA"); // (nobody misses a name)
     this.fault = make("p.fault", { role: "alert" });
     this.leaving = make("p.fault", { role: "alert", hidden: true }, t.unsaved, " ", button(t.typeOn, () => this.stay()),
       " ", button(t.discard, () => this.end(null)));
     this.atWork = make("p", { role: "status" });
     const leave = button(stays, () => this.leave());
-    const texts = [words].flat(Infinity).map((it) => (typeof it === "string" ? make("p", it) : it));
+    const texts = [words].flat(Infinity).map(it => (typeof it === "string" ? make("p", it) : it));
     const head = make("h2", does ? {} : { tabIndex: -1, autofocus: true }, title);
     this.form = make("form", { method: "dialog", onsubmit: onSubmit(() => this.submit()) }, head, texts,
       fields.map(([label, field]) => (label ? labelled(label, field) : field)), this.fault, this.isText && this.leaving,
       this.atWork, make("p.actions", isFinal && leave, does && make(isFinal ? "button" : "button.main", does),
-        others.map((it) => button(it.words, () => this.run(it.task ?? (() => {}), it.value))), !isFinal && leave));
-    this.element = make("dialog", { ariaLabel: title, closedby: "none", onkeydown: (event) => this.key(event),
-      oncancel: (event) => event.target === this.element && event.preventDefault() }, this.form);
+        others.map(it => button(it.words, () => this.run(it.task ?? (() => {}), it.value))), !isFinal && leave));
+    this.element = make("dialog", { ariaLabel: title, closedby: "none", onkeydown: event => this.key(event),
+      oncancel: event => event.target === this.element && event.preventDefault() }, this.form);
     this.start = this.now;
   }
 
-  get now() { return JSON.stringify(this.fields.map((it) => it.value)); }
+  get now() { return JSON.stringify(this.fields.map(it => it.value)); }
 
   key(event) {
     const isSave = (event.ctrlKey || event.metaKey) && ["s", "Enter"].includes(event.key);
@@ -65,7 +65,7 @@ class Dialog {
   }
 
   submit() {
-    this.fault.textContent = this.fields.map((it) => it.faultOf?.()).find(Boolean) ?? this.faultOf();
+    this.fault.textContent = this.fields.map(it => it.faultOf?.()).find(Boolean) ?? this.faultOf();
     if (!this.fault.textContent) this.run(this.task, true);
   }
 
@@ -93,7 +93,7 @@ class Dialog {
   leave() {
     if (this.form.inert) return;
     if (this.now === this.start || !this.isText) return this.end(null);
-    if (this.leaving.hidden) this.typedIn = this.fields.find((it) => it === document.activeElement) ?? this.fields[0];
+    if (this.leaving.hidden) this.typedIn = this.fields.find(it => it === document.activeElement) ?? this.fields[0];
     this.leaving.hidden = false;
     this.leaving.querySelector("button").focus();
   }
@@ -116,8 +116,8 @@ class Dialog {
     this.unwatch = watch(() => this.now !== this.start);
     document.body.append(this.element);
     this.element.showModal();
-    if (this.first) [...this.form.querySelectorAll("button")].find((it) => it.textContent === this.first).focus();
-    this.closed = new Promise((tell) => { this.tell = tell; });
+    if (this.first) [...this.form.querySelectorAll("button")].find(it => it.textContent === this.first).focus();
+    this.closed = new Promise(tell => { this.tell = tell; });
     return this.closed;
   }
 }
@@ -125,7 +125,7 @@ class Dialog {
 /** Asks for `fields`, `[LABEL, ELEMENT]`. `faultOf` tells why these will not do; `others` are buttons, `{words, value,
  * task}`; `stays` is the word of the one that closes, which has the focus where the task `isFinal`; `wayOn` stands by
  * its fault. Gives true, or the value of another button, once the task is done; null where it was closed. */
-export const ask = (how) => new Dialog(how).show();
+export const ask = how => new Dialog(how).show();
 
 export const input = (value = "", how = {}) => make("input", { value, autocomplete: "off", spellcheck: false, ...how });
 
@@ -150,12 +150,12 @@ export function nameInput(value = "", how = {}) {
 
 export const area = (value = "", rows = 16) => make("textarea", { value, rows });
 
-const inline = (text) => text.split("**").map((it, at) => (at % 2 ? make("b", it) : it));
+const inline = text => text.split("**").map((it, at) => (at % 2 ? make("b", it) : it));
 
 /** (Each line begins a paragraph.) */
 export async function showHelp() {
   const { help } = await import(`./help.${language}.js`);
-  await ask({ title: t.help, words: help.trim().split(/\n(?! )/).map((it) => make("p", inline(it))), stays: t.close });
+  await ask({ title: t.help, words: help.trim().split(/\n(?! )/).map(it => make("p", inline(it))), stays: t.close });
 }
 
 const EDGE = 8; // pixels that stay free beside it
@@ -166,7 +166,7 @@ function itemElements(it, close) {
   const how = { role: it.isNow === undefined ? "menuitem" : "menuitemradio", ariaChecked: it.isNow, tabIndex: -1,
     className: it.isApart ? "apart" : "", lang: it.lang, title: it.about };
   if (it.href) return [link(it.href, it.words, { onclick: close, ...how })];
-  const files = it.chosen && pickFiles(it.words, it.files, (chosen) => {
+  const files = it.chosen && pickFiles(it.words, it.files, chosen => {
     close();
     it.chosen(chosen);
   });
@@ -181,10 +181,10 @@ function itemElements(it, close) {
 class Menu {
   constructor(anchor, items, label, at) {
     Object.assign(this, { anchor, at });
-    const elements = items.flatMap((it) => itemElements(it, () => this.close()));
-    this.items = elements.filter((it) => it.role?.startsWith("menuitem"));
+    const elements = items.flatMap(it => itemElements(it, () => this.close()));
+    this.items = elements.filter(it => it.role?.startsWith("menuitem"));
     this.element = make("div.menu", { role: "menu", popover: "auto", ariaLabel: label,
-      onkeydown: (event) => this.key(event), ontoggle: (event) => event.newState === "closed" && this.closed() },
+      onkeydown: event => this.key(event), ontoggle: event => event.newState === "closed" && this.closed() },
     make("p.menu-title", { "aria-hidden": "true" }, label), elements);
   }
 
@@ -227,7 +227,7 @@ class Menu {
     const goals = { ArrowDown: at === last ? 0 : at + 1, ArrowUp: at <= 0 ? last : at - 1, Home: 0, End: last };
     const letter = event.key.length === 1 && event.key !== " " && event.key.toLowerCase();
     const goal = goals[event.key] ?? [...this.items.keys()].sort((a, b) => (a <= at) - (b <= at) || a - b)
-      .find((it) => letter && this.items[it].textContent.toLowerCase().startsWith(letter));
+      .find(it => letter && this.items[it].textContent.toLowerCase().startsWith(letter));
     if (["Tab", "Escape"].includes(event.key)) this.close();
     if (event.key === "Escape" || goal !== undefined) event.preventDefault();
     if (goal === undefined) return;
@@ -238,14 +238,14 @@ class Menu {
 
 /** `items` are `{words, does}`, `{words, href}` or `{words, files, chosen}`. */
 export const openMenu = (anchor, items, label, at) => new Menu(anchor, items, label, at).show();
-export const offered = (items) => items.filter(([isOffered]) => isOffered).map(([, it]) => it);
-export const pointOf = (event) => ({ x: event.clientX, y: event.clientY });
+export const offered = items => items.filter(([isOffered]) => isOffered).map(([, it]) => it);
+export const pointOf = event => ({ x: event.clientX, y: event.clientY });
 
 export function menuButton(words, how, itemsOf, label) {
   const its = make("button", { type: "button", ariaHasPopup: "menu", ariaExpanded: "false", ...how }, words);
-  const open_ = async (at) => openMenu(its, await itemsOf(), label, at);
+  const open_ = async at => openMenu(its, await itemsOf(), label, at);
   let opening = null;
-  its.show = (at) => { opening ??= open_(at).catch(tellIt).finally(() => { opening = null; }); };
+  its.show = at => { opening ??= open_(at).catch(tellIt).finally(() => { opening = null; }); };
   its.onclick = () => its.show();
   return its;
 }

@@ -2,7 +2,7 @@
 import { FOLDER } from "./lists.js";
 import { partsOf } from "./names.js";
 
-export const part = (id) => document.getElementById(id);
+export const part = id => document.getElementById(id);
 
 /** An element, `tag.class`, with properties or attributes and children, also in lists; null is nothing. */
 export function make(name, ...rest) {
@@ -14,7 +14,7 @@ export function make(name, ...rest) {
     if (key in it && key !== "list") it[key] = value;
     else it.setAttribute(key, value);
   }
-  it.append(...rest.flat(Infinity).filter((child) => ![null, undefined, false].includes(child)));
+  it.append(...rest.flat(Infinity).filter(child => ![null, undefined, false].includes(child)));
   return it;
 }
 
@@ -23,13 +23,13 @@ export const button = (words, onclick, how = {}) =>
 
 export const link = (href, words, how = {}) => make("a", { href, ...how }, words);
 
-export const wholeLink = (address) => new URL(address, location.href.split("#")[0]).href;
+export const wholeLink = address => new URL(address, location.href.split("#")[0]).href;
 export const letterLink = (words, about, text, address) => link(`mailto:?subject=${encodeURIComponent(about)}&body=${
   encodeURIComponent([text, wholeLink(address)].filter(Boolean).join("\n\n"))}`, words);
 
 export const faultLine = (...words) => make("p.fault", ...words);
-export const listOf = (all) => make("ul", all.map((it) => make("li", it)));
-export const onSubmit = (task) => (event) => {
+export const listOf = all => make("ul", all.map(it => make("li", it)));
+export const onSubmit = task => event => {
   event.preventDefault();
   task(event);
 };
@@ -64,9 +64,9 @@ export function select(choices, now, changed, how = {}) {
 export function pickFiles(words, { isFolder = false, isOne = false }, chosen) {
   const field = make("input", { type: "file", multiple: !isOne, hidden: true, ariaLabel: words });
   field.webkitdirectory = isFolder;
-  field.onclick = (event) => event.stopPropagation();
+  field.onclick = event => event.stopPropagation();
   field.onchange = () => {
-    const files = [...field.files].map((file) => ({ names: (file.webkitRelativePath || file.name).split("/"), file }));
+    const files = [...field.files].map(file => ({ names: (file.webkitRelativePath || file.name).split("/"), file }));
     field.value = ""; // (so that the same file can be chosen again)
     chosen(files);
   };
@@ -76,15 +76,15 @@ export function pickFiles(words, { isFolder = false, isOne = false }, chosen) {
 // What was done somewhere leaves the reader there.
 
 const seen = new Map(); // how far each place was scrolled when it was left
-const wordsOf = (it) => it.title || it.ariaLabel || it.textContent;
+const wordsOf = it => it.title || it.ariaLabel || it.textContent;
 const within = () => [...part("main").querySelectorAll("a, button, input, select, summary")]
-  .filter((it) => it.checkVisibility());
+  .filter(it => it.checkVisibility());
 
 function focused() {
   const it = document.activeElement;
   if (!part("main").contains(it)) return null;
   const words = wordsOf(it);
-  const count = within().filter((other) => wordsOf(other) === words).indexOf(it);
+  const count = within().filter(other => wordsOf(other) === words).indexOf(it);
   return { words, count, row: it.closest("tr")?.rowIndex };
 }
 
@@ -95,8 +95,8 @@ export function standing(path = null) {
   const [from, top] = [focused(), scrollY];
   return () => {
     const rows = [...part("main").querySelector("table")?.rows ?? []];
-    const its = path && rows.find((it) => it.row?.path === path)?.row.link;
-    const same = its || from && within().filter((it) => wordsOf(it) === from.words)[from.count];
+    const its = path && rows.find(it => it.row?.path === path)?.row.link;
+    const same = its || from && within().filter(it => wordsOf(it) === from.words)[from.count];
     const row = from?.row === undefined ? null : rows[Math.min(from.row, rows.length - 1)];
     (same ?? row?.querySelector("td button") ?? heading())?.focus({ preventScroll: true });
     scrollTo({ top, behavior: "instant" });
@@ -104,7 +104,7 @@ export function standing(path = null) {
   };
 }
 
-export const leave = (address) => seen.set(address, scrollY);
+export const leave = address => seen.set(address, scrollY);
 
 function showFocus({ currentTarget: it }) {
   it.blur();
@@ -146,7 +146,7 @@ const ENDINGS = {
   archive: "zip gz tar 7z rar", media: "mp3 mp4 mov wav ogg avi m4a webm mkv",
 };
 
-const KINDS = new Map(Object.entries(ENDINGS).flatMap(([kind, all]) => all.split(" ").map((it) => [it, kind])));
+const KINDS = new Map(Object.entries(ENDINGS).flatMap(([kind, all]) => all.split(" ").map(it => [it, kind])));
 
 export function kindByName(name, kind) {
   if (kind === FOLDER) return "folder";
@@ -155,7 +155,7 @@ export function kindByName(name, kind) {
 }
 
 /** Whether no browser shows what has that name: a click gives it to the user's disk. */
-export const isForDisk = (name) => ["writing", "slides", "archive", "media", "table"].includes(kindByName(name)) &&
+export const isForDisk = name => ["writing", "slides", "archive", "media", "table"].includes(kindByName(name)) &&
   !/\.csv$/i.test(name);
 
 function drawn(tag, how) {

@@ -21,8 +21,8 @@ export function crcOf(bytes) {
 const numbers = (...fields) => Uint8Array.from(fields.flatMap(([size, value]) =>
   Array.from({ length: size }, (_, at) => value / 2 ** (8 * at))));
 
-const timeOf = (now) => (now.getHours() << 11) | (now.getMinutes() << 5) | (now.getSeconds() >> 1);
-const dayOf = (now) => ((now.getFullYear() - 1980) << 9) | ((now.getMonth() + 1) << 5) | now.getDate();
+const timeOf = now => (now.getHours() << 11) | (now.getMinutes() << 5) | (now.getSeconds() >> 1);
+const dayOf = now => ((now.getFullYear() - 1980) << 9) | ((now.getMonth() + 1) << 5) | now.getDate();
 
 export class Zip {
   constructor(now = new Date()) {
@@ -66,7 +66,7 @@ export function save(blob, name) {
 export async function download(app, path, size) {
   const [name, called] = [nameAt(path), shown(nameAt(path))];
   const how = { total: size ?? 0, about: `download ${app.room.name} ${path}` };
-  await transferring(app, t.doTo(t.download, called), how, async (transfer) => {
+  await transferring(app, t.doTo(t.download, called), how, async transfer => {
     const bytes = await readFile(app.room, path, transfer);
     save(new Blob([bytes], { type: "application/octet-stream" }), name);
     return t.downloaded(called, sizeWords(bytes.length), transfer.seconds);
@@ -75,13 +75,13 @@ export async function download(app, path, size) {
 
 /** Gives places below the top: no two are one on any disk. */
 function placesBelow(top) {
-  const [given, used, key] = [new Map([["", top]]), new Set(), (path) => path.normalize("NFC").toLowerCase()];
-  const free = (path) => {
+  const [given, used, key] = [new Map([["", top]]), new Set(), path => path.normalize("NFC").toLowerCase()];
+  const free = path => {
     if (used.has(key(path))) return free(`${path}_`);
     used.add(key(path));
     return path;
   };
-  const placeOf = (names) => once(given, names.join("/"), () =>
+  const placeOf = names => once(given, names.join("/"), () =>
     free(`${placeOf(names.slice(0, -1))}/${forDisk(names.at(-1))}`));
   return placeOf;
 }
@@ -90,9 +90,9 @@ async function downloadZip(app, paths, folder) {
   const { room } = app;
   const name = folder === ROOT ? room.name : nameAt(folder);
   const how = { total: 0, unit: String, about: `zip ${room.name} ${paths[0]}` };
-  await transferring(app, t.doTo(t.downloadZip, shown(name)), how, async (transfer) => {
-    const all = (await Promise.all(paths.map((it) => whole(room, it, transfer)))).flat();
-    const found = all.filter((it) => it.path !== folder || it.isShut).sort((a, b) => (a.path < b.path ? -1 : 1));
+  await transferring(app, t.doTo(t.downloadZip, shown(name)), how, async transfer => {
+    const all = (await Promise.all(paths.map(it => whole(room, it, transfer)))).flat();
+    const found = all.filter(it => it.path !== folder || it.isShut).sort((a, b) => (a.path < b.path ? -1 : 1));
     const [zip, placeOf, quiet] = [new Zip(), placesBelow(forDisk(name)), transfer.quiet()];
     transfer.total = transfer.bar.max = found.length;
     for (const { path, kind, isShut } of found) {
@@ -100,7 +100,7 @@ async function downloadZip(app, paths, folder) {
       transfer.check();
       if (isShut) transfer.fail(t.isShut(shown(path)));
       if (kind === FOLDER) zip.add(`${inside}/`);
-      else await readFile(room, path, quiet).then((bytes) => zip.add(inside, bytes), (fault) => {
+      else await readFile(room, path, quiet).then(bytes => zip.add(inside, bytes), fault => {
         transfer.check();
         transfer.fail(t.notInZip(shown(path), fault.message));
       });

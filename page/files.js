@@ -69,12 +69,12 @@ export class Upload {
     return this.path;
   }
 
-  piecesOf = (names) => names.map((it) => this.at(this.its.folder, it));
+  piecesOf = names => names.map(it => this.at(this.its.folder, it));
 
   shareMade() {
     const { spare, stat, its: { folder, pieces } } = this; // (what was taken is the file's owner's already)
-    return this.share([this.piecesOf(pieces.filter((it) => !spare?.names.has(it))),
-      spare?.owner === stat.owner ? [] : [this.at(folder)]].filter((it) => it.length));
+    return this.share([this.piecesOf(pieces.filter(it => !spare?.names.has(it))),
+      spare?.owner === stat.owner ? [] : [this.at(folder)]].filter(it => it.length));
   }
 
   /** What this user made goes to the file's owner, who may lack rights on it. */
@@ -198,8 +198,8 @@ export class Upload {
 
   async lookAtTaken(names) {
     const { room, transfer, its: { pieces } } = this;
-    const taken = pieces.filter((it) => names.has(it));
-    const over = [...names].filter((it) => !pieces.includes(it));
+    const taken = pieces.filter(it => names.has(it));
+    const over = [...names].filter(it => !pieces.includes(it));
     if (!await areAsNew(room, this.piecesOf(taken), this.stat, transfer, () => this.stands())) return this.writeAnew();
     await clearOver(room, this.piecesOf(over), pieces.length, transfer);
   }

@@ -31,9 +31,9 @@ export const SETS = [["view", VIEW], ["edit", EDIT], ["change", CHANGE], ["all",
   .map(([name, mask]) => ({ name, mask, does: t.sets[name] }));
 
 /** The set that a mask is. (The right to remove its old pieces makes no other one of a large file's.) */
-export const setOf = (mask, kind) => SETS.find((it) => ((it.mask ^ mask) & ~(kind === LARGE ? DELETE_CHILD : 0)) === 0);
+export const setOf = (mask, kind) => SETS.find(it => ((it.mask ^ mask) & ~(kind === LARGE ? DELETE_CHILD : 0)) === 0);
 
-const level = (name) => ({ name, word: t.levels[name][0], tells: t.levels[name][1] });
+const level = name => ({ name, word: t.levels[name][0], tells: t.levels[name][1] });
 const [SOME, NONE, MORE] = ["some", "none", "more"].map(level);
 export const [SHUT_OUT, NOT_KNOWN, SEVERAL] = ["shut", "unknown", "several"].map(level);
 const LEVELS = SETS.map(({ name }) => level(name));
@@ -42,8 +42,8 @@ export const LEGEND = [...LEVELS.toReversed(), WRITES, MORE, SOME, NONE, SHUT_OU
 
 /** The rights of a mask that commands ask for. (To a large file nothing is appended.) */
 export function askedOf(mask, kind) {
-  const isOf = (it) => kind === FOLDER || !it.isOfFolders && !(kind === LARGE && it.bit === APPEND);
-  return RIGHTS.filter((it) => it.isAsked && isOf(it)).reduce((found, { bit }) => found | (mask & bit), 0);
+  const isOf = it => kind === FOLDER || !it.isOfFolders && !(kind === LARGE && it.bit === APPEND);
+  return RIGHTS.filter(it => it.isAsked && isOf(it)).reduce((found, { bit }) => found | (mask & bit), 0);
 }
 
 export function ofLarge(own, inside) {
@@ -61,8 +61,8 @@ export function levelOf(allowed, kind) {
   return has & ~SETS[at].mask ? { ...its, word: `${its.word}+` } : its;
 }
 
-export const rightsIn = (mask, kind) => RIGHTS.filter((it) => mask & it.bit).map((it) => it[kind]);
-export const bothWords = (right) =>
+export const rightsIn = (mask, kind) => RIGHTS.filter(it => mask & it.bit).map(it => it[kind]);
+export const bothWords = right =>
   right[FILE] === right[FOLDER] || right.isOfFolders ? right[FOLDER] : `${right[FOLDER]} / ${right[FILE]}`;
 
 export const MOST_ENTRIES = 32; // of an object's own
@@ -73,7 +73,7 @@ const GROUP_FLAG = 0x40;
 const MARK = 0x80; // of what is handed down
 const [AUTO_INHERIT, PROTECTED] = [1, 2];
 
-export const isNamed = (id) => ["user", "group"].includes(id);
+export const isNamed = id => ["user", "group"].includes(id);
 
 /** A flag that `isTurned` stands for no. */
 export const REACH = [NOT_HERE, TO_FILES, TO_FOLDERS, CHILDREN_ALONE].map((flag, at) =>
@@ -81,9 +81,9 @@ export const REACH = [NOT_HERE, TO_FILES, TO_FOLDERS, CHILDREN_ALONE].map((flag,
 
 export const isAlike = (one, other) => JSON.stringify(one) === JSON.stringify(other);
 export const isInherited = ({ flag }) => (flag & MARK) !== 0;
-export const asOwn = (entry) => ({ ...entry, flag: entry.flag & ~MARK });
+export const asOwn = entry => ({ ...entry, flag: entry.flag & ~MARK });
 export const isDeny = ({ type }) => type === DENY;
-export const newEntry = (kind) => ({ type: 0, flag: kind === FILE ? 0 : BOTH, mask: VIEW, who: "" });
+export const newEntry = kind => ({ type: 0, flag: kind === FILE ? 0 : BOTH, mask: VIEW, who: "" });
 
 export const whomOf = ({ who, flag }) => (who === "" || who.endsWith("@") ? { id: who, name: "" } :
   { id: flag & GROUP_FLAG ? "group" : "user", name: who });
@@ -91,8 +91,8 @@ export const whomOf = ({ who, flag }) => (who === "" || who.endsWith("@") ? { id
 export const withWhom = (entry, { id, name }) => ({ ...entry, who: isNamed(id) ? name : id,
   flag: (entry.flag & ~GROUP_FLAG) | (id === "group" ? GROUP_FLAG : 0) });
 
-export const byWhom = (entries) =>
-  [...Map.groupBy(entries, (it) => JSON.stringify(whomOf(it))).values()].map((its) => [whomOf(its[0]), its]);
+export const byWhom = entries =>
+  [...Map.groupBy(entries, it => JSON.stringify(whomOf(it))).values()].map(its => [whomOf(its[0]), its]);
 
 export function whomFault(entry, roster) {
   if (entry.who === "") return t.noWhom;
@@ -103,7 +103,7 @@ export function whomFault(entry, roster) {
   return known.includes(name) ? "" : t.notInRoster(name, isUser);
 }
 
-export const forDocument = (entry) => ({ ...entry, flag: entry.flag & GROUP_FLAG });
+export const forDocument = entry => ({ ...entry, flag: entry.flag & GROUP_FLAG });
 
 // What a folder has to allow, or to deny, beside a document's right.
 const BESIDE = [{ 0x1: 0x20, 0x2: 0x66 }, { 0x1: 0x20, 0x2: 0x46, 0x4: 0x46 }];
@@ -118,10 +118,10 @@ export function carried(entry) {
 
 export const isPrivate = ({ aclflag, entries }, user) => !follows(aclflag) &&
   entries.every(({ who, flag }) => who === "OWNER@" || (who === user && !(flag & GROUP_FLAG)));
-export const ownOf = ({ entries }) => entries.filter((it) => !isInherited(it));
+export const ownOf = ({ entries }) => entries.filter(it => !isInherited(it));
 
 /** Whether all whom a folder's list lets pass may read a new document in it; no where entry by entry does not tell. */
-export const passersRead = ({ entries }) => entries.every((it) => {
+export const passersRead = ({ entries }) => entries.every(it => {
   const mayPass = !(it.flag & NOT_HERE) && (it.mask & PASS_THROUGH);
   const isOnFiles = it.flag & TO_FILES && it.mask & READ;
   return isDeny(it) ? !isOnFiles || mayPass : !mayPass || isOnFiles;
@@ -129,16 +129,16 @@ export const passersRead = ({ entries }) => entries.every((it) => {
 
 /** The list without what is handed down; null where that is all of it. */
 export function ownList({ aclflag, entries }) {
-  const own = entries.filter((it) => !isInherited(it) || !follows(aclflag));
+  const own = entries.filter(it => !isInherited(it) || !follows(aclflag));
   return own.length || aclflag !== AUTO_INHERIT ? { aclflag, entries: own } : null;
 }
 
-export const follows = (aclflag) => (aclflag & (AUTO_INHERIT | PROTECTED)) === AUTO_INHERIT;
+export const follows = aclflag => (aclflag & (AUTO_INHERIT | PROTECTED)) === AUTO_INHERIT;
 export const withFollows = (aclflag, isWanted) => (follows(aclflag) === isWanted ? aclflag :
   aclflag & ~(AUTO_INHERIT | PROTECTED) | (isWanted ? AUTO_INHERIT : PROTECTED));
 
 export const whomText = ({ id, name }, whose) =>
-  [t.whom[id], id === "user" ? personText(name) : name, whose && `(${whose})`].filter((it) => it).join(" ");
+  [t.whom[id], id === "user" ? personText(name) : name, whose && `(${whose})`].filter(it => it).join(" ");
 
 export const whomWords = (whom, { owner, group }) => whomText(whom, { "OWNER@": owner, "GROUP@": group }[whom.id]);
 
@@ -149,7 +149,7 @@ function rightsWords({ mask, flag }, kind) {
   if (kind === LARGE) return joined(rightsIn(mask, LARGE));
   const isForFiles = kind === FILE || flag & NOT_HERE && (flag & BOTH) === TO_FILES;
   const isForBoth = !isForFiles && kind === FOLDER && flag & TO_FILES;
-  return joined(isForBoth ? RIGHTS.filter((it) => mask & it.bit).map(bothWords) :
+  return joined(isForBoth ? RIGHTS.filter(it => mask & it.bit).map(bothWords) :
     rightsIn(mask, isForFiles ? FILE : FOLDER));
 }
 
@@ -192,21 +192,21 @@ export function deciding(object, user, groups, { rights, allowed }) {
 const OF_FOLDERS = { view: [[VIEW, BOTH]], edit: [[EDIT, BOTH]],
   work: [[CHANGE & ~DELETE, 0], [CHANGE, BOTH | NOT_HERE]], all: [[ALL, BOTH]] };
 const OF_FILES = { view: [[VIEW, 0]], write: [[EDIT, 0]], change: [[CHANGE, 0]], all: [[ALL, 0]] };
-export const presetsOf = (kind) => (kind === FOLDER ? OF_FOLDERS : OF_FILES);
+export const presetsOf = kind => (kind === FOLDER ? OF_FOLDERS : OF_FILES);
 
 export const entriesOf = (name, whom, kind) => presetsOf(kind)[name].map(([mask, flag]) => {
   const it = withWhom({ type: 0, flag, mask, who: "" }, whom);
   return kind === LARGE ? carried(it) : it;
 });
 
-const plain = (entries) => entries.map(({ type, flag, mask, who }) => [type, flag, mask, who]);
+const plain = entries => entries.map(({ type, flag, mask, who }) => [type, flag, mask, who]);
 
 /** Who has own entries that are a preset, by its `name`; `others` have others. */
 export function sharesOf(own, kind) {
   const shares = byWhom(own).map(([whom, entries]) => ({ whom, entries,
-    name: Object.keys(presetsOf(kind)).find((it) => isAlike(plain(entriesOf(it, whom, kind)), plain(entries))) }));
-  return { shares: shares.filter((it) => it.name), others: shares.filter((it) => !it.name) };
+    name: Object.keys(presetsOf(kind)).find(it => isAlike(plain(entriesOf(it, whom, kind)), plain(entries))) }));
+  return { shares: shares.filter(it => it.name), others: shares.filter(it => !it.name) };
 }
 
-export const givenHere = (entries) =>
-  entries.filter((it) => !isDeny(it) && !(it.flag & NOT_HERE)).reduce((mask, it) => mask | it.mask, 0);
+export const givenHere = entries =>
+  entries.filter(it => !isDeny(it) && !(it.flag & NOT_HERE)).reduce((mask, it) => mask | it.mask, 0);

@@ -3,7 +3,7 @@
  * The front lets `logged-out` in at /log-out alone, so who took that up is nobody anywhere else. */
 
 function askAs(path, user, word) {
-  return new Promise((tell) => {
+  return new Promise(tell => {
     const request = new XMLHttpRequest();
     request.open("GET", new URL(path, location.origin), true, user, word);
     request.onloadend = () => tell(request.status);
@@ -21,7 +21,7 @@ export function tellLogin() {
   }
 }
 
-export const onLogin = (does) => addEventListener("storage", ({ key }) => key === TOLD && does());
+export const onLogin = does => addEventListener("storage", ({ key }) => key === TOLD && does());
 
 /** Whether the browser forgot the login that it had. */
 export const logOut = async () => await askAs("/log-out", "logged-out", `${Math.random()}`) === 204;

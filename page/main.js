@@ -23,7 +23,7 @@ class App {
   openRoom(name) {
     const base = `/rooms/${name}`;
     return once(this.opened, name, () => sessionOfTab(base, name, busy, this.user, tellLeft)
-      .then((it) => new Room(name, base, it, busy, this.user)));
+      .then(it => new Room(name, base, it, busy, this.user)));
   }
 
   /** Gives what the task gives, true for nothing, or null where its fault was told. Nothing can be pressed then. */
@@ -68,7 +68,7 @@ class App {
 
   async ended() {
     await untilClosed();
-    while (isMenuOpen()) await new Promise((goOn) => setTimeout(goOn, 100));
+    while (isMenuOpen()) await new Promise(goOn => setTimeout(goOn, 100));
     await this.shown;
     if (this.place.view === "open") await this.show(standing());
   }
@@ -145,7 +145,7 @@ function tellLeft(command, reply, fault) {
 
 const mayLose = () => ask({ title: t.leave, words: t.unsaved, does: t.discard, stays: t.typeOn, isFinal: true });
 
-const fail = (words) => part("main").replaceChildren(faultLine(words));
+const fail = words => part("main").replaceChildren(faultLine(words));
 
 async function leaveAll() {
   if (isUnsaved() && !await mayLose()) return;
@@ -160,7 +160,7 @@ async function leaveAll() {
 
 function userMenu(user) {
   const [its, label] = [part("user"), t.you(user)];
-  const speak = (it) => {
+  const speak = it => {
     choose(it);
     location.reload();
   };
@@ -241,4 +241,4 @@ async function start() {
   return app.show();
 }
 
-start().catch((fault) => fail(t.reload(fault.message)));
+start().catch(fault => fail(t.reload(fault.message)));

@@ -9,19 +9,19 @@ const MOST = 2 ** 24; // bytes of a file
 const MOST_PIECES = 256;
 export const DEEPEST = 14; // names of the path of a large file
 
-export const sizeFault = (bytes) =>
+export const sizeFault = bytes =>
   (bytes > MOST ? t.tooLarge(Math.ceil(bytes / 2 ** 20 * 10) / 10, MOST / 2 ** 20) : "");
 
-export const sumOf = async (bytes) => hexOf(new Uint8Array(await crypto.subtle.digest("SHA-256", bytes)));
-export const otherName = (kind) => kind + randomHex(8);
+export const sumOf = async bytes => hexOf(new Uint8Array(await crypto.subtle.digest("SHA-256", bytes)));
+export const otherName = kind => kind + randomHex(8);
 
-export const isLeft = (name) => name.startsWith(WRITING);
+export const isLeft = name => name.startsWith(WRITING);
 
 export const FIRST = "000"; // of a version's pieces
 export const isOurPiece = ([name, kind]) => kind !== "folder" && /^[0-9]{3}$/.test(name); // as they are made here
 export const isSpare = ([name, kind]) => kind === "folder" && /^\.room-gone-[0-9a-f]{16}$/.test(name);
 
-export const isPart = (name) => /^\.room-(file|(writing|pieces|gone|new)-[0-9a-f]{16})$/.test(name);
+export const isPart = name => /^\.room-(file|(writing|pieces|gone|new)-[0-9a-f]{16})$/.test(name);
 
 export async function manifestOf(bytes) {
   const count = Math.max(Math.ceil(bytes.length / PIECE), 1);
@@ -36,11 +36,11 @@ const MOST_TEXT = 20_000; // bytes of a manifest; the longest has some 17,000
 const isText = (it, form) => typeof it === "string" && form.test(it);
 const PIECE_NAME = /^(?!\.{1,2}$)[A-Za-z0-9._-]{1,64}$/;
 const MEMBERS = {
-  folder: (it) => isText(it, /^\.room-pieces-[0-9a-f]{16}$/),
-  form: (it) => it === 1,
-  pieces: (it) => Array.isArray(it) && it.length <= MOST_PIECES && it.every((name) => isText(name, PIECE_NAME)) &&
+  folder: it => isText(it, /^\.room-pieces-[0-9a-f]{16}$/),
+  form: it => it === 1,
+  pieces: it => Array.isArray(it) && it.length <= MOST_PIECES && it.every(name => isText(name, PIECE_NAME)) &&
     new Set(it).size === it.length,
-  sha256: (it) => isText(it, /^[0-9a-f]{64}$/),
+  sha256: it => isText(it, /^[0-9a-f]{64}$/),
   size: (it, { length }) => Number.isInteger(it) && it >= PIECE * (length - 1) && it <= PIECE * length,
 };
 
@@ -59,12 +59,12 @@ export function readManifest(bytes) {
 }
 
 const PART_NAME = /^\.room-(writing|pieces|gone)-[0-9a-f]{16}$/;
-const areParts = (names) => names.every(([name, kind]) => kind === "folder" && PART_NAME.test(name));
+const areParts = names => names.every(([name, kind]) => kind === "folder" && PART_NAME.test(name));
 
-export const isUnfinished = (names) => names.length > 0 && areParts(names);
+export const isUnfinished = names => names.length > 0 && areParts(names);
 
 /** (A manifest that somebody puts into another folder hides nothing there.) */
-export const isLarge = (names) => names.some(([name, kind]) => name === MANIFEST && kind !== "folder") &&
+export const isLarge = names => names.some(([name, kind]) => name === MANIFEST && kind !== "folder") &&
   areParts(names.filter(([name]) => name !== MANIFEST));
 
 export async function beside(name) {

@@ -27,13 +27,13 @@ class Cells {
     const how = { rights: askedOf(ALL, kind), allowed: await this.questions.allowed(path, user, groups) };
     const places = object && groups && deciding(object, user, groups, how);
     if (!places) return "";
-    const entries = places.map((at) => `${at + 1}. ${ruling(object.entries[at], kind, object)}`).join(" ");
+    const entries = places.map(at => `${at + 1}. ${ruling(object.entries[at], kind, object)}`).join(" ");
     const why = entries ? t.whyEntries(entries) : t.noEntry(personText(user));
     return why + (user === object.owner ? t.ownersAlways : "");
   }
 
   async told(object, user, groups, { allowed, barrier, isPassKnown }) {
-    const [name, above] = [object.path, barrier ?? ""].map((it) => shown(calledIn(this.room, it)));
+    const [name, above] = [object.path, barrier ?? ""].map(it => shown(calledIn(this.room, it)));
     const who = personText(user);
     if (allowed === null && !barrier) return t.mayUnknown(who, name, NOT_KNOWN.tells);
     const rights = rightsIn(askedOf(allowed, object.kind), object.kind);
@@ -58,9 +58,9 @@ class Cells {
       ({ user, level: (await this.levelAt(object, user, groups)).level })));
     const found = [...Map.groupBy(all, ({ level }) => level.word).values()].sort((a, b) => b.length - a.length);
     const both = found.slice(0, 2).map(([it]) => it.level.word).join(" / ") + (found.length > 2 ? " …" : "");
-    const some = (its) =>
+    const some = its =>
       [...its.slice(0, MOST_TOLD).map(({ user }) => personText(user)), ...its.length > MOST_TOLD ? ["…"] : []];
-    const words = found.map((its) => t.about(its[0].level.word, `${its.length} (${some(its).join(", ")}).`)).join(" ");
+    const words = found.map(its => t.about(its[0].level.word, `${its.length} (${some(its).join(", ")}).`)).join(" ");
     const level = found.length === 1 ? found[0][0].level : SEVERAL;
     return this.cell(level, both, words, t.about(shown(object.path), words));
   }
@@ -74,9 +74,9 @@ class Cells {
   }
 
   async table(objects, columns, open) {
-    const named = Map.groupBy(columns, (it) => it.isGroup || displayName(it.title));
-    const called = (user) => (named.get(displayName(user)).length > 1 ? personText(user) : displayName(user) || user);
-    const titles = columns.map((it) => make("th", { scope: "col", title: it.isGroup ? "" : personText(it.title) },
+    const named = Map.groupBy(columns, it => it.isGroup || displayName(it.title));
+    const called = user => (named.get(displayName(user)).length > 1 ? personText(user) : displayName(user) || user);
+    const titles = columns.map(it => make("th", { scope: "col", title: it.isGroup ? "" : personText(it.title) },
       it.isGroup ? button([nameText(it.title), ` (${it.users.length})`], () => open(it),
         { ariaExpanded: String(it.isOpen) }) : nameText(called(it.title))));
     const rows = [];
@@ -95,7 +95,7 @@ async function usersOf(app, questions, objects) {
     for (const it of entries) if (whomOf(it).id === "user") seen.add(it.who);
     seen.add(owner);
   }
-  return [...seen].map((user) => [user, null]);
+  return [...seen].map(user => [user, null]);
 }
 
 async function objectsOf({ room }, path) {
@@ -106,7 +106,7 @@ async function objectsOf({ room }, path) {
 }
 
 function groupsOf(users) {
-  const all = users.flatMap((it) => (it[1]?.length ? it[1] : [""]).map((group) => ({ group, it })));
+  const all = users.flatMap(it => (it[1]?.length ? it[1] : [""]).map(group => ({ group, it })));
   return [...Map.groupBy(all, ({ group }) => group)].map(([group, its]) =>
     ({ title: group || t.noGroup, isGroup: true, isLast: group === "", users: its.map(({ it }) => it) }))
     .sort((a, b) => a.isLast - b.isLast || inOrder(a.title, b.title));
@@ -121,14 +121,14 @@ class MatrixView {
   }
 
   columns() {
-    const has = (name) => name.toLowerCase().includes(this.word.toLowerCase());
-    const members = (users) => users.slice(0, MOST_USERS).map((it) => ({ title: it[0], users: [it] }));
+    const has = name => name.toLowerCase().includes(this.word.toLowerCase());
+    const members = users => users.slice(0, MOST_USERS).map(it => ({ title: it[0], users: [it] }));
     if (!this.groups.length) return members(this.users);
     const users = this.word ? this.users.filter(([user]) => has(personText(user))) : [];
     const groups = this.groups.filter(({ title }) => has(title)).slice(0, MOST_GROUPS);
     this.told = this.word ? t.narrow(t.shownOf(Math.min(users.length, MOST_USERS)), users.length, groups.length) :
       t.narrow("", this.users.length, this.groups.length);
-    return [...groups.flatMap((it) => {
+    return [...groups.flatMap(it => {
       const isOpen = this.opened.has(it.title);
       return [{ ...it, isOpen }, ...isOpen ? members(it.users) : []];
     }), ...members(users)];

@@ -8,27 +8,27 @@ import { FolderTree } from "./tree.js";
 
 async function copy(room, from, to, transfer) {
   const found = await whole(room, from, transfer);
-  const at = (path) => inFolder(to, ...namesOf(path).slice(namesOf(from).length));
+  const at = path => inFolder(to, ...namesOf(path).slice(namesOf(from).length));
   const depth = ({ path }) => namesOf(at(path)).length;
   if (Math.max(...found.map(depth)) > MAX_NAMES) throw new Error(t.refusals[TOO_DEEP]);
-  const folders = found.filter((it) => it.kind === FOLDER).sort((a, b) => depth(a) - depth(b));
+  const folders = found.filter(it => it.kind === FOLDER).sort((a, b) => depth(a) - depth(b));
   for (const { path } of folders) await room.step("MKDIR", at(path));
-  const files = found.filter((it) => it.kind === FILE);
+  const files = found.filter(it => it.kind === FILE);
   const quiet = transfer.quiet();
   transfer.total = transfer.bar.max = files.length;
   await forEach(files, async ({ path }) => {
     await writeFile(room, at(path), await readFile(room, path, quiet), quiet, true);
     transfer.add(1);
   }, 3);
-  for (const { path } of found.filter((it) => it.isShut)) transfer.fail(t.isShut(shown(path)));
+  for (const { path } of found.filter(it => it.isShut)) transfer.fail(t.isShut(shown(path)));
 }
 
 export const named = (paths, call = calledAt) => (paths.length === 1 ? call(paths[0]) : t.allThings(paths.length));
-const shortNamed = (paths) => named(paths, (it) => shown(nameAt(it)));
+const shortNamed = paths => named(paths, it => shown(nameAt(it)));
 
 async function withEach(does, paths, task) {
   const [done, faults] = [[], []];
-  await forEach(paths, async (path) => {
+  await forEach(paths, async path => {
     try {
       await task(path);
       done.push(path);
@@ -45,7 +45,7 @@ async function withEach(does, paths, task) {
 async function askWhere(app, paths, { words, does, start = folderOf(paths[0]), called = nameAt(paths[0]) }, task) {
   const [tree, name] = [new FolderTree(app, paths, start), nameInput(called)];
   const isOne = paths.length === 1;
-  const goals = () => paths.map((it) => inFolder(tree.value, isOne ? clean(name.value) : lastName(it)));
+  const goals = () => paths.map(it => inFolder(tree.value, isOne ? clean(name.value) : lastName(it)));
   const faultOf = () => (goals().includes(paths[0]) ? t.isHere : "");
   const isDone = await ask({ title: t.doTo(does, shortNamed(paths)), does, words: [words, tree.element],
     fields: isOne ? [[t.heads.name, name]] : [], faultOf, task: () => task(goals()) });
@@ -57,8 +57,8 @@ export function wayBack(app, places) {
   follow(app, places);
   return async () => {
     const paths = [...places.keys()];
-    await withEach(t.undo, paths, (it) => app.room.aside("RENAME", places.get(it), { to: it }));
-    follow(app, new Map(paths.map((it) => [places.get(it), it])));
+    await withEach(t.undo, paths, it => app.room.aside("RENAME", places.get(it), { to: it }));
+    follow(app, new Map(paths.map(it => [places.get(it), it])));
     await app.done(t.isBack(named(paths), paths.length), only(paths, { from: places.get(paths[0]), to: paths[0] }));
   };
 }
@@ -67,26 +67,26 @@ const only = (paths, its) => (paths.length === 1 ? its : null);
 
 async function moveTo(app, paths, goals) {
   const to = new Map(paths.map((it, at) => [it, goals[at]]));
-  const done = await withEach(t.move, paths, (it) => app.room.aside("RENAME", it, { to: to.get(it) }));
+  const done = await withEach(t.move, paths, it => app.room.aside("RENAME", it, { to: to.get(it) }));
   if (!done.length) return () => app.done("");
   const where = only(done, to.get(done[0])) ?? folderOf(goals[0]);
-  const undo = wayBack(app, new Map(done.map((it) => [it, to.get(it)])));
+  const undo = wayBack(app, new Map(done.map(it => [it, to.get(it)])));
   const moved = only(done, { from: done[0], to: where });
   const seers = new Seers(app);
-  const seen = await Promise.all(done.map((it) => seers.of({ path: to.get(it) })));
-  const who = new Set(seen.map((it) => (it ? ` ${t.about(t.heads.who, it.words)}.` : "")));
+  const seen = await Promise.all(done.map(it => seers.of({ path: to.get(it) })));
+  const who = new Set(seen.map(it => (it ? ` ${t.about(t.heads.who, it.words)}.` : "")));
   return () => app.done(t.isNow(named(done), shown(where), done.length) + [...who].join(""), moved, undo);
 }
 
 export async function move(app, paths) {
   let tell = null;
   await askWhere(app, paths, { words: t.moveWords, does: t.move },
-    async (to) => { tell = await moveTo(app, paths, to); });
+    async to => { tell = await moveTo(app, paths, to); });
   await tell?.();
 }
 
 export async function moveInto(app, paths, folder) {
-  const goals = paths.map((it) => inFolder(folder, nameAt(it)));
+  const goals = paths.map(it => inFolder(folder, nameAt(it)));
   const tell = await app.attempt(t.doTo(t.move, named(paths)), () => moveTo(app, paths, goals));
   await tell?.();
 }
@@ -97,20 +97,20 @@ async function needPlaces(room, paths, goals) {
     const [bit, above] = [(await room.standing(path)).kind === FILE ? ADD_FILE : ADD_FOLDER, folderOf(goals[at])];
     const { allowed } = await room.aside("ACCESS", above, { mask: bit });
     if (!allowed) throw await room.refusal({ code: ACCESS, bit, path: above });
-    const isThere = await room.aside("STAT", goals[at]).then(() => true, (fault) => !isRefused(fault, NOENT));
+    const isThere = await room.aside("STAT", goals[at]).then(() => true, fault => !isRefused(fault, NOENT));
     if (isThere) throw new Error(t.refusals[EXIST]);
   }
 }
 
 export async function copyTo(app, paths) {
   const how = { words: `${t.yoursThen} ${t.copyWords}`, does: t.copy };
-  const goals = await askWhere(app, paths, how, (to) => needPlaces(app.room, paths, to));
+  const goals = await askWhere(app, paths, how, to => needPlaces(app.room, paths, to));
   if (goals) await copyAll(app, paths, goals);
 }
 
 export async function copyInto(app, paths, folder) {
   const goals = await app.attempt(t.doTo(t.copy, named(paths)), async () => {
-    const free = await freePaths(app.room, paths.map((it) => inFolder(folder, nameAt(it))));
+    const free = await freePaths(app.room, paths.map(it => inFolder(folder, nameAt(it))));
     await needPlaces(app.room, paths, free);
     return free;
   });
@@ -120,18 +120,18 @@ export async function copyInto(app, paths, folder) {
 async function copyAll(app, paths, goals) {
   const { room } = app;
   const how = { total: 1, unit: String, about: `copy ${room.name} ${paths[0]}` };
-  await transferring(app, t.doTo(t.copy, shortNamed(paths)), how, async (transfer) => {
+  await transferring(app, t.doTo(t.copy, shortNamed(paths)), how, async transfer => {
     for (const [at, it] of paths.entries()) await copy(room, it, goals[at], transfer);
     return t.isCopied(named(paths), shown(only(paths, goals[0]) ?? folderOf(goals[0])), paths.length);
   });
 }
 
 async function contentsWords({ room }, paths) {
-  const all = await Promise.all(paths.map((it) => whole(room, it, NOBODY)));
-  const found = all.flat().filter((it) => !paths.includes(it.path));
+  const all = await Promise.all(paths.map(it => whole(room, it, NOBODY)));
+  const found = all.flat().filter(it => !paths.includes(it.path));
   if (!found.length) return [];
-  const folders = found.filter((it) => it.kind === FOLDER).length;
-  const [files, shut] = [found.length - folders, found.filter((it) => it.isShut).length];
+  const folders = found.filter(it => it.kind === FOLDER).length;
+  const [files, shut] = [found.length - folders, found.filter(it => it.isShut).length];
   const counts = offered([[files, t.documents(files)], [folders, t.folders(folders)]]);
   return faultLine(t.goesWith(counts, found.length), shut > 0 && t.shutIn(t.folders(shut)));
 }
@@ -142,9 +142,9 @@ export async function remove(app, paths, does = t.doTo(t.remove, shortNamed(path
   const asked = await app.attempt(does, async () => {
     const { path: trash, fault } = isInTrash(paths[0]) ? { fault: "" } : await trashOf(app);
     if (trash) {
-      const toIt = async (it) => places.set(it, await toTrash(app.room, it, trash));
+      const toIt = async it => places.set(it, await toTrash(app.room, it, trash));
       const gone = await withEach(t.remove, paths, toIt);
-      noteGone(app, [...places].map((it) => it.toReversed()));
+      noteGone(app, [...places].map(it => it.toReversed()));
       return { gone };
     }
     const why = fault === "" ? "" : ` ${t.askTrash(fault ?? t.noTrash)}`;
@@ -152,7 +152,7 @@ export async function remove(app, paths, does = t.doTo(t.remove, shortNamed(path
   });
   if (!asked) return;
   let { words, gone } = asked;
-  const task = async () => { gone = await withEach(t.remove, paths, (it) => removeAll(app.room, it)); };
+  const task = async () => { gone = await withEach(t.remove, paths, it => removeAll(app.room, it)); };
   const how = { title: does, does: inside === paths ? t.remove : does, isFinal: true, words, task };
   if (words && !await ask(how)) return;
   await app.done(gone.length ? (words ? t.isRemoved : t.isInTrash)(named(gone), gone.length) : "",
@@ -167,7 +167,7 @@ export async function emptyTrash(app, path) {
 
 async function whyNotBack(room, path, place) {
   if (!place) return t.noPlace;
-  const fault = await orFault(room.run("RENAME", path, { to: place }), (it) => isRefused(it, EXIST, NOENT, NOTDIR));
+  const fault = await orFault(room.run("RENAME", path, { to: place }), it => isRefused(it, EXIST, NOENT, NOTDIR));
   if (!(fault instanceof Refusal)) return "";
   return fault.code === EXIST ? t.placeTaken(shown(place)) : t.placeGone(shown(folderOf(place)));
 }
@@ -189,7 +189,7 @@ export async function putBack(app, path) {
 
 export async function putAllBack(app, paths) {
   if (paths.length === 1) return putBack(app, paths[0]);
-  const done = await app.attempt(t.putBack, () => withEach(t.putBack, paths, async (path) => {
+  const done = await app.attempt(t.putBack, () => withEach(t.putBack, paths, async path => {
     const why = await whyNotBack(app.room, path, toldBy(path)?.place ?? wasAt(app, path));
     if (why) throw new Error(why);
   }));

@@ -9,7 +9,7 @@ const PARTS = new RegExp(
   "(?:\\u200d\\p{Extended_Pictographic}(?:\\ufe0f|\\p{Emoji_Modifier})?)*)" +
   "|([\\p{C}\\p{Zl}\\p{Zp}\\p{Default_Ignorable_Code_Point}\\u2800]|(?! )\\p{Zs}|^ | (?= *$)|(?<= ) )|[^]", "gu");
 
-const markOf = (letter) =>
+const markOf = letter =>
   letter === " " ? `⟨${t.blank}⟩` : `⟨U+${letter.codePointAt(0).toString(16).toUpperCase().padStart(4, "0")}⟩`;
 
 export function partsOf(name) {
@@ -18,42 +18,42 @@ export function partsOf(name) {
   return name === name.normalize("NFC") ? parts : [...parts, { text: `⟨${t.notComposed}⟩`, isMark: true }];
 }
 
-export const shown = (name) => partsOf(name).map((it) => it.text).join("");
+export const shown = name => partsOf(name).map(it => it.text).join("");
 
 /** What is in no name of some system: letters, an empty one, . and .., a . at the end, devices of Windows. */
 const NO_NAME = /[\\:*?"<>|]|^\.{0,2}$|\.$|(?<=^(?:con|prn|aux|nul|com[0-9]|lpt[0-9]))(?=\.|$)/gi;
 
-export const forDisk = (name) => partsOf(name).map((it) => (it.isMark ? "_" : it.text)).join("").replace(NO_NAME, "_");
+export const forDisk = name => partsOf(name).map(it => (it.isMark ? "_" : it.text)).join("").replace(NO_NAME, "_");
 
 /** As it is sent: one way to write each letter, and no blanks at the ends. */
-export const clean = (name) => name.normalize("NFC").trim();
+export const clean = name => name.normalize("NFC").trim();
 const { compare } = new Intl.Collator(language, { numeric: true });
 export const inOrder = (one, other) => compare(one, other) || (one < other ? -1 : 1);
 export const byName = ([one], [other]) => inOrder(one, other);
 let people = {}; // their names as people write them, by login
 
 export const learnNames = async () => { people = await toldAt("/names.json", {}); };
-export const displayName = (user) => (Object.hasOwn(people, user) ? people[user] : "");
+export const displayName = user => (Object.hasOwn(people, user) ? people[user] : "");
 
 export function usersBy(text, users) {
   if (users.includes(text)) return [text];
-  const isIt = (one) => one.toLowerCase() === text.toLowerCase();
-  return users.filter((it) => [it, displayName(it), personText(it)].some(isIt));
+  const isIt = one => one.toLowerCase() === text.toLowerCase();
+  return users.filter(it => [it, displayName(it), personText(it)].some(isIt));
 }
 
-export const personText = (user) => (displayName(user) ? `${displayName(user)} (${user})` : user);
+export const personText = user => (displayName(user) ? `${displayName(user)} (${user})` : user);
 
-export const ownedWords = (stat) => (stat?.owner ? t.owned(personText(stat.owner), stat.group) : "");
+export const ownedWords = stat => (stat?.owner ? t.owned(personText(stat.owner), stat.group) : "");
 
 const MAX_NAME_BYTES = 64;
 export const MAX_NAMES = 16;
 export const MOST_THINGS = 256; // in a folder
 export const ROOT = "/";
-export const namesOf = (path) => path.split("/").filter(Boolean);
-export const pathOf = (names) => `/${names.join("/")}`;
+export const namesOf = path => path.split("/").filter(Boolean);
+export const pathOf = names => `/${names.join("/")}`;
 export const inFolder = (folder, ...names) => pathOf([...namesOf(folder), ...names]);
-export const folderOf = (path) => pathOf(namesOf(path).slice(0, -1));
-export const lastName = (path) => namesOf(path).at(-1) ?? ROOT;
+export const folderOf = path => pathOf(namesOf(path).slice(0, -1));
+export const lastName = path => namesOf(path).at(-1) ?? ROOT;
 
 export const calledIn = (room, path) => (path === ROOT ? room ?? path : path);
 export const nameIn = (room, path) => (path === ROOT ? room : lastName(path));
@@ -64,7 +64,7 @@ export function foldersAbove(path) {
   return names.map((_, count) => pathOf(names.slice(0, count)));
 }
 
-export const isTooLong = (name) => fromText(name).length > MAX_NAME_BYTES;
+export const isTooLong = name => fromText(name).length > MAX_NAME_BYTES;
 
 export function nameFault(name) {
   if (name === "" || name === "." || name === "..") return t.nameWanted;

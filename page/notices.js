@@ -23,7 +23,7 @@ function goLater(it) {
   setTimeout(() => (it.matches(":hover, :focus-within") ? goLater(it) : it.remove()), WHILE);
 }
 
-export const pass = () => section.querySelectorAll(".good").forEach((it) => it.remove());
+export const pass = () => section.querySelectorAll(".good").forEach(it => it.remove());
 
 export function say(words, undo = null) {
   pass();
@@ -58,7 +58,7 @@ export function tellFault(words, about = words) {
   put("div.fault", { "data-about": about }, words);
 }
 
-export const tellIt = (fault) => tellFault(fault.message);
+export const tellIt = fault => tellFault(fault.message);
 
 // What the owner of a room alone is warned of; and who tries a build that is not proved.
 
@@ -67,10 +67,10 @@ const closed = () => JSON.parse(localStorage.getItem(KEPT) ?? "{}");
 const today = () => new Date().toDateString();
 const asked = new Map(); // by the day on which it was asked
 
-const inDays = (words) => (days) => Number.isInteger(days) && words(days < 1 ? t.lessThanADay : t.someDays(days));
+const inDays = words => days => Number.isInteger(days) && words(days < 1 ? t.lessThanADay : t.someDays(days));
 const WORDS = { numbers_days: inDays(t.numbersEnd), memory_days: inDays(t.memoryEnds), disk_days: inDays(t.diskEnds),
-  unproved: (is) => is === true && t.isUnproved,
-  held: (users) => Array.isArray(users) && users.length > 0 && t.areHeld(users.map(String)) };
+  unproved: is => is === true && t.isUnproved,
+  held: users => Array.isArray(users) && users.length > 0 && t.areHeld(users.map(String)) };
 
 function line(words, key) {
   const it = make("p.fault", words, " ", button(t.untilTomorrow, () => {
@@ -85,5 +85,5 @@ export async function warn(user, room) {
   const its = (await once(asked, day, () => toldAt("/warnings.json", {})))[room] ?? {};
   const lines = Object.entries(WORDS).map(([kind, wordsOf]) => [wordsOf(its[kind]), `${user} ${room} ${kind}`])
     .filter(([words, key]) => words && closed()[key] !== day);
-  part("warned").replaceChildren(...lines.map((it) => line(...it)));
+  part("warned").replaceChildren(...lines.map(it => line(...it)));
 }

@@ -8,12 +8,12 @@ import { manifestFollows } from "./reading.js";
 const MOST = 2; // of a room at once: each holds the bytes of its file, and one of four slots
 const MOST_KEPT = 50; // bytes of a name that a mark follows
 const all = new WeakMap(); // by the session, what goes on, by its path
-const goingOn = (room) => once(all, room.session, () => new Map());
+const goingOn = room => once(all, room.session, () => new Map());
 let count = 0;
 
 class Ended extends Error {}
 
-const tally = (more) => {
+const tally = more => {
   count += more;
   part("main").dataset.behind = count; // (for tests)
 };
@@ -26,7 +26,7 @@ export function goOnBehind(room, path, transfer, task) {
   };
   tally(1);
   Object.assign(transfer, { check });
-  it.done = task().catch((fault) => {
+  it.done = task().catch(fault => {
     if (!(fault instanceof Ended || fault instanceof GaveUp)) transfer.fail(fault.message);
   }).then(() => {
     goingOn(room).delete(path);
@@ -39,11 +39,11 @@ export function goOnBehind(room, path, transfer, task) {
 export async function takeOver(room, path) {
   const its = [...goingOn(room)].filter(([at]) => isWithin(at, path)).map(([, it]) => it);
   for (const it of its) it.isOver = true;
-  await Promise.all(its.map((it) => it.done));
+  await Promise.all(its.map(it => it.done));
 }
 
 export async function takeTurn(room) {
-  while (goingOn(room).size >= MOST) await Promise.race([...goingOn(room).values()].map((it) => it.done));
+  while (goingOn(room).size >= MOST) await Promise.race([...goingOn(room).values()].map(it => it.done));
 }
 
 const isFolder = async (room, path) => (await room.aside("STAT", path)).kind === FOLDER;
@@ -62,9 +62,9 @@ async function piecesIn(room, path) {
 export async function fileAt(room, path) {
   const names = await namesIn(room, path);
   if (!names || names.length && !form.isLarge(names) && !form.isUnfinished(names)) return null;
-  const paths = (isManifest) => names.filter(([name]) => (name === form.MANIFEST) === isManifest)
+  const paths = isManifest => names.filter(([name]) => (name === form.MANIFEST) === isManifest)
     .map(([name]) => inFolder(path, name));
-  const parts = await Promise.all(paths(false).map((it) => piecesIn(room, it)));
+  const parts = await Promise.all(paths(false).map(it => piecesIn(room, it)));
   return parts.includes(null) ? null : [paths(true), parts.flatMap(([pieces]) => pieces), paths(false), [path]];
 }
 
@@ -84,7 +84,7 @@ export async function clear(room, at, name, transfer, looks = piecesIn, isNeeded
     if (gone !== path) await room.rename(path, gone);
     if (await isNeeded(name) && await orElse(room.rename(gone, path), null, EXIST)) return;
     for (const level of found) {
-      await forEach(level, (it) => orElse(room.step("REMOVE", gone + it.slice(path.length)), null, NOENT), room.width);
+      await forEach(level, it => orElse(room.step("REMOVE", gone + it.slice(path.length)), null, NOENT), room.width);
     }
   } catch (fault) {
     if (!isRefused(fault, NOENT)) transfer.fail(t.about(t.isLeft(shown(at)), fault.message));
@@ -92,7 +92,7 @@ export async function clear(room, at, name, transfer, looks = piecesIn, isNeeded
 }
 
 // (a letter that is cut is left out)
-const startOf = (name) => new TextDecoder("utf-8", { ignoreBOM: true }).decode(fromText(name).slice(0, MOST_KEPT),
+const startOf = name => new TextDecoder("utf-8", { ignoreBOM: true }).decode(fromText(name).slice(0, MOST_KEPT),
   { stream: true });
 
 /** What a stopped replacement left beside a document goes; a whole file there gets another name. */
@@ -112,7 +112,7 @@ export async function clearBeside(room, path, transfer) {
 export async function removeAll(room, path) {
   await takeOver(room, path);
   const names = await orElse(room.list(path), [], NOTDIR);
-  const remove = (it) => orElse(room.step("REMOVE", it), null, NOENT);
+  const remove = it => orElse(room.step("REMOVE", it), null, NOENT);
   if (names.some(([name]) => name === form.MANIFEST)) await remove(inFolder(path, form.MANIFEST));
   const documents = names.filter(([name, kind]) => kind !== FOLDER && name !== form.MANIFEST);
   await forEach(documents, ([name]) => remove(inFolder(path, name)));
@@ -121,11 +121,11 @@ export async function removeAll(room, path) {
 }
 
 export const piecesAt = (at, { folder, pieces }) =>
-  [pieces.map((it) => inFolder(at, folder, it)), [inFolder(at, folder)]];
+  [pieces.map(it => inFolder(at, folder, it)), [inFolder(at, folder)]];
 
 /** (Level by level: who gave a folder may pass through it no more.) */
 export async function give(room, levels, whose) {
-  for (const paths of levels) await forEach(paths, (it) => room.step("CHOWN", it, whose), room.width);
+  for (const paths of levels) await forEach(paths, it => room.step("CHOWN", it, whose), room.width);
 }
 
 /** The new one has, and gives, what the old one had at last; else that has its name again, or one of these bytes. */
@@ -138,7 +138,7 @@ async function takePlace(room, made, old, path, before) {
     return data;
   } catch (fault) {
     const back = () => orElse(room.rename(old, path), null, EXIST);
-    await back().catch((its) => (isRefused(its, NOENT) ? room.step("CREATE", path, { data }) : Promise.reject(its)));
+    await back().catch(its => (isRefused(its, NOENT) ? room.step("CREATE", path, { data }) : Promise.reject(its)));
     throw fault;
   }
 }
@@ -147,7 +147,7 @@ async function takePlace(room, made, old, path, before) {
  * began before clears a folder of this name.) Gives what it has. */
 async function makeAnew(room, path, transfer) {
   const [its, folder] = [inFolder(path, form.MANIFEST), form.otherName(form.PIECES)];
-  const [made, old] = ["000", "001"].map((it) => inFolder(path, folder, it));
+  const [made, old] = ["000", "001"].map(it => inFolder(path, folder, it));
   const [{ data }, { owner, group }] = [await room.aside("READ", its), await room.aside("STAT", path)];
   await room.step("MKDIR", inFolder(path, folder));
   try {
@@ -172,12 +172,12 @@ export async function keepManifest(room, path, transfer, data) {
 }
 
 const MOST_TRIED = 2; // spares of a file
-const isDone = async (task) => !(await orFault(task) instanceof Refusal);
+const isDone = async task => !(await orFault(task) instanceof Refusal);
 const asNew = (room, { owner, group }, its, list) => its && list && !ownList(list) &&
   [owner, room.user].includes(its.owner) && its.group === group;
 
 async function looked(room, at, stat) {
-  const [inside, list, its] = await Promise.all(["LIST", "GETLIST", "STAT"].map((it) => room.look(it, at)));
+  const [inside, list, its] = await Promise.all(["LIST", "GETLIST", "STAT"].map(it => room.look(it, at)));
   const fits = inside?.names.every(form.isOurPiece) && asNew(room, stat, its, list) && passersRead(list);
   return fits ? { names: new Set(inside.names.map(([name]) => name)), owner: its.owner } : null;
 }
@@ -202,7 +202,7 @@ export const areAsNew = async (room, paths, stat, transfer, stands) =>
 
 async function lookedAt(room, paths, stat, transfer) {
   let areAll = true;
-  await forEach(paths, async (it) => {
+  await forEach(paths, async it => {
     transfer.check();
     const its = areAll && await room.look("STAT", it);
     const list = its && await room.look("GETLIST", it);
@@ -213,7 +213,7 @@ async function lookedAt(room, paths, stat, transfer) {
 
 /** Documents that took no piece are emptied, or removed where they are more than `most`. */
 export async function clearOver(room, paths, most, transfer) {
-  await forEach(paths, async (it) => {
+  await forEach(paths, async it => {
     transfer.check();
     const isEmptied = paths.length <= most && await isDone(room.step("WRITE", it, { data: "" }));
     if (!isEmptied) await orElse(room.step("REMOVE", it), null, NOENT);
@@ -222,18 +222,18 @@ export async function clearOver(room, paths, most, transfer) {
 
 export async function leaveSpare(room, path, folder, transfer) {
   const before = inFolder(path, folder);
-  const rename = (name) => room.rename(before, inFolder(path, name)).then(() => name);
+  const rename = name => room.rename(before, inFolder(path, name)).then(() => name);
   const found = await piecesIn(room, before);
   if (!found) return void transfer.fail(t.noPart(shown(before)));
   const name = await orElse(rename(form.GONE + folder.slice(form.PIECES.length)), null, EXIST) ??
     await rename(form.otherName(form.GONE));
-  return { name, documents: found[0].map((it) => inFolder(path, name, lastName(it))) };
+  return { name, documents: found[0].map(it => inFolder(path, name, lastName(it))) };
 }
 
 /** (The first document last: where that is empty the others are too.) */
 export async function emptySpare(room, path, { name, documents }, transfer) {
   const [first, ...others] = [...documents].sort();
-  const empty = (it) => {
+  const empty = it => {
     transfer.check();
     return room.step("WRITE", it, { data: "" });
   };

@@ -12,12 +12,12 @@ const TYPES = { "image/png": /^\x89PNG\r\n\x1a\n/, "image/jpeg": /^\xff\xd8\xff/
 
 function typeOf(bytes) {
   const start = String.fromCharCode(...bytes.subarray(0, 12));
-  return Object.keys(TYPES).find((it) => TYPES[it].test(start)) ?? "";
+  return Object.keys(TYPES).find(it => TYPES[it].test(start)) ?? "";
 }
 
-export const isPdf = (bytes) => typeOf(bytes).endsWith("/pdf");
-export const canShow = (start) => typeOf(start) !== "" || toText(start, true) !== null;
-const pixelsOf = (it) => it.naturalWidth * it.naturalHeight;
+export const isPdf = bytes => typeOf(bytes).endsWith("/pdf");
+export const canShow = start => typeOf(start) !== "" || toText(start, true) !== null;
+const pixelsOf = it => it.naturalWidth * it.naturalHeight;
 
 /** Null where it is none, or too large. (A browser reads no more than its size till it is put somewhere. The policy of
  * the page allows no other address.) */
@@ -25,7 +25,7 @@ async function picture(bytes, alt, most) {
   const type = typeOf(bytes);
   if (!type.startsWith("image/")) return null;
   const it = make("img", { alt });
-  const isThere = await new Promise((tell) => {
+  const isThere = await new Promise(tell => {
     Object.assign(it, { onload: () => tell(true), onerror: () => tell(false) });
     it.src = `data:${type};base64,${toBase64(bytes)}`;
   });
@@ -37,7 +37,7 @@ const MOVES = /^GIF[^]*(NETSCAPE|!\xf9\x04[^]{4}\0[^]*!\xf9\x04[^]{4}\0)|^.PNG[^
 function still(it, side = Infinity) {
   const { naturalWidth, naturalHeight, alt } = it;
   const part = Math.min(1, side / Math.min(naturalWidth, naturalHeight));
-  const [width, height] = [naturalWidth, naturalHeight].map((its) => Math.ceil(its * part));
+  const [width, height] = [naturalWidth, naturalHeight].map(its => Math.ceil(its * part));
   const first = make("canvas", { width, height, role: alt && "img", ariaLabel: alt });
   Object.assign(first.getContext("2d"), { imageSmoothingQuality: "high" }).drawImage(it, 0, 0, width, height);
   return first;
@@ -68,7 +68,7 @@ export const nothing = () => make("p", t.noText);
 export function preview(bytes, name) {
   if (typeOf(bytes).startsWith("image/")) {
     const place = make("div.picture");
-    picture(bytes, shown(name), MOST_PIXELS).then((it) =>
+    picture(bytes, shown(name), MOST_PIXELS).then(it =>
       place.append(...it && MOVES.test(new TextDecoder("latin1").decode(bytes)) ? played(it) : [it ?? nothing()]));
     return place;
   }
@@ -80,14 +80,14 @@ export function preview(bytes, name) {
     text.length > MOST_TEXT && make("p", t.beginning));
 }
 
-export const isPicture = (name) => /\.(gif|jpe?g|png|webp)$/i.test(name);
+export const isPicture = name => /\.(gif|jpe?g|png|webp)$/i.test(name);
 
 export class SmallPictures {
   constructor(room) {
     Object.assign(this, { room: room.behind(), left: SMALL.bytes, pixels: SMALL.pixels, turn: Promise.resolve() });
   }
 
-  placeOf = (name) => make(isPicture(name) ? "span.small-picture" : "span");
+  placeOf = name => make(isPicture(name) ? "span.small-picture" : "span");
 
   show(element, path, size) {
     if (!element.className) return;

@@ -13,7 +13,7 @@ export class Questions {
   constructor(app) { Object.assign(this, { app, asked: new Map() }); }
 
   once = (key, task) => once(this.asked, key, task);
-  stat = (path) => this.once(`stat ${path}`, () => this.app.room.look("STAT", path));
+  stat = path => this.once(`stat ${path}`, () => this.app.room.look("STAT", path));
 
   /** Kind, owner, group and list, or null where the caller may not see them. */
   object(path) {
@@ -22,7 +22,7 @@ export class Questions {
       const list = stat && await this.app.room.look("GETLIST", path);
       if (!list) return null;
       const { owner, group } = stat;
-      const names = new Set([owner, group, ...list.entries.map((it) => it.who)]);
+      const names = new Set([owner, group, ...list.entries.map(it => it.who)]);
       const answers = this.once(JSON.stringify([owner, group, list.entries]), () => new Map());
       return { ...stat, ...list, names, answers };
     });
@@ -47,14 +47,14 @@ export class Questions {
     if (user === this.app.user && !(it && groups)) return this.once(`own ${path}`, own);
     if (!it) return null;
     // (those whom a list tells apart by nothing are asked about once)
-    const key = [it.names.has(user) ? user : "", ...(groups ?? []).filter((one) => it.names.has(one))].join("\n");
+    const key = [it.names.has(user) ? user : "", ...(groups ?? []).filter(one => it.names.has(one))].join("\n");
     return once(it.answers, key, () => this.app.room.allowed(it, user, groups ?? []));
   }
 
   /** The folders above that do not let the user pass; `isKnown` where each of them told. */
   async barriers(path, user, groups) {
     const above = foldersAbove(path);
-    const allowed = await Promise.all(above.map((it) => this.allowed(it, user, groups)));
+    const allowed = await Promise.all(above.map(it => this.allowed(it, user, groups)));
     const folders = above.filter((_, at) => allowed[at] !== null && !(allowed[at] & PASS_THROUGH));
     return { folders, isKnown: !allowed.includes(null) };
   }
@@ -79,7 +79,7 @@ export class Seers {
     const key = kind === LARGE ? path : JSON.stringify([foldersAbove(path), owner, group, entries]);
     return once(this.known, key, async () => {
       const users = await this.able(object, READ);
-      const told = users && joined(named(users.map((user) => ({ user }))));
+      const told = users && joined(named(users.map(user => ({ user }))));
       return users && { told, words: this.#words(users, its, roster) };
     });
   }
@@ -101,12 +101,12 @@ export class Seers {
     if (users.length === 1 && users[0] === me) return t.onlyYou;
     if (users.length === Object.keys(roster).length) return t.everyoneHere;
     const listed = new Set(entries.map(whomOf).map(({ id, name }) => ({ group: name, "GROUP@": group }[id])));
-    const members = (one) => Object.keys(roster).filter((user) => roster[user].includes(one));
-    const isIn = (one) => members(one).length > 0 && members(one).every((it) => users.includes(it));
-    const groups = [...listed].filter((one) => one && isIn(one)).sort(inOrder);
-    const others = users.filter((user) => !roster[user].some((it) => groups.includes(it)));
+    const members = one => Object.keys(roster).filter(user => roster[user].includes(one));
+    const isIn = one => members(one).length > 0 && members(one).every(it => users.includes(it));
+    const groups = [...listed].filter(one => one && isIn(one)).sort(inOrder);
+    const others = users.filter(user => !roster[user].some(it => groups.includes(it)));
     const names = [...others.includes(me) ? [t.yourself] : [], ...groups,
-      ...others.filter((it) => it !== me).map((it) => displayName(it) || it).sort(inOrder)];
+      ...others.filter(it => it !== me).map(it => displayName(it) || it).sort(inOrder)];
     return !names.length ? t.nobody : names.length > MOST_SEEN ? t.people(users.length) : names.join(", ");
   }
 }
@@ -155,13 +155,13 @@ async function letPass(room, folder, all) {
   const own = ownOf(list);
   const entries = all.map(({ whom }) => withWhom({ type: 0, flag: 0, mask: PASS_THROUGH, who: "" }, whom));
   const news = byWhom(entries).map(([, [it]]) => it);
-  const at = own.findIndex((it) => !isDeny(it));
+  const at = own.findIndex(it => !isDeny(it));
   own.splice(at < 0 ? own.length : at, 0, ...news);
   return setList(room, folder, list, { aclflag: list.aclflag, entries: own });
 }
 
-const byFolder = (found) => Map.groupBy(found.flatMap((it) => it.folders.map((folder) => ({ ...it, folder }))),
-  (it) => it.folder);
+const byFolder = found => Map.groupBy(found.flatMap(it => it.folders.map(folder => ({ ...it, folder }))),
+  it => it.folder);
 
 export async function letAll(app, object, entries, found, changes) {
   for (const [folder, those] of byFolder(found)) changes.push(await letPass(app.room, folder, those));
@@ -172,12 +172,12 @@ export async function letAll(app, object, entries, found, changes) {
 /** From which folder each entry that is handed down comes, as far as the user may see. */
 export async function origins(room, path, handed) {
   const [found, left] = [[], new Set(handed)];
-  const textOf = (it) => JSON.stringify([it.type, it.mask, whomOf(it)]);
+  const textOf = it => JSON.stringify([it.type, it.mask, whomOf(it)]);
   for (const folder of foldersAbove(path).toReversed()) {
     const list = left.size ? await room.look("GETLIST", folder) : null;
     if (!list) break;
     const its = new Set(ownOf(list).map(textOf));
-    for (const it of [...left].filter((one) => its.has(textOf(one)))) {
+    for (const it of [...left].filter(one => its.has(textOf(one)))) {
       found.push([it, folder]);
       left.delete(it);
     }
@@ -189,9 +189,9 @@ export async function helpThem(app, object, entries, found, changes) {
   const allCan = t.allCan(byWhom(entries).map(([whom]) => whomText(whom)));
   if (!found.length) return entries.length ? allCan : "";
   const folders = byFolder(found);
-  const lacking = found.filter((it) => it.lacks);
+  const lacking = found.filter(it => it.lacks);
   const told = [...[...folders].map(([it, those]) => t.shutOutAt(named(those), shown(calledIn(app.room.name, it)))),
-    ...lacking.map((it) => t.lacksStill(personText(it.user), rightsIn(it.lacks, object.kind)))];
+    ...lacking.map(it => t.lacksStill(personText(it.user), rightsIn(it.lacks, object.kind)))];
   const pass = () => letAll(app, object, entries, found, changes);
   const isDone = await ask({ title: t.notAll, does: folders.size > 0 && t.letPass, task: pass, stays: t.close,
     words: [t.listSet, listOf(told), folders.size > 0 && make("p.about", t.passWords)] });

@@ -8,7 +8,7 @@ const MOST_LATEST = 5; // that are shown
 const KEPT = "fileroom/mine/";
 const MOST = { latest: 20, stars: 20, gone: 99 };
 const keyOf = ({ user, room }) => `${KEPT}${user}/${room.name}`;
-const mineOf = (app) => ({ latest: [], stars: [], gone: [], ...JSON.parse(localStorage.getItem(keyOf(app)) ?? "{}") });
+const mineOf = app => ({ latest: [], stars: [], gone: [], ...JSON.parse(localStorage.getItem(keyOf(app)) ?? "{}") });
 const without = (all, path) => all.filter(([it]) => it !== path);
 
 function keep(app, kind, all) {
@@ -20,12 +20,12 @@ function keep(app, kind, all) {
 }
 
 export function forgetOthers(user) {
-  const theirs = (it) => /^fileroom\/(mine|recent)\//.test(it) && !it.startsWith(`${KEPT}${user}/`);
+  const theirs = it => /^fileroom\/(mine|recent)\//.test(it) && !it.startsWith(`${KEPT}${user}/`);
   for (const it of Object.keys(localStorage).filter(theirs)) localStorage.removeItem(it);
 }
 
-export const latest = (app) => mineOf(app).latest;
-export const stars = (app) => mineOf(app).stars;
+export const latest = app => mineOf(app).latest;
+export const stars = app => mineOf(app).stars;
 export const isStarred = (app, path) => stars(app).some(([it]) => it === path);
 export const note = (app, path, isFolder) =>
   path === ROOT || isInTrash(path) || keep(app, "latest", [[path, isFolder], ...without(latest(app), path)]);
@@ -44,8 +44,8 @@ export function forget(app, path) {
 }
 
 export function follow(app, places) {
-  const moved = (path) => [...places].find(([from]) => isWithin(path, from)) ?? [path, path];
-  const now = (path) => moved(path)[1] + path.slice(moved(path)[0].length);
+  const moved = path => [...places].find(([from]) => isWithin(path, from)) ?? [path, path];
+  const now = path => moved(path)[1] + path.slice(moved(path)[0].length);
   for (const kind of Object.keys(MOST)) keep(app, kind, mineOf(app)[kind].map(([it, ...more]) => [now(it), ...more]));
 }
 
@@ -56,9 +56,9 @@ async function sectionsOf(app, { room, path, view }) {
   const ways = offered([[its, wayTo("shared", t.sharedWithYou)], [hasDav(app), wayTo("recent", t.recentChanges)]]);
   const { latest: last, stars: own } = app.room ? mineOf(app) : { latest: [], stars: [] };
   const trash = app.room && (await ownTrash(app).catch(() => ({}))).path;
-  const rooms = app.rooms.map((it) => ({ words: it, kind: "room", place: { room: it, path: ROOT },
+  const rooms = app.rooms.map(it => ({ words: it, kind: "room", place: { room: it, path: ROOT },
     isNow: it === room && !isInTrash(path) && !ways.some(({ isNow }) => isNow) }));
-  const linksTo = (all) => all.filter(([it]) => !isInTrash(it)).map(([it, isFolder]) => ({ words: lastName(it),
+  const linksTo = all => all.filter(([it]) => !isInTrash(it)).map(([it, isFolder]) => ({ words: lastName(it),
     kind: kindByName(lastName(it), isFolder ? FOLDER : FILE), place: { room: its, path: it }, told: shown(it),
     isNow: it === path }));
   const thrown = { words: t.trash, kind: "trash", place: { room: its, path: trash }, isNow: isOwnTrash(app, path) };
@@ -76,5 +76,5 @@ const drawn = ([title, links]) => links.length > 0 &&
 export async function drawRail(app, place) {
   const [rail, its] = [part("rail"), make("div", (await sectionsOf(app, place)).map(drawn))];
   if (its.innerHTML !== rail.firstChild?.innerHTML) rail.replaceChildren(its);
-  rail.onclick = (event) => event.target.closest("a") && rail.hidePopover();
+  rail.onclick = event => event.target.closest("a") && rail.hidePopover();
 }

@@ -8,7 +8,7 @@ const TRIES = 5; // of a reader that meets one new version after another
 export const NOBODY = { add() {}, check() {}, note() {}, fail() {}, tell() {}, overtaken: () => null,
   behind: () => ({ ...NOBODY }) };
 
-export const whileSo = (isSo) => ({ ...NOBODY, check: () => {
+export const whileSo = isSo => ({ ...NOBODY, check: () => {
   if (!isSo()) throw new Error(t.stopped);
 } });
 
@@ -25,8 +25,8 @@ export async function manifestAt(room, path) {
  * moved or removed meanwhile.) */
 export async function manifestFollows(room, path) {
   const look = (cmd, at) => room.session.askAside({ cmd, path: at });
-  const [whole, list, its, itsList] = await Promise.all([path, inFolder(path, form.MANIFEST)].flatMap((at) =>
-    ["STAT", "GETLIST"].map((cmd) => look(cmd, at))));
+  const [whole, list, its, itsList] = await Promise.all([path, inFolder(path, form.MANIFEST)].flatMap(at =>
+    ["STAT", "GETLIST"].map(cmd => look(cmd, at))));
   if ([NOENT, NOTDIR].includes(its.code)) return true;
   const isOwners = whole.code || !its.code && its.owner === whole.owner && its.group === whole.group;
   return Boolean(isOwners && (list.code || !itsList.code && !ownList(itsList)));
@@ -62,7 +62,7 @@ async function wholeOf(room, path, its, transfer) {
   if (!its) return null;
   const [bytes, ends] = [new Uint8Array(its.size), []];
   try {
-    await forEach([...its.pieces.keys()], async (at) => {
+    await forEach([...its.pieces.keys()], async at => {
       transfer.check();
       const piece = await bytesAt(room, inFolder(path, its.folder, its.pieces[at]), { keep: false });
       bytes.set(piece, at * form.PIECE); // (throws where it does not fit)
@@ -78,7 +78,7 @@ async function wholeOf(room, path, its, transfer) {
 
 export async function isWhole(room, path, its, transfer) {
   let count = 0;
-  const add = (more) => {
+  const add = more => {
     count += more;
     transfer.add(more);
   };
@@ -88,7 +88,7 @@ export async function isWhole(room, path, its, transfer) {
   return isThere;
 }
 
-export const kindBy = (names) => (form.isLarge(names) ? LARGE : form.isUnfinished(names) ? UNFINISHED : FOLDER);
+export const kindBy = names => (form.isLarge(names) ? LARGE : form.isUnfinished(names) ? UNFINISHED : FOLDER);
 
 /** Its kind to people; its names, or null where one may not see them; a large file's manifest. */
 export async function lookInto(room, path) {
@@ -111,7 +111,7 @@ export async function walk(room, path, met, transfer) {
   let [level, done, before] = [[path], 0, 0];
   while (level.length) {
     const next = [];
-    await forEach(level, async (folder) => {
+    await forEach(level, async folder => {
       transfer.check();
       const { kind: found, names } = await lookInto(room, folder);
       transfer.walked?.(done += 1, before + level.length + next.length);
@@ -132,6 +132,6 @@ export async function walk(room, path, met, transfer) {
 export async function whole(room, path, transfer) {
   if ((await room.standing(path)).kind === FILE) return [{ path, kind: FILE }];
   const found = [];
-  await walk(room, path, (it) => found.push(it), transfer);
+  await walk(room, path, it => found.push(it), transfer);
   return found[0]?.path === path ? found : [{ path, kind: FOLDER }, ...found];
 }

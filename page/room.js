@@ -8,7 +8,7 @@ import { t } from "./words.js";
 
 export const [NOENT, NOTDIR, ISDIR, EXIST, ACCESS, NOTEMPTY, TOO_DEEP, FOLDER_FULL] = [1, 2, 3, 4, 5, 6, 10, 11];
 
-const whomToAsk = ({ user, owner, above }) => [owner || above].find((it) => it && it !== user) ?? null;
+const whomToAsk = ({ user, owner, above }) => [owner || above].find(it => it && it !== user) ?? null;
 
 function askWords(whose) {
   const whom = whomToAsk(whose);
@@ -18,7 +18,7 @@ function askWords(whose) {
 
 function lackedRight({ bit, path }, command, whose) {
   const kind = ["READ", "WRITE", "APPEND"].includes(command.cmd) ? FILE : FOLDER; // (above, only passing can lack)
-  const called = (it) => shown(calledIn(whose.room, it));
+  const called = it => shown(calledIn(whose.room, it));
   const words = [READ, PASS_THROUGH].includes(bit) ? t.noAccess(called(command.path ?? path)) :
     t.lacksRight(called(path), rightsIn(bit, kind));
   return `${words} ${askWords(whose)}`;
@@ -40,14 +40,14 @@ export function closedLine({ message, whom }, place, more = "") {
 
 export const isRefused = (fault, ...codes) => fault instanceof Refusal && codes.includes(fault.code);
 
-export const orFault = (task, fits = () => true) => task.catch((fault) => {
+export const orFault = (task, fits = () => true) => task.catch(fault => {
   if (fault instanceof Refusal && fits(fault)) return fault;
   throw fault;
 });
 
 /** Gives `instead` where it is refused with one of these codes. */
 export async function orElse(task, instead, ...codes) {
-  const found = await orFault(task, (it) => codes.includes(it.code));
+  const found = await orFault(task, it => codes.includes(it.code));
   return found instanceof Refusal ? instead : found;
 }
 
@@ -70,7 +70,7 @@ export async function forEach(items, task, width = WIDTH) {
   async function go() {
     for (const it of left) {
       if (fault) return;
-      await task(it).catch((its) => { fault ??= its; });
+      await task(it).catch(its => { fault ??= its; });
     }
   }
   await Promise.all(Array.from({ length: width }, go));
@@ -94,7 +94,7 @@ export class Room {
   /** Tells whom to ask for a right, as far as the user may see. */
   async refusal(reply, command) {
     if (reply.code !== ACCESS) return new Refusal(reply, command);
-    const ask = async (it) => (await this.look("STAT", it).catch(() => null))?.owner;
+    const ask = async it => (await this.look("STAT", it).catch(() => null))?.owner;
     const [{ path }, owner] = [reply, await ask(reply.path)];
     let above = null;
     for (const it of owner ? [] : foldersAbove(path).toReversed()) above ??= await ask(it);
@@ -120,11 +120,11 @@ export class Room {
     return reply.code === 0 ? reply : null;
   }
 
-  rights = async (path) => (await this.look("ACCESS", path, { mask: ALL }))?.allowed;
+  rights = async path => (await this.look("ACCESS", path, { mask: ALL }))?.allowed;
 
   /** `[NAME, KIND]` each, or null where that may not be seen. */
-  names = async (path) => (await this.look("LIST", path))?.names ?? null;
-  list = async (path) => (await this.aside("LIST", path)).names;
+  names = async path => (await this.look("LIST", path))?.names ?? null;
+  list = async path => (await this.aside("LIST", path)).names;
 
   /** What STAT tells, with the kind alone where the caller may not ask. */
   async standing(path) {

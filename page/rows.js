@@ -46,13 +46,13 @@ export class Row {
     this.star = button("", () => star(app, path, this.isFolder), { tabIndex, hidden: isInTrash(path) });
     this.where = things.isFound && link(addressOf({ room: place.room, path: folder }), nameText(above), { tabIndex });
     this.cells = { where: make("td.where", this.where),
-      ...Object.fromEntries(["who", "when", "kind", "size"].map((it) => [it, make(`td.${it}`)])) };
+      ...Object.fromEntries(["who", "when", "kind", "size"].map(it => [it, make(`td.${it}`)])) };
     const below = [beforeWords(path), things.isFound && make("span.place", nameText(above))].filter(Boolean);
     this.element = make("tr", { ariaSelected: "false" }, make("td.tick", this.tick),
       make("th", { scope: "row", ariaLabel: words }, make("div", this.picture,
         below.length ? make("div", this.link, make("div.about", below)) : this.link,
         make("span.quick", this.pen, this.star))),
-      things.columns.slice(1).map((it) => this.cells[it]), make("td.own", this.back, this.more));
+      things.columns.slice(1).map(it => this.cells[it]), make("td.own", this.back, this.more));
     this.element.row = this;
     this.showKind();
     this.showStar();
@@ -74,7 +74,7 @@ export class Row {
       t.kinds[this.kindName];
     if (!this.picture.querySelector("canvas")) this.picture.replaceChildren(icon(isShut ? "locked" : this.kindName));
     const isDocument = kind !== FOLDER;
-    this.link.onclick = isDocument && isForDisk(this.called) ? (event) => this.give(event) : null;
+    this.link.onclick = isDocument && isForDisk(this.called) ? event => this.give(event) : null;
   }
 
   showStar() {
@@ -85,11 +85,11 @@ export class Row {
   give(event) {
     if (event.ctrlKey || event.metaKey || event.shiftKey || event.defaultPrevented) return;
     event.preventDefault();
-    this.look().then((its) => download(this.app, this.path, its.size), tellIt);
+    this.look().then(its => download(this.app, this.path, its.size), tellIt);
   }
 
   look() {
-    this.looked ??= this.#look().catch((fault) => {
+    this.looked ??= this.#look().catch(fault => {
       this.looked = null;
       throw fault;
     });
@@ -146,7 +146,7 @@ export class Row {
   }
 
   async press(key) {
-    const offer = (await this.offers()).find((it) => it.key === key);
+    const offer = (await this.offers()).find(it => it.key === key);
     return offer ? offer.does() : tellFault(t.notOffered(shown(this.called)));
   }
 }

@@ -11,11 +11,11 @@ const FALSE_RETRY = 23;
 const NOT_KEPT = 25;
 const isOwn = ({ code }) => code >= 20 && code <= 25; // of the session, slot or number, and not of the request
 const fresh = () => ({ name: randomHex(16), isOpen: false });
-const read = (key) => JSON.parse(localStorage.getItem(key));
+const read = key => JSON.parse(localStorage.getItem(key));
 const write = (key, it) => localStorage.setItem(key, JSON.stringify(it));
 
 /** Members stand as in the command's text: the room knows a repeat by its bytes. */
-const bodyOf = (command) =>
+const bodyOf = command =>
   JSON.stringify(Object.fromEntries(Object.entries(command).sort(([a], [b]) => (a < b ? -1 : 1))));
 
 /** Gives up a command, whose number it takes. (The same each time: a false retry tells that the command ran.) */
@@ -49,7 +49,7 @@ class Lane {
       } catch (fault) {
         localStorage.removeItem(this.bodyKey);
         if (times === 100) throw new Error(t.noSpace(fault.name));
-        await new Promise((goOn) => setTimeout(goOn, 100));
+        await new Promise(goOn => setTimeout(goOn, 100));
       }
     }
   }
@@ -147,12 +147,12 @@ class Session {
     write(this.key, this.kept);
   }
 
-  get pending() { return this.lanes.filter((it) => it.pending); }
+  get pending() { return this.lanes.filter(it => it.pending); }
 
-  ask = (command) => this.lanes[0].ask(command);
+  ask = command => this.lanes[0].ask(command);
 
   async askAside(command, isStep = false) {
-    const lane = this.free.pop() ?? await new Promise((goOn) => this.queue.push(goOn));
+    const lane = this.free.pop() ?? await new Promise(goOn => this.queue.push(goOn));
     try {
       return await lane.ask(command, isStep);
     } finally {
@@ -196,27 +196,27 @@ export async function stayAs(user) {
 }
 
 /** Holds the lock until this tab ends. False where another tab has it. */
-const hold = (key) => new Promise((tell, fail) => {
-  navigator.locks.request(key, { ifAvailable: true }, (lock) => {
+const hold = key => new Promise((tell, fail) => {
+  navigator.locks.request(key, { ifAvailable: true }, lock => {
     tell(lock !== null);
     return lock && new Promise(() => {});
   }).catch(fail);
 });
 
-const finish = (session, tell) => Promise.all(session.pending.map((lane) => {
+const finish = (session, tell) => Promise.all(session.pending.map(lane => {
   const command = lane.pending;
   const tells = lane.kept.pending.isStep === BEHIND ? () => {} : tell; // (nothing is lost with it)
-  return lane.finish().then((reply) => tells(command, reply), (fault) => tells(command, null, fault));
+  return lane.finish().then(reply => tells(command, reply), fault => tells(command, null, fault));
 }));
 
 export async function sessionOfTab(base, room, patience, user, tell) {
   const prefix = `fileroom/${user}/${room}/`;
-  const sessionAt = (key) => new Session(base, key, patience, () => stayAs(user));
+  const sessionAt = key => new Session(base, key, patience, () => stayAs(user));
   let count = 0;
   while (!await hold(`${prefix}${count}`)) count += 1;
   const mine = `${prefix}${count}`;
-  const others = new Set(Object.keys(localStorage).filter((it) => it.startsWith(prefix))
-    .map((it) => prefix + it.slice(prefix.length).split("/")[0]));
+  const others = new Set(Object.keys(localStorage).filter(it => it.startsWith(prefix))
+    .map(it => prefix + it.slice(prefix.length).split("/")[0]));
   others.delete(mine);
   const session = sessionAt(mine);
   await finish(session, tell);

@@ -10,14 +10,14 @@ function whomField(names) {
   const list = make("ul.fits", { id: "fits", role: "listbox", ariaLabel: t.who, hidden: true });
   const field = input("", { role: "combobox", placeholder: t.who, ariaLabel: t.who, ariaAutoComplete: "list",
     "aria-controls": "fits", ariaExpanded: "false" });
-  const stand = (now) => {
+  const stand = now => {
     at = now;
     for (const [its, it] of options.entries()) it.ariaSelected = its === at;
     if (at < 0) field.removeAttribute("aria-activedescendant");
     else field.setAttribute("aria-activedescendant", `fits-${at}`);
     options[at]?.scrollIntoView({ block: "nearest" });
   };
-  const open = (isOpen) => {
+  const open = isOpen => {
     stand(-1);
     list.hidden = !isOpen;
     field.ariaExpanded = isOpen;
@@ -29,13 +29,13 @@ function whomField(names) {
   };
   const show = () => {
     const wanted = field.value.trim().toLowerCase();
-    const fits = names.filter((it) => it.toLowerCase().includes(wanted)).slice(0, MOST_FITS);
+    const fits = names.filter(it => it.toLowerCase().includes(wanted)).slice(0, MOST_FITS);
     options = fits.map((it, its) => make("li", { id: `fits-${its}`, role: "option", ariaSelected: "false",
-      onmousedown: (event) => take(it, event) }, it));
+      onmousedown: event => take(it, event) }, it));
     list.replaceChildren(...options);
     open(fits.length > 0);
   };
-  const key = (event) => {
+  const key = event => {
     const step = { ArrowDown: 1, ArrowUp: -1 }[event.key];
     if (step) event.preventDefault();
     if (step && list.hidden) show();
@@ -63,8 +63,8 @@ function whomBy(text, roster) {
   return groups.has(name) ? { whom: { id: "group", name } } : { fault: t.noSuch(text) };
 }
 
-const keyOf = (whom) => JSON.stringify(whom);
-const levelOfPreset = (name) => t.levels[name] ?? t.levels.change;
+const keyOf = whom => JSON.stringify(whom);
+const levelOfPreset = name => t.levels[name] ?? t.levels.change;
 
 export class SharePanel {
   /** `set` gets the own entries and those that are new: who may not has none, and is told of the `changers`. `detail`
@@ -72,20 +72,20 @@ export class SharePanel {
   constructor({ kind, owner, group }, { own, handed }, roster, does) {
     const { shares, others } = sharesOf(own, kind);
     Object.assign(this, { kind, owner, group, own, roster: roster ?? {}, isWhole: roster !== null, shares, ...does });
-    this.presets = Object.keys(presetsOf(kind)).map((it) => [it, ...levelOfPreset(it)]);
+    this.presets = Object.keys(presetsOf(kind)).map(it => [it, ...levelOfPreset(it)]);
     [this.told, this.from] = [new Map(), new Map()]; // elements by whom, which tell who is shut out, and what is above
     const isOwner = ({ id, name }) => owner && (id === "OWNER@" || id === "user" && name === owner);
-    const above = byWhom(handed.filter((it) => !isDeny(it))).filter(([whom]) => !isOwner(whom));
+    const above = byWhom(handed.filter(it => !isDeny(it))).filter(([whom]) => !isOwner(whom));
     const denied = byWhom([...own, ...handed].filter(isDeny));
-    const ofOthers = shares.filter((it) => !this.isOwners(it));
+    const ofOthers = shares.filter(it => !this.isOwners(it));
     const isAlone = !ofOthers.length && !others.length && !above.length;
     this.isAll = ofOthers.length < shares.length;
     const named = { ariaLabel: t.sharedWith };
     this.element = make("section.share", { ariaLabel: t.share }, make("h2", t.sharedWith),
       make("ul.given", named,
         owner && make("li", make("span", personText(owner)), this.isAll ? t.isOwnerOfAll : t.isOwner)),
-      ofOthers.length > 0 && make("ul.shares", named, ofOthers.map((it) => this.row(it))),
-      make("ul.given", named, others.filter(({ entries }) => !entries.every(isDeny)).map((it) => this.custom(it)),
+      ofOthers.length > 0 && make("ul.shares", named, ofOthers.map(it => this.row(it))),
+      make("ul.given", named, others.filter(({ entries }) => !entries.every(isDeny)).map(it => this.custom(it)),
         above.map(([whom, its]) => this.above(whom, its)), denied.map(([whom]) =>
           make("li.denied", make("span", this.wordsOf(whom)), button(t.denied, this.detail)))),
       isAlone && make("p", owner ? t.ownerAlone : t.whom[""]), this.set ? this.form() : make("p", this.changers),
@@ -94,14 +94,14 @@ export class SharePanel {
 
   isOwners = ({ whom, name }) => whom.id === "user" && whom.name === this.owner && name === "all";
 
-  wordsOf = (whom) => (whom.id === "user" ? personText(whom.name) : whomWords(whom, this));
+  wordsOf = whom => (whom.id === "user" ? personText(whom.name) : whomWords(whom, this));
 
   line(whom, ...parts) {
     this.told.set(keyOf(whom), make("div.about"));
     return make("li", make("span", this.wordsOf(whom)), parts, this.told.get(keyOf(whom)));
   }
 
-  takeButton = (whom) => this.set && button("×", () => this.give(whom, null),
+  takeButton = whom => this.set && button("×", () => this.give(whom, null),
     { className: "small", ariaLabel: t.takeFrom(this.wordsOf(whom)) });
 
   row({ whom, name }) {
@@ -113,7 +113,7 @@ export class SharePanel {
   }
 
   custom = ({ whom, entries }) => this.line(whom,
-    button(entries.every((it) => it.mask === PASS_THROUGH && !isDeny(it)) ? t.passes : t.custom, this.detail,
+    button(entries.every(it => it.mask === PASS_THROUGH && !isDeny(it)) ? t.passes : t.custom, this.detail,
       { title: t.mayWhat(this.wordsOf(whom)) }), this.takeButton(whom));
 
   above(whom, entries) {
@@ -124,7 +124,7 @@ export class SharePanel {
 
   tellFrom(whom, folder) {
     const its = this.from.get(keyOf(whom));
-    if (!its || [...its.children].some((it) => it.href === folder.href)) return;
+    if (!its || [...its.children].some(it => it.href === folder.href)) return;
     its.append(its.firstChild ? ", " : t.fromAbove, folder);
   }
 
@@ -134,7 +134,7 @@ export class SharePanel {
 
   form() {
     const people = Object.keys(this.roster).map(personText).sort(inOrder);
-    const groups = [...new Set(Object.values(this.roster).flat())].sort(inOrder).map((it) => t.groupMark + it);
+    const groups = [...new Set(Object.values(this.roster).flat())].sort(inOrder).map(it => t.groupMark + it);
     const { element, field: whom } = whomField([...people, ...groups, t.whom["EVERYONE@"]]);
     this.fault = make("p.fault", { role: "alert" });
     const keeps = this.kind === FOLDER && this.owner && !this.shares.length &&
@@ -154,9 +154,9 @@ export class SharePanel {
   }
 
   give(whom, name, more = []) {
-    const had = this.own.filter((it) => !isDeny(it) && isAlike(whomOf(it), whom));
+    const had = this.own.filter(it => !isDeny(it) && isAlike(whomOf(it), whom));
     const news = name ? entriesOf(name, whom, this.kind) : [];
-    const own = [...had.length ? this.own.flatMap((it) => (it === had[0] ? news : had.includes(it) ? [] : [it])) :
+    const own = [...had.length ? this.own.flatMap(it => (it === had[0] ? news : had.includes(it) ? [] : [it])) :
       [...this.own, ...news], ...isAlike(whom, whomOf(more[0] ?? { who: "" })) ? [] : more];
     if (own.length <= MOST_ENTRIES) return this.set(own, news);
     this.fault.textContent = `${t.listFull(own.length, MOST_ENTRIES)} ${t.nameGroup}`;

@@ -4,10 +4,10 @@ import { t } from "./words.js";
 
 const NAME = /^[A-Za-z0-9._-]{1,32}$/;
 const MOST = 256; // bytes of a password
-const part = (id) => document.getElementById(id);
+const part = id => document.getElementById(id);
 const isBeside = location.search === "?beside"; // of a page that goes on then
-const tell = (words) => { part("told").textContent = words; };
-const why = (status) =>
+const tell = words => { part("told").textContent = words; };
+const why = status =>
   ({ 0: t.unreachable, 401: t.wrongLogin, 429: t.manyLogins, 503: t.noDirectory }[status] ?? t.status(status));
 
 /** (What can be no login is not asked about: each wrong one counts as a guess.) */
@@ -34,7 +34,7 @@ async function submit() {
   return part("word").select();
 }
 
-part("form").onsubmit = (event) => {
+part("form").onsubmit = event => {
   event.preventDefault();
   submit();
 };

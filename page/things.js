@@ -18,7 +18,7 @@ const BY = {
   when: (one, other) => (one.change?.when ?? 0) - (other.change?.when ?? 0),
 };
 const HEADS = ["name", "where", "who", "when", "kind", "size"];
-const rowOf = (event) => (event.target.closest("[popover]") ? null : event.target.closest("tr")?.row);
+const rowOf = event => (event.target.closest("[popover]") ? null : event.target.closest("tr")?.row);
 
 class ChosenBar {
   constructor(things) {
@@ -28,7 +28,7 @@ class ChosenBar {
     this.buttons = offered([[isOwnTrash(app, place.path), [t.putBack, putAllBack]], [true, [t.move, move]],
       [true, [t.copy, copyTo]], [true, [t.download, (_, paths) => downloadAll(app, place.path, paths)]],
       [true, [t.remove, remove]]]).map(([words, does]) =>
-      button(words, () => does(app, things.chosen.map((it) => it.path))));
+      button(words, () => does(app, things.chosen.map(it => it.path))));
     const remover = this.buttons.at(-1);
     this.remove = () => remover.hidden || remover.click();
     this.element = make("div.tools.chosen", { role: "group", ariaLabel: t.chosenLabel, hidden: true },
@@ -44,7 +44,7 @@ class ChosenBar {
     this.element.hidden = !rows.length;
     document.querySelector("#main .tools.makers")?.toggleAttribute("hidden", rows.length > 0);
     const mayRemove = this.things.rights?.own & DELETE_CHILD ||
-      (await Promise.all(rows.map((it) => rightsOn(it.app.room, it.path)))).every((it) => it & DELETE);
+      (await Promise.all(rows.map(it => rightsOn(it.app.room, it.path)))).every(it => it & DELETE);
     if (turn !== this.turn) return;
     for (const it of this.buttons) it.hidden = !mayRemove && ![t.copy, t.download].includes(it.textContent);
   }
@@ -55,20 +55,20 @@ const nearest = (all, at) => all[Math.max(Math.min(at, all.length - 1), 0)];
 class GridKeys {
   constructor(things) {
     Object.assign(this, { things, letters: "", typedAt: 0, at: null });
-    things.table.onkeydown = (event) => event.target.closest("[popover]") || this.key(event);
+    things.table.onkeydown = event => event.target.closest("[popover]") || this.key(event);
     this.stand(things.shown[0].link);
   }
 
   stand(element) {
-    if (![this.things, ...this.things.shown].some((it) => it.stops.includes(element))) return;
+    if (![this.things, ...this.things.shown].some(it => it.stops.includes(element))) return;
     if (this.at) this.at.tabIndex = -1;
     this.at = element;
     element.tabIndex = 0;
   }
 
   key(event) {
-    const lines = [this.things, ...this.things.shown].map((it) => it.stops.filter((one) => one.checkVisibility()));
-    const line = lines.findIndex((it) => it.includes(event.target));
+    const lines = [this.things, ...this.things.shown].map(it => it.stops.filter(one => one.checkVisibility()));
+    const line = lines.findIndex(it => it.includes(event.target));
     if (line < 0) return;
     const column = lines[line].indexOf(event.target);
     const [row, isMany] = [this.things.shown[line - 1], event.ctrlKey || event.metaKey];
@@ -103,7 +103,7 @@ class GridKeys {
     const rows = this.things.shown;
     const start = this.letters.length > 1 ? Math.max(line, 0) : line + 1;
     const order = [...rows.slice(start), ...rows.slice(0, start)];
-    order.find((it) => it.called.toLowerCase().startsWith(this.letters))?.link.focus();
+    order.find(it => it.called.toLowerCase().startsWith(this.letters))?.link.focus();
     return true;
   }
 }
@@ -116,18 +116,18 @@ export class Things {
       isShared: place.view === "shared" });
     const without = [...isFound ? [] : ["where"], ...changes ? isFound ? ["who", "kind"] : [] : ["when"],
       ...isThrown ? ["who"] : []];
-    this.columns = HEADS.filter((it) => !without.includes(it));
+    this.columns = HEADS.filter(it => !without.includes(it));
     const [by, isDown] = isFound && changes ? ["when", "down"] : (localStorage.getItem(SORT) ?? "name").split(" ");
     this.sort = { by: this.columns.includes(by) ? by : "name", isDown: Boolean(isDown) };
     [this.pictures, this.seers] = [new SmallPictures(app.room), new Seers(app)];
-    this.rows = names.map((it) => new Row(this, it));
+    this.rows = names.map(it => new Row(this, it));
     this.bodies = [make("tbody"), make("tbody")]; // folders, and documents behind them
     this.bar = new ChosenBar(this);
     this.table = make(isThrown ? "table.things.thrown" : "table.things", { role: "grid", ariaLabel: t.contents,
-      ariaMultiSelectable: "true", onclick: (event) => this.click(event), ondblclick: (event) => this.open(event),
-      oncontextmenu: (event) => this.menu(event) }, this.head(), this.bodies);
+      ariaMultiSelectable: "true", onclick: event => this.click(event), ondblclick: event => this.open(event),
+      oncontextmenu: event => this.menu(event) }, this.head(), this.bodies);
     this.details = new Details(this);
-    this.table.addEventListener("focusin", (event) => {
+    this.table.addEventListener("focusin", event => {
       this.keys.stand(event.target);
       if (rowOf(event)) this.details.show(rowOf(event));
     });
@@ -135,34 +135,34 @@ export class Things {
     this.draw();
     this.keys = new GridKeys(this);
     this.watch();
-    const dated = changes?.then((found) => this.tellWhen(found)).catch(() => {});
+    const dated = changes?.then(found => this.tellWhen(found)).catch(() => {});
     this.inOrder = { size: () => this.lookAtAll(), when: () => dated }[this.sort.by]?.() ?? null;
   }
 
   head() {
     const onchange = () => this.choose(this.all.checked ? this.rows : []);
     this.all = make("input", { type: "checkbox", tabIndex: -1, ariaLabel: t.chooseAll, onchange });
-    this.heads = this.columns.map((by) => {
+    this.heads = this.columns.map(by => {
       const its = by in BY && button(t.heads[by], () => this.sortBy(by), { tabIndex: -1 });
       const words = its || t.heads[by === "who" && this.isShared ? "owner" : by];
       return { by, button: its, cell: make(`th.${by}`, { scope: "col" }, words) };
     });
-    return make("thead", make("tr", make("td.tick", this.all), this.heads.map((it) => it.cell), make("td.own")));
+    return make("thead", make("tr", make("td.tick", this.all), this.heads.map(it => it.cell), make("td.own")));
   }
 
-  get stops() { return [this.all, ...this.heads.map((it) => it.button).filter(Boolean)]; }
-  get shown() { return this.bodies.flatMap((it) => [...it.rows].map(({ row }) => row)); }
-  get chosen() { return this.shown.filter((it) => it.tick.checked); }
+  get stops() { return [this.all, ...this.heads.map(it => it.button).filter(Boolean)]; }
+  get shown() { return this.bodies.flatMap(it => [...it.rows].map(({ row }) => row)); }
+  get chosen() { return this.shown.filter(it => it.tick.checked); }
 
   draw() {
     const { by, isDown } = this.sort;
     const [sorted, turn] = isDown ? ["descending", -1] : ["ascending", 1];
-    for (const it of this.heads.filter((one) => one.button)) it.cell.ariaSort = it.by === by ? sorted : "none";
+    for (const it of this.heads.filter(one => one.button)) it.cell.ariaSort = it.by === by ? sorted : "none";
     const rows = [...this.rows].sort((one, other) => BY[by](one, other) * turn ||
       inOrder(one.name, other.name) * (by === "name" ? turn : 1));
     const isMixed = this.isFound && by === "when";
     this.bodies.forEach((it, at) => it.replaceChildren(
-      ...rows.filter((row) => (isMixed || row.isFolder) === !at).map(({ element }) => element)));
+      ...rows.filter(row => (isMixed || row.isFolder) === !at).map(({ element }) => element)));
   }
 
   async sortBy(by) {
@@ -172,7 +172,7 @@ export class Things {
     if (by === "size") await this.lookAtAll();
   }
 
-  lookAtAll = () => forEach(this.rows, (it) => it.look()).catch(tellIt).then(() => this.draw());
+  lookAtAll = () => forEach(this.rows, it => it.look()).catch(tellIt).then(() => this.draw());
 
   tellWhen(found) {
     for (const it of this.rows) it.tellWhen(found.get(it.path));
@@ -180,7 +180,7 @@ export class Things {
   }
 
   watch() {
-    this.seen = new IntersectionObserver((entries) => {
+    this.seen = new IntersectionObserver(entries => {
       for (const { target: { row }, isIntersecting } of entries) {
         this.inSight[isIntersecting ? "add" : "delete"](row);
         if (isIntersecting) row.look().catch(tellIt);
@@ -203,7 +203,7 @@ export class Things {
     if (this.isTelling || !this.columns.includes("who")) return;
     this.isTelling = true;
     while (this.inSight.size) {
-      await forEach(this.inSight, (row) => {
+      await forEach(this.inSight, row => {
         this.inSight.delete(row);
         this.seen.unobserve(row.element);
         return row.tellWho().catch(() => {});
@@ -228,7 +228,7 @@ export class Things {
   }
 
   toggle(row) {
-    const others = this.chosen.filter((it) => it !== row);
+    const others = this.chosen.filter(it => it !== row);
     this.last = row;
     this.choose(row.element.ariaSelected === "true" ? others : [...others, row]);
   }

@@ -25,12 +25,12 @@ class Transfer {
 
   get seconds() { return inTenths((performance.now() - this.start) / 1_000); }
 
-  quiet = () => ({ ...NOBODY, check: () => this.check(), fail: (words) => this.fail(words) });
+  quiet = () => ({ ...NOBODY, check: () => this.check(), fail: words => this.fail(words) });
 
   /** Behind the answer faults alone are told, once it has ended. */
   behind() {
     const [title, faults] = [this.title, []];
-    return { ...NOBODY, fail: (words) => faults.push({ words, about: this.about }),
+    return { ...NOBODY, fail: words => faults.push({ words, about: this.about }),
       tell: () => tellFaults(title, faults) };
   }
 
@@ -49,7 +49,7 @@ class Transfer {
     if (!this.isCancelled) this.words.textContent = t.ofAll(this.unit(this.done), this.unit(this.total));
   }
 
-  note = (words) => this.notes.push(words);
+  note = words => this.notes.push(words);
   fail = (words, about = this.about) => this.faults.push({ words, about });
 
   /** Somebody else wrote a version meanwhile: true to replace it, the path of a copy, or null. */

@@ -11,12 +11,12 @@ function placesFor(user) {
   return [inFolder(TRASH, `@${(sum % 16).toString(16)}`, user), inFolder(TRASH, user)];
 }
 
-export const isInTrash = (path) => isWithin(path, TRASH);
-export const isTrash = (path) => !/@.$/.test(path) && placesFor(lastName(path)).includes(path);
+export const isInTrash = path => isWithin(path, TRASH);
+export const isTrash = path => !/@.$/.test(path) && placesFor(lastName(path)).includes(path);
 export const isOwnTrash = ({ user }, path) => placesFor(user).includes(path);
 
 /** (The gateway keeps emptied pieces in a trash.) */
-export const withoutPool = (path, names) => (isTrash(path) ? names.filter((it) => !isSpare(it)) : names);
+export const withoutPool = (path, names) => (isTrash(path) ? names.filter(it => !isSpare(it)) : names);
 
 export async function ownTrash({ room, user }) {
   for (const path of placesFor(user)) {
@@ -41,7 +41,7 @@ function nameInTrash(path, now) {
   return isTooLong(name + end) ? shortened(name, "…", end) : name + end;
 }
 
-export const toTrash = (room, path, trash) => placedInTrash(path, trash, (to) => room.run("RENAME", path, { to }));
+export const toTrash = (room, path, trash) => placedInTrash(path, trash, to => room.run("RENAME", path, { to }));
 
 /** Does the task with the first free path in the trash, which it gives. */
 export async function placedInTrash(path, trash, task) {
@@ -72,8 +72,8 @@ export function toldBy(path) {
   return path.includes("…") || pathFault(place) ? null : { name: parts[0], place, when };
 }
 
-export const nameAt = (path) => toldBy(path)?.name ?? lastName(path);
-export const calledAt = (path) => shown(toldBy(path)?.name ?? path);
+export const nameAt = path => toldBy(path)?.name ?? lastName(path);
+export const calledAt = path => shown(toldBy(path)?.name ?? path);
 
 export function beforeWords(path) {
   const its = toldBy(path);

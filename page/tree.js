@@ -11,7 +11,7 @@ async function foldersIn(room, path) {
   if (kindBy(names) !== FOLDER) throw new Error(t.refusals[NOTDIR]);
   const found = names.filter(([name, kind]) => kind === FOLDER && !isPart(name)).sort(byName);
   const isFile = await Promise.all(found.map(([name]) =>
-    LIKE_FILE.test(name) && lookInto(room, inFolder(path, name)).then((it) => it.kind === LARGE)));
+    LIKE_FILE.test(name) && lookInto(room, inFolder(path, name)).then(it => it.kind === LARGE)));
   return found.filter((_, at) => !isFile[at]).map(([name]) => inFolder(path, name));
 }
 
@@ -21,8 +21,8 @@ export class FolderTree {
     Object.assign(this, { app, barred, value, items: new Map() });
     this.told = make("p", { role: "status" });
     this.legend = make("legend");
-    this.list = make("ul.tree", { role: "tree", ariaLabel: t.toFolder, onkeydown: (event) => this.key(event),
-      onclick: (event) => this.click(event) });
+    this.list = make("ul.tree", { role: "tree", ariaLabel: t.toFolder, onkeydown: event => this.key(event),
+      onclick: event => this.click(event) });
     const folders = latest(app).filter(([it, isFolder]) => isFolder && it !== value && !this.isBarred(it));
     const recent = folders.slice(0, MOST_RECENT).map(([it]) =>
       button(nameText(this.nameOf(it)), () => this.goTo(it), { className: "small", title: shown(it) }));
@@ -33,8 +33,8 @@ export class FolderTree {
     this.goTo(value);
   }
 
-  nameOf = (path) => nameIn(this.app.room.name, path);
-  isBarred = (path) => isInTrash(path) || this.barred.some((it) => isWithin(path, it));
+  nameOf = path => nameIn(this.app.room.name, path);
+  isBarred = path => isInTrash(path) || this.barred.some(it => isWithin(path, it));
 
   tell() {
     this.legend.replaceChildren(t.toFolder, make("b", nameText(calledIn(this.app.room.name, this.value))));
@@ -76,9 +76,9 @@ export class FolderTree {
     Object.assign(it, { ariaExpanded: "true", ariaBusy: "true" });
     this.told.textContent = "";
     try {
-      const folders = (await foldersIn(this.app.room, it.path)).filter((path) => !this.isBarred(path));
+      const folders = (await foldersIn(this.app.room, it.path)).filter(path => !this.isBarred(path));
       if (!folders.length) it.ariaExpanded = null;
-      else it.append(make("ul", { role: "group" }, folders.map((path) => this.item(path))));
+      else it.append(make("ul", { role: "group" }, folders.map(path => this.item(path))));
     } catch (fault) {
       it.ariaExpanded = "false";
       this.told.textContent = fault.message;

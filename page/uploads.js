@@ -29,9 +29,9 @@ async function within(entry, above = []) {
 }
 
 export async function dropped(data) {
-  const items = [...data.items].filter((it) => it.kind === "file");
-  const entries = items.map((it) => it.webkitGetAsEntry() ?? it.getAsFile());
-  return (await Promise.all(entries.map((it) =>
+  const items = [...data.items].filter(it => it.kind === "file");
+  const entries = items.map(it => it.webkitGetAsEntry() ?? it.getAsFile());
+  return (await Promise.all(entries.map(it =>
     (it instanceof File ? [{ names: [it.name], file: it }] : within(it))))).flat();
 }
 
@@ -46,7 +46,7 @@ function faultOf({ names, file }, folder) {
 
 function withShorter(chosen) {
   const taken = new Map(); // by the path that something had
-  const isFree = (path) => ![...taken.values()].includes(path);
+  const isFree = path => ![...taken.values()].includes(path);
   const shorter = (above, name) => {
     if (!isTooLong(clean(name))) return name;
     const [key, its] = [pathOf([...above, name]), pathOf([...above, shortened(clean(name))])];
@@ -60,7 +60,7 @@ const goalOf = (folder, names) => inFolder(folder, ...names.map(clean));
 const calledBy = ({ names }) => shown(names.join("/"));
 
 async function fitting(app, folder, chosen) {
-  const faults = chosen.map((it) => faultOf(it, folder));
+  const faults = chosen.map(it => faultOf(it, folder));
   const fit = chosen.filter((_, at) => faults[at] === "");
   if (fit.length === chosen.length) return fit;
   const shorter = withShorter(chosen);
@@ -79,17 +79,17 @@ async function fitting(app, folder, chosen) {
   return (answer === true ? first.value : answer) === "fit" ? fit : fitting(app, folder, shorter);
 }
 
-const listed = (words) => [listOf(words.slice(0, MOST_TOLD)),
+const listed = words => [listOf(words.slice(0, MOST_TOLD)),
   words.length > MOST_TOLD && t.others(words.length - MOST_TOLD)];
 
 function lister(room) {
   const asked = new Map();
-  return (folder) => once(asked, folder, async () => new Set((await room.names(folder))?.map(([name]) => name)));
+  return folder => once(asked, folder, async () => new Set((await room.names(folder))?.map(([name]) => name)));
 }
 
 async function freeOf(path, namesIn, taken) {
   const names = await namesIn(folderOf(path));
-  const isFree = (it) => !names.has(lastName(it)) && !taken.has(it);
+  const isFree = it => !names.has(lastName(it)) && !taken.has(it);
   const its = isFree(path) ? path : numbered(path, isFree);
   taken.add(its);
   return its;
@@ -104,7 +104,7 @@ export async function makeLike(room, path, like) {
 
 export async function placeIn(room, path) {
   if (namesOf(path).length === MAX_NAMES) throw new Error(t.refusals[TOO_DEEP]);
-  const namesIn = async (it) => await room.names(it) ?? [];
+  const namesIn = async it => await room.names(it) ?? [];
   if ((await namesIn(path)).length < MOST_THINGS) return path;
   if (path === ROOT) throw new Error(t.refusals[FOLDER_FULL]);
   const there = new Map(await namesIn(folderOf(path)));
@@ -121,10 +121,10 @@ async function restsOf(over, namesIn) {
   for (const [path, names] of over) {
     if (path === ROOT) return [];
     const there = await namesIn(path);
-    const rest = [...names].filter((it) => !there.has(it)).slice(MOST_THINGS - names.size);
+    const rest = [...names].filter(it => !there.has(it)).slice(MOST_THINGS - names.size);
     const beside = await namesIn(folderOf(path));
     for (let at = 0; at < rest.length; at += MOST_THINGS) {
-      const goal = numbered(path, (it) => !beside.has(lastName(it)));
+      const goal = numbered(path, it => !beside.has(lastName(it)));
       beside.add(lastName(goal));
       found.push({ like: path, goal, rest: new Set(rest.slice(at, at + MOST_THINGS)) });
     }
@@ -163,13 +163,13 @@ export const freePath = async (room, path) => (await freePaths(room, [path]))[0]
 
 /** Those below the folder, each behind the one above it. */
 function foldersOf(wanted, folder) {
-  const depth = (path) => namesOf(path).length;
+  const depth = path => namesOf(path).length;
   const all = wanted.flatMap(({ path, file }) => [...foldersAbove(path), ...file ? [] : [path]]);
-  return [...new Set(all)].filter((it) => depth(it) > depth(folder)).sort((a, b) => depth(a) - depth(b));
+  return [...new Set(all)].filter(it => depth(it) > depth(folder)).sort((a, b) => depth(a) - depth(b));
 }
 
 async function overfull(wanted, folder, namesIn) {
-  const all = [...foldersOf(wanted, folder), ...wanted.filter((it) => it.file).map((it) => it.path)];
+  const all = [...foldersOf(wanted, folder), ...wanted.filter(it => it.file).map(it => it.path)];
   const inside = await Promise.all([...Map.groupBy(all, folderOf)].map(async ([above, paths]) =>
     [above, new Set([...await namesIn(above), ...paths.map(lastName)])]));
   return inside.filter(([, names]) => names.size > MOST_THINGS);
@@ -183,12 +183,12 @@ function beforeWords(replaced) {
 async function sendAll(app, transfer, wanted, folder) {
   const { room } = app;
   const likes = wanted.beside ?? [];
-  for (const { goal, like } of likes.filter((it) => it.like === folder)) await makeLike(room, goal, like);
+  for (const { goal, like } of likes.filter(it => it.like === folder)) await makeLike(room, goal, like);
   for (const path of foldersOf(wanted, folder)) await orElse(room.step("MKDIR", path), null, EXIST);
-  for (const { goal, like } of likes.filter((it) => it.like !== folder)) await makeLike(room, goal, like);
-  const [files, isOne, replaced] = [wanted.filter((it) => it.file), wanted.length === 1, []];
+  for (const { goal, like } of likes.filter(it => it.like !== folder)) await makeLike(room, goal, like);
+  const [files, isOne, replaced] = [wanted.filter(it => it.file), wanted.length === 1, []];
   let [count, size] = [0, 0];
-  await forEach(files, async (it) => {
+  await forEach(files, async it => {
     const { path, file, isNew } = it;
     transfer.check();
     try {
@@ -226,8 +226,8 @@ async function wantedOf(app, folder, chosen) {
   const clashes = wanted.filter((_, at) => isThere[at]);
   const answer = clashes.length ? await askOfClashes(app, clashes) : true;
   if (answer === null) return [];
-  if (answer === "skip") wanted = wanted.filter((it) => !clashes.includes(it));
-  const taken = new Set(wanted.map((it) => it.path));
+  if (answer === "skip") wanted = wanted.filter(it => !clashes.includes(it));
+  const taken = new Set(wanted.map(it => it.path));
   for (const it of clashes) {
     if (answer === true) it.path = await freeOf(it.path, namesIn, taken);
     else Object.assign(it, { isNew: false, replaces: true, trash: answer.trash });
@@ -245,7 +245,7 @@ export async function upload(app, folder, chosen) {
   }
 }
 
-export const keepInTrash = (room, path, trash) => placedInTrash(path, trash, async (to) =>
+export const keepInTrash = (room, path, trash) => placedInTrash(path, trash, async to =>
   writeCopy(room, path, to, await readFile(room, path)));
 
 export const keepBeside = async (room, path, words, bytes) =>
@@ -268,6 +268,6 @@ export async function newVersion(app, path, [it], replaces) {
 function start(app, wanted, folder) {
   const total = wanted.reduce((sum, { file }) => sum + (file?.size ?? 0), 0);
   const title = t.doTo(t.upload, wanted.length === 1 ? shown(lastName(wanted[0].path)) : t.allThings(wanted.length));
-  const about = aboutOf(app.room, ...wanted.map((it) => it.path));
-  return transferring(app, title, { total, about }, (it) => sendAll(app, it, wanted, folder));
+  const about = aboutOf(app.room, ...wanted.map(it => it.path));
+  return transferring(app, title, { total, about }, it => sendAll(app, it, wanted, folder));
 }

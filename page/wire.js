@@ -10,7 +10,7 @@ let ready = 0; // when the next request may go
 async function turn() {
   const now = performance.now();
   ready = Math.max(ready, now - BURST * STEP) + STEP;
-  if (ready > now) await new Promise((goOn) => setTimeout(goOn, ready - now));
+  if (ready > now) await new Promise(goOn => setTimeout(goOn, ready - now));
 }
 
 /** Whether it acted is not known. What `isShut` is not sent again by itself: a wrong login counts as a guess, and one
@@ -31,7 +31,7 @@ function readReply(text) {
   }
 }
 
-const whyNoReply = (status) =>
+const whyNoReply = status =>
   ({ 401: t.loginGone, 404: t.roomGone, 429: t.tooMuch }[status] ?? (status >= 500 ? t.restarting : t.status(status)));
 
 async function fetchText(url, how) {
@@ -79,4 +79,4 @@ export async function fileOfFront(url) {
 }
 
 export const toldAt = (url, instead) =>
-  fileOfFront(url).then((it) => JSON.parse(it ?? "null") ?? instead).catch(() => instead);
+  fileOfFront(url).then(it => JSON.parse(it ?? "null") ?? instead).catch(() => instead);
