@@ -117,7 +117,7 @@ async function append(app, path) {
   const isDone = await ask({ title: t.appendTo(shown(lastName(path))), does: t.append, words: t.onOwnLine,
     fields: [[t.text, text]], faultOf: () => tooLong(fromText(text.value)),
     task: () => app.room.run("APPEND", path, { data: toBase64(fromText(asLines(text.value, before))) }) });
-  if (isDone) await app.done(t.replaced);
+  if (isDone) await app.done(t.replaced, null, null, true);
 }
 
 function settle(who, theirs, mine, keep, take) {
@@ -167,12 +167,12 @@ export async function edit(app, path) {
   const undo = async () => {
     if ((await app.room.run("READ", path)).data !== written) throw new Error(t.changed);
     await app.room.run("WRITE", path, { data: seen });
-    await app.done(t.textBack);
+    await app.done(t.textBack, null, null, true);
   };
   const isDone = await ask({ title, does: t.save, fields: [[t.text, field], ...keeps ? [["", keeps]] : []], task,
     faultOf: () => tooLong(typed()),
     wayOn: button(t.download, () => save(new Blob([typed()]), lastName(path)), "small") });
-  if (isDone) await app.done(told, null, written !== undefined && undo);
+  if (isDone) await app.done(told, null, written !== undefined && undo, true);
 }
 
 async function rename(app, path) {

@@ -3,10 +3,10 @@ import { asButton, makeDocument, makeFolder, offersFor, rightsAt, textOffers } f
 import { head } from "./heads.js";
 import { emptyTrash } from "./moving.js";
 import { ACCESS, ADD_FILE, ADD_FOLDER, FILE, FOLDER, LARGE, MANIFEST, NOBODY, PASS_THROUGH, READ, READ_LIST, ROOT,
-  TRASH, UNFINISHED, Refusal, Seers, addressOf, beforeWords, beside, button, byName, canShow, changesIn, checkbox, clean,
-  closedLine, faultLine, filesButton, folderOf, foldersAbove, fromBase64, givenHere, hasDav, icon, inFolder, inOrder,
-  isAlike, isFor, isInTrash, isNamed, isOwnTrash, isPart, isPdf, isPicture, isTrash, kindBy, lastName, latest, link,
-  make, manifestAt, menuButton, nameAt, note, nothing, offered, once, orFault, ownOf, ownTrash, ownedWords, part,
+  TRASH, UNFINISHED, Refusal, Seers, addressOf, beforeWords, beside, button, byName, canShow, changesIn, checkbox,
+  clean, closedLine, faultLine, filesButton, folderOf, foldersAbove, fromBase64, givenHere, hasDav, icon, inFolder,
+  inOrder, isAlike, isFor, isInTrash, isNamed, isOwnTrash, isPart, isPdf, isPicture, isTrash, kindBy, lastName, latest,
+  link, make, manifestAt, menuButton, nameAt, note, nothing, offered, once, orFault, ownOf, ownTrash, ownedWords, part,
   pointOf, preview, readFile, shown, sizeWords, stars, t, toText, upload, walk, whomOf,
   withoutPool } from "./shared.js";
 import { Things } from "./things.js";
@@ -178,7 +178,7 @@ class Search {
       await walk(room, place.isHere ? place.path : ROOT, it => this.meet(it), this);
       this.tell();
     } catch (fault) {
-      this.told.textContent = fault.message;
+      Object.assign(this.told, { ariaBusy: "false", textContent: fault.message });
     }
     this.end.remove();
   }
@@ -212,6 +212,7 @@ class Search {
   tell(end = "") {
     const { looked, found, shut } = this;
     const more = found > MOST ? ` ${t.firstShown(MOST)}` : "";
+    this.told.ariaBusy = `${end !== ""}`; // (read out at the end alone)
     const isShut = shut ? `${t.shutIn(t.folders(shut))} ${t.byLink}` : "";
     this.told.textContent = `${t.found(found, looked)}${isShut}${more} ${end}`.trim();
   }

@@ -85,7 +85,7 @@ function focused() {
   if (!part("main").contains(it)) return null;
   const words = wordsOf(it);
   const count = within().filter(other => wordsOf(other) === words).indexOf(it);
-  return { words, count, row: it.closest("tr")?.rowIndex };
+  return { words, count, row: it.closest("tr")?.rowIndex, within: it.closest("th") ? "th a" : "td button" };
 }
 
 export const heading = () => part("main").querySelector("h1 button, h1[tabindex]");
@@ -98,7 +98,7 @@ export function standing(path = null) {
     const its = path && rows.find(it => it.row?.path === path)?.row.link;
     const same = its || from && within().filter(it => wordsOf(it) === from.words)[from.count];
     const row = from?.row === undefined ? null : rows[Math.min(from.row, rows.length - 1)];
-    (same ?? row?.querySelector("td button") ?? heading())?.focus({ preventScroll: true });
+    (same ?? row?.querySelector(from.within) ?? heading())?.focus({ preventScroll: true });
     scrollTo({ top, behavior: "instant" });
     if (its) its.scrollIntoView({ block: "nearest" });
   };

@@ -1,6 +1,7 @@
 /** What stands above each view: the way to it, its name, and the other views of it. */
 import { takeRows } from "./drag.js";
-import { ROOT, addressOf, foldersAbove, isTrash, link, make, menuButton, nameAt, nameText, shown, t } from "./shared.js";
+import { ROOT, addressOf, foldersAbove, isTrash, link, make, menuButton, nameAt, nameText, shown,
+  t } from "./shared.js";
 
 const VIEWS = [["open", t.contents], ["access", t.share], ["who", t.whoMay]];
 const nameOf = (place, path) => (path === ROOT ? place.room : isTrash(path) ? t.trash : nameAt(path));

@@ -1,5 +1,6 @@
 /** Shows the place that the address names, looks again at a shown folder, and has keys for all of it. */
 import { showAccess } from "./access.js";
+import { star } from "./actions.js";
 import * as busy from "./busy.js";
 import { forgetFound, searchFor, showContents, showFind, showRecent, showShared } from "./contents.js";
 import { takeDrops, useClipboard } from "./drag.js";
@@ -8,9 +9,9 @@ import { logOut } from "./login.js";
 import { showMatrix } from "./matrix.js";
 import { sessionOfTab, stayAs, userNow } from "./session.js";
 import { LANGUAGES, NOENT, ROOT, Refusal, Room, addressOf, arrive, ask, button, calledIn, choose, closeAll, closedLine,
-  drawRail, end, faultLine, fileOfFront, forget, forgetOthers, heading, isMenuOpen, isPart, isRefused, isUnsaved,
-  isWithin, language, learnDav, learnNames, leave, make, namesOf, onSubmit, once, openMenu, part, pass, pathOf, placeOf,
-  say, settle, showHelp, shown, standing, t, tellFault, untilClosed, warn, watch } from "./shared.js";
+  drawRail, end, faultLine, fileOfFront, forget, forgetOthers, heading, isMenuOpen, isPart, isRefused, isStarred,
+  isUnsaved, isWithin, language, learnDav, learnNames, leave, make, namesOf, onSubmit, once, openMenu, part, pass,
+  pathOf, placeOf, say, settle, showHelp, shown, standing, t, tellFault, untilClosed, warn, watch } from "./shared.js";
 
 const VIEWS = { __proto__: null, open: showContents, access: showAccess, who: showMatrix, find: showFind,
   recent: showRecent, shared: showShared };
@@ -48,10 +49,12 @@ class App {
     }
   }
 
-  /** Tells what was done, and shows what is there then; `moved` is where what was shown is now. */
-  async done(words, moved = null, undo = null) {
+  /** Tells what was done, and shows what is there then; `moved` is where what was shown is now. What was found stays
+   * where it `isFound` by its name still. */
+  async done(words, moved = null, undo = null, isFound = false) {
     const here = placeOf(location.hash);
-    forgetFound();
+    if (!isFound) forgetFound();
+    else if (here?.view !== "open") this.things?.renew();
     this.saying = [words, undo && (() => this.attempt(t.undo, undo))];
     if (here && moved && isWithin(here.path, moved.from)) { // (the next place tells it)
       return location.replace(addressOf({ room: here.room, path: moved.to }));
@@ -100,7 +103,9 @@ class App {
       return await (VIEWS[place.view] ?? showContents)(this, place);
     } catch (fault) {
       if (isRefused(fault, NOENT)) forget(this, place.path);
-      return [...head(place, { hasViews: false }), closedLine(fault, place)];
+      const unstar = () => (star(this, place.path), this.show());
+      return [...head(place, { hasViews: false }), closedLine(fault, place,
+        this.room && isStarred(this, place.path) && button(t.star(true), unstar, "small"))];
     }
   }
 
@@ -189,7 +194,8 @@ async function look(app) {
   if (app.room) app.room.roster = null;
   forgetFound();
   if (!its) {
-    const isOther = await document.querySelector("main > .tools")?.isOther?.();
+    const find = it => document.querySelector(`main > ${it}`);
+    const isOther = find(".fault") ?? await find(".tools")?.isOther?.();
     return isOther && !isAtWork() ? app.show(standing()) : app.things?.renew();
   }
   const [had, found, list] = await Promise.all([its.list, app.room.look("LIST", its.path, { keep: false }),

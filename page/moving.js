@@ -167,8 +167,10 @@ export async function emptyTrash(app, path) {
 
 async function whyNotBack(room, path, place) {
   if (!place) return t.noPlace;
-  const fault = await orFault(room.run("RENAME", path, { to: place }), it => isRefused(it, EXIST, NOENT, NOTDIR));
+  const fault = await orFault(room.run("RENAME", path, { to: place }),
+    it => isRefused(it, ACCESS, EXIST, NOENT, NOTDIR));
   if (!(fault instanceof Refusal)) return "";
+  if (fault.code === ACCESS) return fault.message;
   return fault.code === EXIST ? t.placeTaken(shown(place)) : t.placeGone(shown(folderOf(place)));
 }
 

@@ -76,5 +76,9 @@ const drawn = ([title, links]) => links.length > 0 &&
 export async function drawRail(app, place) {
   const [rail, its] = [part("rail"), make("div", (await sectionsOf(app, place)).map(drawn))];
   if (its.innerHTML !== rail.firstChild?.innerHTML) rail.replaceChildren(its);
-  rail.onclick = event => event.target.closest("a") && rail.hidePopover();
+  rail.onclick = ({ target }) => {
+    const { href } = target.closest("a") ?? {};
+    if (href) rail.hidePopover();
+    if (href === location.href) app.show();
+  };
 }

@@ -2,7 +2,7 @@
  * words with the remedy (docs/CODES.md). */
 import { faultLine, letterLink } from "./dom.js";
 import { ALL, FILE, FOLDER, PASS_THROUGH, READ, rightsIn } from "./lists.js";
-import { addressOf, calledIn, displayName, foldersAbove, personText, shown } from "./names.js";
+import { addressOf, calledIn, displayName, foldersAbove, isWithin, personText, shown } from "./names.js";
 import { toldAt, untilAnswered } from "./wire.js";
 import { t } from "./words.js";
 
@@ -19,7 +19,8 @@ function askWords(whose) {
 function lackedRight({ bit, path }, command, whose) {
   const kind = ["READ", "WRITE", "APPEND"].includes(command.cmd) ? FILE : FOLDER; // (above, only passing can lack)
   const called = it => shown(calledIn(whose.room, it));
-  const words = [READ, PASS_THROUGH].includes(bit) ? t.noAccess(called(command.path ?? path)) :
+  const asked = isWithin(command.path ?? path, path) ? command.path ?? path : path; // (it may be where it was to go)
+  const words = [READ, PASS_THROUGH].includes(bit) ? t.noAccess(called(asked)) :
     t.lacksRight(called(path), rightsIn(bit, kind));
   return `${words} ${askWords(whose)}`;
 }

@@ -151,7 +151,7 @@ export const t = {
   save: "Speichern", text: "Text", notReplaced: "Noch ist nichts gespeichert.", appendTo: "Text hinzufügen zu {0}",
   onOwnLine: "Der Text kommt ans Ende, auf eine eigene Zeile.", doTo: "{0}: {1}", replaced: "Gespeichert.",
   keptAs: "Ihre Fassung ist aufbewahrt als {0}.", keepCopy: "Meine als Kopie behalten",
-  theirBytes: "Diese Bytes sind kein Text.", isMade: "{0} ist angelegt.", isNow: "{0} {2|ist|sind} jetzt {1}.",
+  theirBytes: "Diese Bytes sind kein Text.", isMade: "{0} ist angelegt.", isNow: "{0} {2|ist jetzt|sind jetzt in} {1}.",
   keepOld: "Alte Fassung im Papierkorb behalten", textBack: "Der alte Text ist wieder da.",
   goOnWithMine: "Mit meiner weitermachen", yoursThen: "Alle mit Zugriff auf diesen Ordner haben auch darauf Zugriff.",
   isHeld: "{0} {1|ist|sind} {2|ausgeschnitten|kopiert}: Strg V legt {1|es|sie} in den gezeigten Ordner.",

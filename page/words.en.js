@@ -142,7 +142,7 @@ export const t = {
   make: "Create", replace: "Replace", save: "Save", text: "Text", notReplaced: "Nothing is saved yet.",
   appendTo: "Add text to {0}", onOwnLine: "It is added at the end, on a line of its own.", doTo: "{0} {1}",
   replaced: "Saved.", keptAs: "Yours is kept as {0}.", keepCopy: "Keep mine as a copy",
-  theirBytes: "These bytes are no text.", isMade: "{0} created.", isNow: "{0} {2|is|are} now {1}.",
+  theirBytes: "These bytes are no text.", isMade: "{0} created.", isNow: "{0} {2|is now|are now in} {1}.",
   keepOld: "Keep the old version in the trash", textBack: "The old text is back.", goOnWithMine: "Go on with mine",
   yoursThen: "Everyone with access to this folder will have access to it.",
   isHeld: "{0} {1|is|are} {2|cut|copied}: Ctrl V puts {1|it|them} into the folder shown.",

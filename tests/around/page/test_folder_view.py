@@ -377,6 +377,34 @@ def test_a_folder_that_is_closed_or_gone_is_not_shown_to_who_comes_back(club, br
     assert "a.txt" not in browser.shown()
 
 
+def test_what_opens_again_is_shown_to_who_comes_back(club, browser):
+    """Also to who presses the place on which they are, or takes it off the favourites while it is closed."""
+    def comes_back_to(words):
+        browser.script("dispatchEvent(new Event('focus'))")  # (once more where the page was at work)
+        return words in browser.text_of("main")
+    closed, starred = "You don't have access to /closing/a.txt.", "#rail ul[aria-label='Favourites'] a"
+    club.lay(("/closing/a.txt", b"of ann"))
+    club.lets("eve", "/closing", VIEW)
+    club.log_in("eve")
+    club.open("/closing")
+    by_menu(browser, "a.txt", "Add to favourites")
+    club.sets("/closing", entry("OWNER@", ALL), flags=2)
+    club.open("/closing/a.txt")
+    browser.sees(closed, "main")
+    club.lets("eve", "/closing", VIEW)
+    browser.until("the text", lambda: comes_back_to("of ann"))
+    club.sets("/closing", entry("OWNER@", ALL), flags=2)
+    browser.until("that it is closed", lambda: comes_back_to(closed))
+    club.lets("eve", "/closing", VIEW)
+    browser.script(f"document.querySelector({starred!r}).click()")
+    browser.sees("of ann", "main")
+    club.sets("/closing", entry("OWNER@", ALL), flags=2)
+    browser.until("that it is closed", lambda: comes_back_to(closed))
+    browser.press("Remove from favourites")
+    browser.until("it is gone there", lambda: browser.script(TEXTS, starred) == [])
+    browser.until("no star is offered", lambda: "favourites" not in browser.text_of("main"))
+
+
 def test_others_changes_are_seen_by_who_does_nothing(club, browser, frame):
     """Here after a second in the place of a minute."""
     quick = "const slow = setInterval; setInterval = (task, time) => slow(task, time / 60);"

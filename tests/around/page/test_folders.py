@@ -12,6 +12,7 @@ from room_client.manifest import read_manifest
 
 from .club import DIALOG, FOUND, NAME, TEXTS, by_menu, ends, of_folder, row, search, search_in, to_folder
 
+PEN = ".things .pen:not([hidden])"
 LARGE = bytes(range(256)) * 512 + b"seven"
 TREE = {"/t/a.txt": b"a", "/t/..\\x:y": b"slip", "/t/sub/b.txt": b"b", "/t/sub/deep/\u00fc.txt": "\u00fc".encode(),
         "/t/empty/": b"", "/t/sub/large.bin": LARGE}
@@ -141,6 +142,22 @@ def test_search_gives_rows_like_any(club, browser, tree):
     browser.until("it is found by its new name", lambda: browser.script(FOUND) == ["/t/sub/larger.bin"])
     browser.follow("/t/sub")
     browser.sees("larger.bin", ".things")
+
+
+def test_search_goes_on_where_a_text_was_saved(club, browser):
+    """What was found stays, with its new size, and so does the reader, who is told the end of a search alone."""
+    club.lay(("/s/one.txt", b"1"), ("/s/two.txt", b"2"))
+    search_in(club, "/s", "txt")
+    ends(browser, "2 results among 2 names.")
+    assert browser.script("return document.querySelector('main [role=status]').ariaBusy") == "false"
+    browser.until("pens", lambda: browser.script(f"return document.querySelectorAll('{PEN}').length") == 2)
+    browser.script(f"document.querySelectorAll('{PEN}')[1].focus()")
+    browser.keys("enter")
+    browser.fill("Text", "second")
+    browser.press("Save")
+    browser.sees("Saved.", "#notices")
+    browser.until("its size", lambda: "6 bytes" in row(browser, "two.txt"))
+    assert browser.script("return document.activeElement.closest('tr')?.rowIndex") == 2
 
 
 def test_search_says_what_it_is_a_list_of(club, browser, tree):

@@ -102,7 +102,8 @@ def test_share_beside_a_denial(club, browser, passed, tells):
     club.open(PATH, "access")
     browser.sees("Denied", ".share")
     give(browser, "Full control")
-    browser.sees("Bob Ray (bob) may still not make folders or large files in it, make documents in it and remove", "dialog")
+    browser.sees("Bob Ray (bob) may still not make folders or large files in it, make documents in it and remove",
+                 "dialog")
     browser.press("Close", DIALOG)
     browser.sees("These cannot get there, or not do it: Bob Ray (bob).", "#notices")
     browser.press("Stop sharing with the group staff")

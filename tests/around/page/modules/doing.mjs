@@ -223,7 +223,7 @@ test("who can see what is moved is told with its new place", async () => {
     return 0;
   };
   await moveInto(app, ["/f/a", "/d/b"], "/e");
-  assert.equal(app.told, "2 items are now /e. Who can see it: Everyone here.");
+  assert.equal(app.told, "2 items are now in /e. Who can see it: Everyone here.");
   app.room.users = async () => null;
   await moveInto(app, ["/e/b"], "/d");
   assert.equal(app.told, "/e/b is now /d/b.");
