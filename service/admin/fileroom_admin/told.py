@@ -17,6 +17,7 @@ DONE_MOST = 24  # bytes of a reply: {"code":0,"size":65536} is the longest of wh
 ODD_MOST = 200  # letters of one in an odd form
 WAITING = 5000  # changes that may still be sent again, or go on
 OF_A_FILE = {"MKDIR", "CREATE", "WRITE", "APPEND", "RENAME", "REMOVE", "CHOWN"}
+BEGIN = b'{"time":"'  # of a line: within one such marks have a backslash
 APART = datetime.timedelta(minutes=10)  # pieces of a large file that come later than this are another upload
 # of a large file (docs/FILES.md)
 PART = re.compile(r"(.+?)/\.room-(?:file|(?:writing|pieces|gone|new)-[0-9a-f]{16})(?:/.*)?")
@@ -40,7 +41,9 @@ def lines_of(places, since):
             continue
         with (gzip.open if path.endswith(".gz") else open)(path, "rb") as file:
             try:
-                yield from file
+                for line in file:
+                    at = line.rfind(BEGIN, 1)  # (of what a full disk cut, the next one follows in its line)
+                    yield from [line[:at], line[at:]] if at > 0 else [line]
             except (EOFError, gzip.BadGzipFile, zlib.error):
                 yield b"what is not there"  # (no line, so that is told)
 
@@ -221,7 +224,7 @@ def log(places, room, given, say):
     """Those of a room, of one user, at or below a path, since a time, as wanted."""
     since = since_when(given.since) if given.since else None
     begin = since and begins(places, room, since)
-    odd, shown, lists = 0, of_backups().shown, Lists(places, room, begin)
+    odd, seen, where, shown, lists = 0, "", "", of_backups().shown, Lists(places, room, begin)
     told = Told(lambda text: say(shown(text)), lists)
 
     def is_wanted(change, command):
@@ -232,12 +235,13 @@ def log(places, room, given, say):
         try:
             change = Change(line, is_wanted)
         except (ValueError, KeyError, TypeError, AttributeError):
-            odd += 1
+            odd, where = odd + 1, seen
             continue
+        seen = f", the last after {change.time.isoformat()}"
         lists.begin = lists.begin or change.time
         if change.room == room:
             told.take(change)
     with lists.stack:
         told.end()
     if odd:
-        raise Fault(f"{odd} lines of the log cannot be read")
+        raise Fault(f"{odd} lines of the log cannot be read{where}")

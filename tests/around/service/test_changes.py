@@ -11,7 +11,7 @@ import sys
 import pytest
 from given import each
 from nginx import Front
-from served import HANGS, HERE, Line, Room, bytes_of, message, put_file
+from served import HANGS, HERE, Line, Room, bytes_of, message, put_file, text_of
 
 from .contents import INSIDE, measured
 from .machines import ADMIN
@@ -22,20 +22,21 @@ USERS = {"ann": "ann-word", "bob": "bob-word"}
 MOST = 70 << 10  # KiB of memory, however long the log is
 LONGEST = 7500  # bytes of a line of the log, whatever is asked
 LOG = "var/log/fileroom"
+TIME = "2026-11-28T09:00:00+00:00"
 
 
 # Logs that were written before
 
 def log_of(root, lines, name="changes.log"):
     """A root whose log has these, by ann."""
-    about = {"time": "2026-11-28T09:00:00+00:00", "from": "::1", "user": "ann", "status": "200", "length": "10"}
+    about = {"time": TIME, "from": "::1", "user": "ann", "status": "200", "length": "10"}
     os.makedirs(os.path.join(root, LOG), exist_ok=True)
     kind = gzip.open if name.endswith(".gz") else open
     with kind(os.path.join(root, LOG, name), "wt", encoding="utf-8") as file:
         for at, line in enumerate(lines):
             asked = line.pop("asked", None) or json.dumps(line.pop("body"))
             slot = f"plans/v1/sessions/{SID}/slots/{line.pop('slot', at)}/1"
-            file.write(json.dumps(about | {"slot": slot, "asked": asked} | line) + "\n")
+            file.write(json.dumps(about | {"slot": slot, "asked": asked} | line, separators=(",", ":")) + "\n")
     return root
 
 
@@ -126,7 +127,7 @@ def test_a_log_that_was_cut_short(folder):
     log_of(folder, made(2))
     status, lines, faults = tells(folder)
     assert (status, [line.split()[2] for _, line in lines]) == (1, ["/0", "/1", "/2"])
-    assert faults == "fileroom-admin: 1 lines of the log cannot be read\n"
+    assert faults == f"fileroom-admin: 1 lines of the log cannot be read, the last after {TIME}\n"
 
 
 CHANGES = [{"body": {"cmd": "MKDIR", "path": "/a"}}, {"body": {"cmd": "RENAME", "path": "/a/b", "to": "/a/c"}},
@@ -150,11 +151,25 @@ def test_no_time(folder):
     assert tells(log_of(folder, []), "--since", "soon")[0] == 1
 
 
+def test_a_line_that_a_full_disk_cut(folder):
+    """The next one stands behind it in the same line, and is told, as what is like it in a command is not."""
+    name = 'x{"time":"2020'
+    log_of(folder, [{"body": {"cmd": "MKDIR", "path": f"/{it}"}} for it in ("a", name, "cut", "b")])
+    path = os.path.join(folder, LOG, "changes.log")
+    *whole, cut, last = text_of(path).splitlines(keepends=True)
+    put_file(path, "".join([*whole, cut[:70], last]))
+    status, lines, faults = tells(folder)
+    assert (status, [it.split()[2] for _, it in lines]) == (1, ["/a", f"/{name}", "/b"])
+    assert faults == f"fileroom-admin: 1 lines of the log cannot be read, the last after {TIME}\n"
+
+
 def test_a_log_that_was_turned_over_and_a_line_that_cannot_be_read(folder):
     log_of(folder, [{**it} for it in CHANGES], "changes.log.2.gz")
     put_file(os.path.join(folder, LOG, "changes.log.1"), "no line\n")
     status, lines, faults = tells(folder)
-    assert (status, len(lines), faults) == (1, 6, "fileroom-admin: 1 lines of the log cannot be read\n")
+    last = CHANGES[-1]["time"]
+    assert (status, len(lines)) == (1, 6)
+    assert faults == f"fileroom-admin: 1 lines of the log cannot be read, the last after {last}\n"
 
 
 # The log of a real front
