@@ -32,7 +32,7 @@ export function offersFor(app, path, kind, { own, above, size }) {
   const isOver = (isLarge || isUnfinished) && has(own, ADD_FILE, ADD_FOLDER, PASS);
   const isWhole = isFolder && isTrash(path); // (somebody's, with what they may want back)
   const isMovable = !isTop && !isWhole && (has(own, DELETE) || has(above, DELETE_CHILD));
-  const replaces = isUnfinished ? null : { mayKeep: has(own, READ) && has(above, ADD_FILE, ADD_FOLDER) };
+  const replaces = isUnfinished ? null : { mayRead: has(own, READ), mayAdd: has(above, ADD_FILE, ADD_FOLDER) };
   const at = view => addressOf({ view, room: app.room.name, path });
   return offered([
     [isFile && has(own, READ) || isLarge && has(own, READ, PASS),

@@ -218,8 +218,8 @@ class Search {
   }
 }
 
-/** What others own, and share by name with the caller or a group of theirs; not what is in such a folder. (Of folders
- * that tell no names, where the caller has been.) */
+/** What others share by name with the caller or a group of theirs; of folders that tell no names, where the caller has
+ * been. */
 class Shared extends Search {
   async begin() {
     const { app, room } = this;

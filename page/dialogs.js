@@ -26,7 +26,10 @@ addEventListener("beforeunload", event => {
   if (isUnsaved() || !isEnding && running.size > 0) event.preventDefault();
 });
 
-export const closeAll = () => open.forEach(it => it.end(null));
+export function closeAll() {
+  open.forEach(it => it.end(null));
+  shownNow?.close();
+}
 
 export async function untilClosed() {
   while (open.size > 0) await Promise.race([...open].map(it => it.closed));
@@ -48,7 +51,9 @@ class Dialog {
       fields.map(([label, field]) => (label ? labelled(label, field) : field)), this.fault, this.isText && this.leaving,
       this.atWork, make("p.actions", isFinal && leave, does && make(isFinal ? "button" : "button.main", does),
         others.map(it => button(it.words, () => this.run(it.task ?? (() => {}), it.value))), !isFinal && leave));
-    this.element = make("dialog", { ariaLabel: title, closedby: "none", onkeydown: event => this.key(event),
+    const told = texts.filter(it => it?.matches?.("p, ul")).map(it => it.textContent);
+    this.element = make("dialog", { ariaLabel: title, ariaDescription: does ? told.join(" ") : null, closedby: "none",
+      onkeydown: event => this.key(event),
       oncancel: event => event.target === this.element && event.preventDefault() }, this.form);
     this.start = this.now;
   }

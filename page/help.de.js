@@ -3,7 +3,7 @@ export const help = `
 Ein Klick auf den Namen öffnet es; der Knopf ⋯ einer Zeile zeigt, was Sie damit tun dürfen.
 **Text hinzufügen** setzt am Ende eines Dokuments Zeilen an, auch wo es jemand anderes gleichzeitig tut. **Bearbeiten**
   ersetzt alles und zeigt beide Texte, wenn es jemand inzwischen geändert hat; mit dem Haken kommt die alte Fassung in
-  Ihren Papierkorb. **Neue Fassung hochladen** ersetzt es durch eine Datei und behält auf Wunsch die alte daneben.
+  Ihren Papierkorb. **Neue Fassung hochladen** ersetzt es durch eine Datei.
 **Freigeben**: Namen eingeben und anklicken, was die Person darf.
 Was Sie anlegen, auch eine Kopie, gehört Ihnen. **Entfernen** legt es in Ihren Papierkorb, wo Sie einen haben: der
   Weg dorthin steht neben der Liste (in einem schmalen Fenster hinter ☰). Ein neues Passwort gibt Ihre IT.

@@ -3,7 +3,7 @@ export const help = `
 A name opens it; the button ⋯ of a row has what you may do with it.
 **Add text** adds lines at the end of a document, also while somebody else does. **Edit** replaces all of it, and shows
   both texts if somebody changed it meanwhile; with its tick the old version goes to your trash. **Upload a new
-  version** replaces it by a file, and keeps the old one beside it if you want that.
+  version** replaces it by a file.
 **Share**: type a name, and press what they may do.
 What you make, a copy too, is yours. **Remove** moves it to your trash, where you have one: the way to it stands
   beside the list (in a narrow window behind ☰). A new password comes from whoever runs the room.

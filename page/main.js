@@ -49,8 +49,7 @@ class App {
     }
   }
 
-  /** Tells what was done, and shows what is there then; `moved` is where what was shown is now. What was found stays
-   * where it `isFound` by its name still. */
+  /** Tells what was done, and shows what is there: where it `moved`. What was found stays if it `isFound` still. */
   async done(words, moved = null, undo = null, isFound = false) {
     const here = placeOf(location.hash);
     if (!isFound) forgetFound();

@@ -257,11 +257,15 @@ export async function newVersion(app, path, [it], replaces) {
   const fault = faultOf({ names: [name], file }, folder);
   if (fault) return tellFault(t.nothingSent(fault), aboutOf(app.room, path));
   const wanted = { path, file, isNew: false, replaces: replaces !== null };
-  const before = t.before(new Date().toISOString().slice(0, 10));
-  const keep = async () => { wanted.kept = await keepBeside(app.room, path, before); };
-  const mayGo = !replaces || await ask({ title: t.doTo(t.replace, shown(name)), does: t.replace,
-    words: t.takesPlace(shown(file.name), sizeWords(file.size)),
-    others: replaces.mayKeep ? [{ words: t.keepBoth, value: true, task: keep }] : [] });
+  const keep = async () => {
+    wanted.kept = await keepBeside(app.room, path, t.before(new Date().toISOString().slice(0, 10)));
+  };
+  const { path: trash } = replaces?.mayRead ? await trashOf(app).catch(() => ({})) : {};
+  const mayGo = !replaces || await ask({ title: t.doTo(t.replace, shown(name)),
+    does: trash ? t.replaceAndKeep : t.replace, task: () => { wanted.trash = trash; },
+    words: t.takesPlace(shown(file.name), sizeWords(file.size)) + (trash ? "" : ` ${t.forGood}`),
+    others: offered([[trash, { words: t.replace, value: true }],
+      [replaces.mayRead && replaces.mayAdd, { words: t.keepBoth, value: true, task: keep }]]) });
   if (mayGo) await start(app, [wanted], folder);
 }
 

@@ -111,11 +111,13 @@ def test_a_row_has_room_on_a_phone(club, browser, tells, view):
 
 
 def test_a_dialog_can_be_perceived(club, browser, text):
-    """The borders of its fields, and its words."""
+    """The borders of its fields, and its words, which are read with its title."""
     club.open(f"{TOP}/a.txt")
     browser.press("Add text")
     browser.sees("on a line of its own", "dialog")
     assert pale(browser) == NOTHING_PALE
+    read = browser.script("return document.querySelector('dialog').ariaDescription")
+    assert read == "It is added at the end, on a line of its own."
 
 
 def test_where_people_log_in_can_be_perceived(club, browser):

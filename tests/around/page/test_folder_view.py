@@ -354,6 +354,20 @@ def test_link(club, browser, frame):
 
 # By itself
 
+def test_a_menu_that_is_left_open_holds_up_nothing(club, browser, frame):
+    """Who goes back while it is open sees later what others do."""
+    club.open()
+    club.open(TOP)
+    browser.press("More for attic")
+    browser.sees("Copy the link", ".menu")
+    browser.script("history.back()")
+    browser.until("the top", lambda: browser.script(PLACE) == "#open/club")
+    assert not browser.script("return document.querySelector('.menu') !== null")
+    club.lay("/of eve.txt")
+    browser.script("dispatchEvent(new Event('focus'))")
+    browser.sees("of eve.txt", ".things")
+
+
 def test_others_changes_are_seen_by_who_comes_back(club, browser, frame):
     club.lay(f"{TOP}/of eve.txt")
     browser.script("dispatchEvent(new Event('focus'))")

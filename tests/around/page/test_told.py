@@ -114,7 +114,7 @@ def test_fault_of_a_zip_tells_what_it_lacks(club, browser, closed):
     of_folder(browser, "Download as zip")
     browser.sees("told.zip is made, of 10 of 11 items.", "#notices")
     assert told(browser) == sorted([
-        f"{TOP}/closed is empty in it: you may not look into it.",
+        f"{TOP}/closed is empty: you may not look into it.",
         f"{TOP}/{SHUT[0]} is not in it. You don't have access to {TOP}/{SHUT[0]}. Ask its owner, or ann, who owns a "
         "folder above."])
     with zipfile.ZipFile(io.BytesIO(club.saved("told.zip"))) as file:

@@ -7,6 +7,7 @@ import re
 
 import cases
 import pytest
+from room_client import trash
 
 from .club import ALL, DIALOG, MIB, NAME, PIECE, PLACE, SLOW, VIEW, choose, entry, make_new, row
 from .test_typed import ASKED
@@ -74,7 +75,7 @@ def test_upload_of_what_cannot_be(club, browser, big):
     club.put("/big", club.on_disk("too large", bytes(16 * MIB + 1)), told=f"{TOO_LARGE} Nothing was sent.")
     club.put("/big", *map(club.on_disk, files, files.values()))
     browser.sees("2 of 3 cannot be uploaded", "dialog")
-    for told in TOO_LARGE, f"{LONG}: This counts as 66 letters, and 64 are the most: letters with accents":
+    for told in TOO_LARGE, f"{LONG}: This counts as 66 letters, and 64 are the most. Accents":
         browser.sees(told, "dialog li")
     assert [it for it in club.lossy.bodies if b"CREATE" in it or b"MKDIR" in it] == []
     browser.press("Upload the other 1")
@@ -86,7 +87,7 @@ def test_upload_of_what_cannot_be(club, browser, big):
 
 def replace(browser, path, words="Replace"):
     choose(browser, "Upload a new version", path)
-    browser.sees("takes the place of what is there, which is gone then.", "dialog")
+    browser.sees("takes the place of what is there. It cannot be brought back.", "dialog")
     browser.press(words, DIALOG)
 
 
@@ -107,6 +108,22 @@ def test_upload_of_a_new_version_by_a_rows_menu(club, browser, big):
     browser.sees("uploaded", "#notices")
     old, = [it for it in club.names("/big") if it.startswith("members (before")]
     assert (club.text("/big/members.csv"), club.text(f"/big/{old}")) == ("ann;bob;eve", "ann;bob")
+
+
+def test_upload_of_a_new_version_keeps_the_old_in_the_trash(club, browser):
+    """Where its user has one; without is a choice of its own."""
+    place = trash.places_of("ann")[0]
+    club.make_trash(place, "ann")
+    club.lay(("/plans/june.txt", b"first"))
+    club.open("/plans/june.txt")
+    for data, words in (b"second", "Replace, and keep the old in the trash"), (b"third", "Replace"):
+        choose(browser, "Upload a new version", club.on_disk("june.txt", data))
+        browser.sees("takes the place of what is there.", "dialog")
+        assert "cannot be brought back" not in browser.text_of("dialog")
+        browser.press(words, DIALOG)
+        browser.until(words, lambda: club.text("/plans/june.txt") == data.decode())
+    kept, = club.names(place)
+    assert club.text(f"{place}/{kept}") == "first"
 
 
 def test_upload_by_a_name_that_is_there(club, browser, large):
@@ -182,7 +199,7 @@ def test_upload_that_is_stopped(club, browser, big):
     browser.go("about:blank")
     club.lossy.lose("")
     club.open("/big")
-    browser.sees("/big/stopped was not wholly uploaded, copied or removed as the page ended", "#notices")
+    browser.sees("/big/stopped was not wholly uploaded, copied or removed: do it again.", "#notices")
     browser.until("it is shown", lambda: "unfinished upload" in row(browser, "stopped"))
     browser.follow("stopped")
     browser.sees("was stopped or goes on", "main")
