@@ -52,11 +52,10 @@ async function folder(app, place, stat, rights, found) {
   const bar = make("p.tools.makers", adder,
     mayPut && filesButton(t.upload, {}, chosen => upload(app, path, chosen)), share,
     mayEmpty && button(t.emptyTrash, () => emptyTrash(app, path)));
-  if (found instanceof Refusal) return [...top, bar, about(place, stat, t.kinds.folder),
+  if (found instanceof Refusal) return [...top, bar, about(place, stat),
     closedLine(found, place, rights.own & PASS_THROUGH ?
       [t.byLink, " ", link(addressOf({ ...place, view: "shared" }), t.sharedWithYou)] : "")];
   note(app, path, true);
-  // (one's own has its way beside)
   const names = listed.filter(([it]) => !isPart(it) && !(trash && inFolder(path, it) === TRASH)).sort(byName);
   const changes = names.length > 0 && hasDav(app) && !isInTrash(path) ? changesIn(app, [path]) : null;
   const things = names.length ? new Things(app, place, names, rights, changes) : null;

@@ -21,15 +21,11 @@ export const watchEnd = what => added(running, what);
 export const isUnsaved = () => !isEnding && [...typed].some(it => it());
 
 export const end = () => { isEnding = true; };
+export const mayEnd = () => isEnding || !isUnsaved() && running.size === 0;
 
-addEventListener("beforeunload", event => {
-  if (isUnsaved() || !isEnding && running.size > 0) event.preventDefault();
-});
+addEventListener("beforeunload", event => mayEnd() || event.preventDefault());
 
-export function closeAll() {
-  open.forEach(it => it.end(null));
-  shownNow?.close();
-}
+export const closeAll = () => open.forEach(it => it.end(null));
 
 export async function untilClosed() {
   while (open.size > 0) await Promise.race([...open].map(it => it.closed));
@@ -165,7 +161,7 @@ export async function showHelp() {
 
 const EDGE = 8; // pixels that stay free beside it
 let shownNow = null;
-export const isMenuOpen = () => shownNow !== null;
+export const isMenuOpen = () => Boolean(shownNow?.element.isConnected);
 
 function itemElements(it, close) {
   const how = { role: it.isNow === undefined ? "menuitem" : "menuitemradio", ariaChecked: it.isNow, tabIndex: -1,
@@ -200,7 +196,7 @@ class Menu {
     this.anchor.ariaExpanded = "true";
     this.element.showPopover();
     this.place();
-    this.items[0]?.focus();
+    (this.element.querySelector("[aria-checked=true]") ?? this.items[0])?.focus();
   }
 
   place() {

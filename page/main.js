@@ -5,13 +5,14 @@ import * as busy from "./busy.js";
 import { forgetFound, searchFor, showContents, showFind, showRecent, showShared } from "./contents.js";
 import { takeDrops, useClipboard } from "./drag.js";
 import { head } from "./heads.js";
-import { logOut } from "./login.js";
+import { logOut, onLogin, tellLogin } from "./login.js";
 import { showMatrix } from "./matrix.js";
 import { sessionOfTab, stayAs, userNow } from "./session.js";
 import { LANGUAGES, NOENT, ROOT, Refusal, Room, addressOf, arrive, ask, button, calledIn, choose, closeAll, closedLine,
   drawRail, end, faultLine, fileOfFront, forget, forgetOthers, heading, isMenuOpen, isPart, isRefused, isStarred,
-  isUnsaved, isWithin, language, learnDav, learnNames, leave, make, namesOf, onSubmit, once, openMenu, part, pass,
-  pathOf, placeOf, say, settle, showHelp, shown, standing, t, tellFault, untilClosed, warn, watch } from "./shared.js";
+  isUnsaved, isWithin, language, learnDav, learnNames, leave, make, mayEnd, namesOf, onSubmit, once, openMenu, part,
+  pass, pathOf, placeOf, say, settle, showHelp, shown, standing, t, tellFault, untilClosed, warn,
+  watch } from "./shared.js";
 
 const VIEWS = { __proto__: null, open: showContents, access: showAccess, who: showMatrix, find: showFind,
   recent: showRecent, shared: showShared };
@@ -155,6 +156,7 @@ async function leaveAll() {
   if (isUnsaved() && !await mayLose()) return;
   end();
   const isOut = await logOut();
+  tellLogin();
   document.title = "fileroom"; // (the next one may be somebody else)
   history.replaceState(null, "", "/");
   const [title, words] = isOut ? [t.loggedOut, t.forgotten] : [t.notLoggedOut, t.notForgotten];
@@ -238,6 +240,7 @@ async function start() {
   watch(() => part("main").querySelector(".typed")?.isUnsaved());
   addEventListener("hashchange", () => app.come());
   addEventListener("pageshow", ({ persisted }) => persisted && stayAs(user));
+  onLogin(() => mayEnd() && stayAs(user));
   addEventListener("focus", () => look(app));
   setInterval(() => look(app), MINUTE);
   addEventListener("keydown", go);

@@ -327,7 +327,7 @@ def test_menu_on_a_phone(club, browser, frame):
 
 def test_a_phone_is_told_of_no_drops(club, browser, frame):
     """Which a mouse makes."""
-    drops = "Files can be dropped anywhere on this page."
+    drops = "Drop files anywhere on this page."
     browser.sees(drops, "main")
     browser.size(360, 740)
     assert drops not in browser.text_of("main .about")

@@ -125,14 +125,14 @@ def test_pictures_turn(club, browser):
 
 @pytest.mark.parametrize("data", [PDF, PDF + bytes(PIECE)], ids=["small", "large"])
 def test_a_pdf(club, browser, data):
-    """One click shows it by the browser's viewer, another in a tab of its own, and never as a page."""
+    """One click shows it by the browser's viewer, another in its own tab, and never as a page."""
     lay(club, {"minutes.pdf": data})
     club.open(TOP)
     browser.follow("minutes.pdf")
     frame = "return document.querySelector('iframe.viewer')?.getBoundingClientRect().height > 300"
     browser.until("it is in the page", lambda: browser.script(frame))
     before, shown = browser.tabs(), "return [document.contentType, window.ran ?? null, window.opener]"
-    browser.follow("Open this PDF in a tab of its own")
+    browser.follow("Open this PDF in its own tab")
     new = browser.until("a tab", lambda: {*browser.tabs()} - {*before})
     browser.turn_to(*new)
     kind = browser.until("its kind", lambda: browser.script("return location.href !== 'about:blank'") and

@@ -29,10 +29,11 @@ def passed(club, board):
 
 
 def give(browser, what):
-    """Chooses it in the menu of the first who has something."""
+    """Chooses it in the menu of the first who has something, which begins at what they have."""
     now = browser.script(TEXTS, ".shares > li:first-child > button")[:1]
     browser.act("//main//*[@class='shares']/li[1]/button", "click")
     browser.until("what it is", lambda: browser.script(TEXTS, "[role=menuitemradio][aria-checked=true]") == now)
+    assert browser.script("return document.activeElement.ariaChecked") == "true"
     browser.press(what, MENU)
 
 

@@ -201,7 +201,7 @@ def test_closed_folder_tells_nothing_else(club, browser):
     club.log_in("eve")
     club.open("/closed")
     told = [it for it in browser.text_of("main > :not(.head)").split("\n") if it]
-    assert told == ["Folder", "You don't have access to /closed. Ask its owner."]
+    assert told == ["You don't have access to /closed. Ask its owner."]
 
 
 def test_folder_to_pass_says_how_to_go_on(club, browser):

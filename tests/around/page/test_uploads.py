@@ -332,7 +332,7 @@ def test_upload_of_a_folder_dropped(club, browser, folder_on_disk):
     top, look = folder_on_disk
     club.lay("/dropped/")
     club.open("/dropped")
-    browser.sees("Files can be dropped anywhere on this page.")
+    browser.sees("Drop files anywhere on this page.")
     drop(browser, top)
     browser.sees("3 files uploaded", "#notices")
     look("/dropped/tree")
