@@ -264,6 +264,15 @@ def test_no_answer(service, may_count, asked):
     assert (len(service.directory.asked), service.directory.noted[0]) == (asked, "away")
 
 
+@each("may_count", [("it has none of it", False), ("it may have it", True)])
+def test_who_got_no_answer_is_asked_about_again(service, may_count):
+    service.directory.down = Down("away", may_count)
+    assert [service.ask("ann", "ann-word") for _ in range(2)] == [503] * 2
+    service.directory.down = None
+    assert [service.ask("ann", "ann-word") for _ in range(2)] == [204] * 2
+    assert len(service.directory.asked) == 3
+
+
 def test_whose_question_fails_leaves_the_place(service):
     service.directory.down = Down("away")
     assert {service.ask(f"u{at}", "x") for at in range(app.THREADS)} == {503}
@@ -340,7 +349,12 @@ def test_memory_has_a_bound(service, clock):
 def test_a_mark_is_this_processs_own():
     its = [known.Known({}) for _ in range(2)]
     assert its[0].mark("ann", "x") != its[1].mark("ann", "x")
-    assert its[0].mark("ann", "b:c") != its[0].mark("ann:b", "c")
+
+
+def test_a_mark_is_of_one_login():
+    """Whichever letters are the name's, and which the password's."""
+    its, both = known.Known({}), "ann-b.c:d e"
+    assert len({its.mark(both[:at], both[at:]) for at in range(1, len(both))}) == len(both) - 1
 
 
 # What a directory says (RFC 4511)
