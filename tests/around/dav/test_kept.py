@@ -161,6 +161,14 @@ def test_a_number_of_many_digits(tmp_path, said, name, what, of):
     assert (gate.locks.held, gate.asides.kept, said().count("damaged-")) == ({}, [], 1)
 
 
+def test_what_a_stop_left_of_a_file_of_locks(locked):
+    """Beside it lies what was to take its place: locks that were given up since do not come back with that."""
+    lock = locked.take("/a")
+    (locked.path.parent / "locks.new").write_bytes(locked.path.read_bytes())
+    locked.its.drop([lock.token])
+    assert [locked.anew().at("plans", "/a") for _ in range(2)] == [[], []]
+
+
 def test_two_thousand_locks(locked):
     """Taken, found again after a kill, and freed, in seconds; another's do not count."""
     since, held = time.process_time(), []
@@ -311,6 +319,14 @@ def test_a_step_is_on_disk_before_it_is_begun(tmp_path, said):
     assert steps.Steps(str(tmp_path / "it")).kept == {}
 
 
+def test_what_a_stop_left_of_a_file_of_steps(tmp_path):
+    """None of it stays, however long it was."""
+    path = str(tmp_path / "it")
+    (tmp_path / "it.new").write_bytes(steps.line_of([vars(STEP)]) * 9)
+    steps.write_all(path, [STEP])
+    assert steps.read_all(path, steps.Step) == [STEP]
+
+
 def test_what_is_not_come_to_is_left(tmp_path):
     """The room answers neither to the first of two, nor is the other one begun: both are there for the next."""
     its = steps.Steps(str(tmp_path / "it"))
@@ -414,11 +430,13 @@ def test_no_file_is_of_two_users(tmp_path):
 
 
 def test_what_is_kept_of_a_slot(tmp_path):
-    """A small request is written in its place, and a large one takes the file's place: both are read back."""
+    """A small request is written in its place, and a large one takes the file's place: both are read back, also where a
+    stop left something of before."""
     path = str(tmp_path / "ann@0")
     for kept, is_page in ("a", False), ("bb", True), ("c" * 90_000, False), ("", False), ("d", True):
         with contextlib.closing(visit.KeptState(path, "http://x", "ann", 1.0)) as state:
             before = os.path.exists(path) and os.stat(path).st_ino
+            (tmp_path / "ann@0.new").write_bytes(b"x" * 200_000)
             state.record(kept)
             assert (os.stat(path).st_ino == before) == is_page, kept[:9]
         with contextlib.closing(visit.KeptState(path, "http://x", "ann", 1.0)) as again:
