@@ -2,17 +2,18 @@
 import contextlib
 
 import pytest
+from room_client import files
 
 from .desk import ANNS, BOB_READS, BOB_WRITES, asks, make_folders
 
 
 @contextlib.contextmanager
-def meanwhile(desk, cmd, path, does):
-    """Ann does this past the gateway as its command at this path is on its way to the room."""
+def meanwhile(desk, cmd, path, does, *words):
+    """Ann does this past the gateway as its command at this path, with these words, is on its way to the room."""
     def happens():
         with desk.room() as room:
             does(room)
-    with desk.before(asks(cmd, f'"path":"{path}"'), happens):
+    with desk.before(asks(cmd, f'"path":"{path}"', *words), happens):
         yield
 
 
@@ -83,6 +84,18 @@ def test_a_moved_file_that_changes(desk, size, cmd):
     with meanwhile(desk, cmd, old, lambda room: room.put(new, b"newer")):
         desk.does("ann", "MOVE", new, 204, to=old)
     assert (desk.get("ann", new), desk.get("ann", old)) == (b"newer", b"n" * size)
+
+
+@pytest.mark.parametrize("size", [3, 70_000])
+def test_a_file_that_changes_before_it_is_moved(desk, size):
+    """Over another one goes what is there as it goes, not what was looked at before."""
+    old, new, newer = f"/there{size}", f"/goes{size}", b"N" * size
+    desk.does("ann", "PUT", old, 201, b"old")
+    desk.does("ann", "PUT", new, 201, b"n" * size)
+    with meanwhile(desk, "RENAME", new, lambda room: files.put(room, new, newer), f'"to":"{new}~'):
+        desk.does("ann", "MOVE", new, 204, to=old)
+    assert desk.get("ann", old) == newer
+    desk.does("ann", "GET", new, 404)
 
 
 def test_what_others_put_into_a_copy(desk):
