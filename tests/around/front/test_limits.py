@@ -120,7 +120,8 @@ def test_under_way_by_webdav(fronted, gateway):
 
 
 FORMS = [b'{"cmd":"SETLIST","path":"/a","aclflag":0,"entries":[]}', b'{"cmd":"SETLI\\u0053T","path":"/a"}',
-         b'{"path":"/a/b","cmd":"RENAME","to":"/c/b"}', b'{"cmd":"RENAME","path":"/a/b","to":"/a/c/d"}',
+         b'{"cmd":"R\\u0045NAME","path":"/a/b","to":"/c/b"}', b'{"path":"/a/b","cmd":"RENAME","to":"/c/b"}',
+         b'{"cmd":"RENAME","path":"/a/b","to":"/a/c/d"}',
          b'{"path":"/' + b"\\n" * 65_000 + b'","cmd":"SETLIST"}']
 SHORT = [b'{"cmd":"RENAME","path":"/a/b","to":"/a/c"}', b'{"cmd":"MKDIR","path":"/a"}']
 

@@ -9,8 +9,8 @@ import time
 
 import pytest
 from given import each
-from nginx import FOLDER
-from served import text_of, until, whole
+from nginx import FOLDER, login
+from served import put_file, text_of, until, whole
 
 from .conftest import LONGEST_NAME
 from .sides import SLOT, SOON, begun, log_of
@@ -18,7 +18,10 @@ from .sides import SLOT, SOON, begun, log_of
 DONE, REFUSED = b'{"code":0,"size":65536}', b'{"code":9,"error":"FBIG"}'  # the longest, and the shortest
 LINE_OF_REFUSAL = 800  # bytes at most, whatever was asked
 GROWN = 257 << 20  # bytes: more than the log of changes may have
-CHANGE = b'{"cmd":"MKDIR","path":"/a"}'
+CHANGE, LOOK = b'{"cmd":"MKDIR","path":"/a"}', b'{"cmd":"STAT","path":"/"}'
+LONGEST_LOGIN = "Of_32.Letters-and_Numbers.012345"
+MEMBERS = {"cmd": '"RENAME"', "path": '"/a"', "to": '"/b"', "owner": '"bob"', "group": '"eng"', "aclflag": "3",
+           "entries": "[]"}  # in the order in which the log has them
 
 
 def changes_of(front):
@@ -42,10 +45,12 @@ def test_changes_whose_callers_left(front, peer):
 
 
 def test_a_change_without_an_answer(front, peer):
-    """It may have acted."""
-    peer.said = b""
-    assert front.status("u01", "POST", SLOT + "1", CHANGE) == 502
-    assert [(it["status"], it["asked"]) for it in map(json.loads, changes_of(front))] == [("502", CHANGE.decode())]
+    """It may have acted: also where what stands before the room says that none came."""
+    said = {502: b""} | {it: whole(b"", it) for it in (500, 503, 504)}
+    for status, peer.said in said.items():
+        assert front.status("u01", "POST", f"{SLOT}{status}", CHANGE) == status
+    assert [(it["status"], it["asked"]) for it in map(json.loads, changes_of(front))] == [
+        (str(it), CHANGE.decode()) for it in said]
 
 
 def test_a_change_in_the_room_of_the_longest_name(front):
@@ -54,6 +59,37 @@ def test_a_change_in_the_room_of_the_longest_name(front):
     assert front.status("u01", "POST", target, CHANGE) == 200
     assert [(it["by"], f"/rooms/{it['slot']}") for it in map(json.loads, changes_of(front))] == [
         (f"u01@{LONGEST_NAME}", target)]
+
+
+def test_a_login_of_any_letters(fronted, gateway):
+    """That a roster may have: it is counted, and held, also by WebDAV; and a guess of it has its name."""
+    front, user = fronted([LONGEST_LOGIN], dav=gateway.at), LONGEST_LOGIN
+    assert front.status(user, "POST", SLOT + "1", CHANGE) == 200
+    assert [json.loads(it)["by"] for it in changes_of(front)] == [f"{user}@plans"]
+    put_file(os.path.join(front.folder, "held", f"{user}@plans"), "")
+    for method, target, body, status in (("POST", SLOT + "2", CHANGE, 429), ("POST", SLOT + "2", LOOK, 200),
+                                         ("PUT", "/dav/plans/x", b"x", 429), ("GET", "/dav/plans/x", b"", 200)):
+        assert front.status(user, method, target, body) == status, (method, status)
+    assert front.status(None, "GET", "/whoami", more=[login(user, "no")]) == 401
+    front.settle()
+    assert text_of(log_of(front, "fileroom-logins.log")).endswith(f' as "{user}"\n')
+
+
+def by_numbers(name):
+    """A member's name with each letter by its number, in small letters and capitals, and with all of them."""
+    for letters in "x", "X":
+        its = [f"\\u{ord(it):04{letters}}" for it in name]
+        yield from (name[:at] + it + name[at + 1:] for at, it in enumerate(its))
+        yield "".join(its)
+
+
+def test_a_member_by_numbers_of_its_letters(front, peer):
+    """It is told as any other: nothing hides where a thing went, or whose it became."""
+    peer.said, plain = whole(DONE), "{" + ",".join(f'"{name}":{its}' for name, its in MEMBERS.items()) + "}"
+    odd = [plain.replace(f'"{name}"', f'"{it}"') for name in MEMBERS for it in by_numbers(name)]
+    for at, body in enumerate(odd):
+        assert front.status("u01", "POST", f"{SLOT}{at}", body.encode()) == 200
+    assert [json.loads(it)["asked"] for it in changes_of(front)] == [plain] * len(odd)
 
 
 def test_what_is_done_is_told_whole(front, peer):
