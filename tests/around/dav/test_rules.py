@@ -79,6 +79,23 @@ def test_who_may_remove_is_told_that_it_is_locked(desk):
     desk.does("bob", "DELETE", "/both/kept", 204)
 
 
+@pytest.mark.parametrize("method", ["DELETE", "MOVE"])
+def test_what_stays_is_locked_on(desk, method):
+    """Where whoever has the lock may not remove it."""
+    with desk.room() as room:
+        make_folders(room, **{f"stays{method}": [ANNS, BOB_READS]})
+        path = f"/stays{method}/it"
+        room.create(path, b"hers")
+        room.set_list(path, 0, [it | {"flag": 0, "mask": 0x1200AF} for it in (ANNS, BOB_READS)])
+    token = desk.locked("ann", path, Depth="0")
+    with desk.room() as room:
+        room.set_list(f"/stays{method}", 0, [it | {"flag": 0, "mask": 0x1600A9} for it in (ANNS, BOB_READS)])
+    desk.does("ann", method, path, 403, to=f"{path}2", If=f"({token})")
+    desk.does("bob", "PUT", path, 423, b"his")
+    desk.unlock("ann", path, token)
+    desk.does("bob", "PUT", path, 204, b"his")
+
+
 @pytest.fixture
 def trash(desk):
     """What is in ann's trash."""

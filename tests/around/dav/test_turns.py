@@ -11,7 +11,7 @@ from concurrent.futures import ThreadPoolExecutor
 from unittest import mock
 
 import pytest
-from fileroom_dav import app, behind, faults, seats, tree, turns, visit
+from fileroom_dav import app, asked, behind, faults, seats, tree, turns, visit
 from nginx import FOLDER, login
 from room_client import slots
 from room_client.faults import SessionLost
@@ -262,6 +262,24 @@ def test_a_login_is_asked_for_again(tmp_path):
         assert until(lambda: said == [b""] * 2)
         gate.seats.front.take(5.0).close()
     assert said == [b""] * 3
+
+
+LONGEST_LOGIN = "Of_32.Letters-and_Numbers.012345"
+
+
+@pytest.mark.parametrize("user, password, is_taken", [
+    (LONGEST_LOGIN, "a:b", True), ("ann", "x" * 400, True), ("ann", "", True), ("ann", "x" * 401, False),
+    (f"{LONGEST_LOGIN}6", "x", False), ("", "x", False), ("a/b", "x", False), ("ann@1", "x", False)],
+    ids=lambda it: f"{it}"[:9])
+def test_who_logs_in(user, password, is_taken):
+    """By a name that a roster may have, by which a file of the gateway has its own too."""
+    field = login(user, password).partition(": ")[2]
+    if is_taken:
+        assert asked.login_of(field) == (user, password)
+        return
+    with pytest.raises(faults.Answered) as why:
+        asked.login_of(field)
+    assert why.value.status == 401
 
 
 @pytest.mark.parametrize("status, told", [(b"401 Unauthorized", 401), (b"403 Forbidden", 502), (b"404 Not Found", 502)])
