@@ -13,6 +13,7 @@ from .sides import standing
 sys.path.append(os.path.join(FOLDER, "..", "service", "admin"))
 USERS = "u01", "u02", "u03"
 LONGEST_NAME = "Of_32-Letters_and_Numbers-012345"  # of a room
+LONGEST_LOGIN = "Of_32.Letters-and_Numbers.012345"
 
 
 def started(folder, page, room, users=USERS, **how):

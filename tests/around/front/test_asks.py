@@ -14,6 +14,8 @@ from given import each
 from nginx import FOLDER, certified
 from served import WAIT, text_of, until
 
+from .conftest import LONGEST_LOGIN
+
 sys.path.append(os.path.join(FOLDER, "..", "signin"))
 from fileroom_signin import app, directory as ldap, known
 from fileroom_signin.directory import Directory as Asked
@@ -297,6 +299,14 @@ def test_other_forms_of_a_field(service, its):
     ("no letters", "Basic " + base64.b64encode(b"ann:\xff").decode(), "ann"), ("of no room", field("eve", "x"), "eve")])
 def test_what_asks_nobody(service, its, name):
     assert (service.asks(its, name), service.directory.asked) == (401, [])
+
+
+def test_a_name_of_any_letters(service, tmp_path):
+    """That a roster may have is asked about, and none that is longer."""
+    names = LONGEST_LOGIN, f"{LONGEST_LOGIN}6"
+    (tmp_path / "club.users.json").write_text(json.dumps(dict.fromkeys(names, [])))
+    assert [service.ask(it, "no") for it in names] == [401] * 2
+    assert service.directory.asked == [(LONGEST_LOGIN, "no")]
 
 
 def test_names_that_a_directory_takes_for_one(service, clock, tmp_path):

@@ -9,8 +9,9 @@ import time
 
 import pytest
 from given import each
-from served import answers, first_answer, least, message, until
+from served import Line, answers, first_answer, least, message, until
 
+from .conftest import LONGEST_NAME
 from .sides import (BURST, CHECK, MANY, OPEN_AT_ONCE, ROOM, SESSION, SLOT, SOON, at_once, begun, begun_by_dav,
                     until_too_many, values, wrong)
 
@@ -52,12 +53,13 @@ def test_a_login_asks_so_much(fronted, burst, a_second, asked, addresses, free):
 
 # Under way at once
 
-def by_the_gateway(front, user):
+def by_the_gateway(front, user, *asked):
     """The status of a request at the socket where the gateway asks, with its caller's login, or none in that time."""
     with socket.socket(socket.AF_UNIX) as line:
         line.settimeout(SOON)
         line.connect(os.path.join(front.folder, "work", "dav.sock"))
-        line.sendall(message(None, "POST", f"{SLOT}99", b'{"cmd":"MKDIR","path":"/a"}', fields=front.fields(user)))
+        asked = asked or ("POST", f"{SLOT}99", b'{"cmd":"MKDIR","path":"/a"}')
+        line.sendall(message(None, *asked, fields=front.fields(user)))
         with contextlib.suppress(TimeoutError):
             return first_answer(line.recv(1 << 16))[0].status
     return None
@@ -138,6 +140,22 @@ def test_long_ones_under_way(front, peer, form, count):
     assert until(lambda: len(peer.came) > count, SOON)
     for it in lines:
         it.close()
+
+
+@pytest.mark.parametrize("room, other", [("plans", LONGEST_NAME), (LONGEST_NAME, "plans")])
+def test_a_move_that_is_under_way(fronted, peer, memory, room, other):
+    """Whoever asks for dates of that room is told so, and of no other."""
+    front = fronted(dav=os.path.join(memory, "no.sock"))
+    dates = lambda it: by_the_gateway(front, "u02", "GET", f"/latest.log?{it}")
+    move = message(None, "POST", f"{SLOT.replace('plans', room)}1", FORMS[2], fields=front.fields("u01"))
+    peer.may.clear()
+    with contextlib.closing(Line(front.port)) as line:
+        line.send(move)
+        assert until(lambda: len(peer.came) == 1, SOON)
+        assert [dates(it) for it in (room, other)] == [409, 200]
+        peer.may.set()
+        assert line.answer().status == 200
+    assert until(lambda: dates(room) == 200)
 
 
 def seconds_of(front, peer, form, pause, others=()):

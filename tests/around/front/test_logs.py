@@ -12,14 +12,13 @@ from given import each
 from nginx import FOLDER, login
 from served import put_file, text_of, until, whole
 
-from .conftest import LONGEST_NAME
+from .conftest import LONGEST_LOGIN, LONGEST_NAME
 from .sides import SLOT, SOON, begun, log_of
 
 DONE, REFUSED = b'{"code":0,"size":65536}', b'{"code":9,"error":"FBIG"}'  # the longest, and the shortest
 LINE_OF_REFUSAL = 800  # bytes at most, whatever was asked
 GROWN = 257 << 20  # bytes: more than the log of changes may have
 CHANGE, LOOK = b'{"cmd":"MKDIR","path":"/a"}', b'{"cmd":"STAT","path":"/"}'
-LONGEST_LOGIN = "Of_32.Letters-and_Numbers.012345"
 MEMBERS = {"cmd": '"RENAME"', "path": '"/a"', "to": '"/b"', "owner": '"bob"', "group": '"eng"', "aclflag": "3",
            "entries": "[]"}  # in the order in which the log has them
 
