@@ -19,7 +19,7 @@ from room_client.words import ALL, FOLDER, GROUP, INHERITED, LIST_FLAGS, TO_FILE
 
 from . import apart, pool
 from .asked import Asked
-from .faults import Answered, is_refused, is_sure, making
+from .faults import Answered, NotThere, is_refused, is_sure, making
 from .kept import say
 from .names import above, below, beside, is_backup, is_temporary, last
 from .steps import MINUTES, Aside, Step, of_what
@@ -293,7 +293,7 @@ def exchange(gate, visit: Visit, one: Aside, old: Thing, *, data: bytes = b"", s
             put_large(visit, step, version, data)
         else:
             put_bytes(visit, one.path, data, is_known=True)
-        finish(visit, step)
+        finish(visit, step, its)
     gate.asides.moved(one.room, one.user, one.aside, one.path)
 
 
@@ -372,7 +372,7 @@ def put_large(visit: Visit, step: Step, version: Manifest, data: bytes) -> None:
     upload.tidy_behind(upload.tidy_aside)
 
 
-def finish(visit: Visit, step: Step) -> None:
+def finish(visit: Visit, step: Step, its: Thing | None = None) -> None:
     """The new version has the name: what was before it lies aside, as far as the room lets it."""
     try:
         if step.takes:
@@ -380,12 +380,22 @@ def finish(visit: Visit, step: Step) -> None:
         if step.text and is_there(visit, step.copy):
             keep_large(visit, step)
         back(visit, step.copy, step.aside)
-        if step.source and not step.takes:
+        if step.source and not step.takes and is_as_read(visit, step, its):
             pool.remove(visit, step.source)
     except Refused as fault:
         if not is_sure(fault):
             raise
         say(f"room {step.room}: {of_what(step)}: {fault}")
+
+
+def is_as_read(visit: Visit, step: Step, its: Thing | None) -> bool:
+    """Whether what had the new bytes has them still: what somebody wrote there meanwhile stays. (Under a program's name
+    nobody else does. After a stop the new version tells what was read.)"""
+    if is_temporary(step.source):
+        return True
+    with contextlib.suppress(NotThere):
+        return thing_at(visit, step.source).sum == (its or thing_at(visit, step.path)).sum
+    return False
 
 
 def keep_large(visit: Visit, step: Step) -> None:

@@ -394,6 +394,23 @@ def test_where_the_pieces_of_before_go(owner, aclflag, fits):
         saving.need_veiled(one, replace(STEP, copy="/a~"))
 
 
+@pytest.mark.parametrize("source, read, now, document, is_so", [
+    ("/n.odt", "a", "a", "b", True), ("/n.odt", "a", "b", "a", False), ("/n.odt", "a", None, "a", False),
+    ("/n.odt", None, "a", "a", True), ("/n.odt", None, "b", "a", False), ("/~WRD1.tmp", "a", "b", "a", True)])
+def test_what_is_there_still(source, read, now, document, is_so):
+    """What became a version goes as it was read; behind a stop, as the version is. (A program's own file goes anyway.)
+    """
+    sums = {source: now, "/a.odt": document}
+
+    def thing_at(_, path):
+        if sums[path] is None:
+            raise faults.NotThere(path)
+        return mock.Mock(sum=sums[path])
+    step = steps.Step("exchange", "plans", "ann", "/a.odt", source=source)
+    with mock.patch.object(saving, "thing_at", thing_at):
+        assert saving.is_as_read(None, step, read and mock.Mock(sum=read)) == is_so
+
+
 @pytest.mark.parametrize("count, is_told", [(saving.MOST_ENTRIES, True), (saving.MOST_ENTRIES + 1, False)])
 def test_a_long_list_of_somebody_elses(count, is_told):
     """One that is too long for bytes of before, with those that its folder handed down, is for the caller alone."""

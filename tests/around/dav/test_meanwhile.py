@@ -98,6 +98,17 @@ def test_a_file_that_changes_before_it_is_moved(desk, size):
     desk.does("ann", "GET", new, 404)
 
 
+@pytest.mark.parametrize("size", [3, 70_000])
+def test_a_file_that_changes_while_it_becomes_a_version(desk, size):
+    """What was read of it is the version, and it stays with what came since."""
+    doc, aside, draft, newer = f"/doc{size}", f"/doc{size}.bak", f"/draft{size}", b"N" * size
+    desk.play(f"ann PUT {doc} 201 > old; ann MOVE {doc} 201 > {aside}")
+    desk.does("ann", "PUT", draft, 201, b"n" * size)
+    with meanwhile(desk, "RENAME", aside, lambda room: files.put(room, draft, newer)):
+        desk.does("ann", "MOVE", draft, 201, to=doc)
+    assert [desk.get("ann", it) for it in (doc, aside, draft)] == [b"n" * size, b"old", newer]
+
+
 def test_what_others_put_into_a_copy(desk):
     """Of a copy that is refused goes what it made, and nothing else."""
     with desk.room() as room:
