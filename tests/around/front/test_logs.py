@@ -74,6 +74,13 @@ def test_a_login_of_any_letters(fronted, gateway):
     assert text_of(log_of(front, "fileroom-logins.log")).endswith(f' as "{user}"\n')
 
 
+@each("length, count", [("a look", len(LOOK), 0), ("the longest", 3999, 0), ("one that is padded", 4000, 1)])
+def test_looks(front, length, count):
+    """What a slot keeps of one that is longer counts as a change."""
+    assert front.status("u01", "POST", SLOT + "1", LOOK.rjust(length)) == 200
+    assert len(changes_of(front)) == count
+
+
 def by_numbers(name):
     """A member's name with each letter by its number, in small letters and capitals, and with all of them."""
     for letters in "x", "X":
