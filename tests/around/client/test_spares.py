@@ -188,6 +188,23 @@ def test_meanwhile_a_version_comes_as_its_pieces_are_cleared(one, other):
     assert files.read(one, "/a") == versions[2]
 
 
+def test_meanwhile_pieces_come_that_are_no_versions_yet(one, other):
+    """They are their writer's, who may be killed behind the manifest: nobody puts them again then."""
+    versions = [some(3 * PIECE - it, it) for it in range(3)]
+    files.write(one, "/a", versions[0])
+    one.settle()
+    upload = Upload(other, "/a", versions[2], unheard)
+
+    def comes():
+        upload.begin(False, False)
+        upload.put_pieces("/a")
+    with before_first(Upload, "put_manifest", comes):
+        files.write(one, "/a", versions[1])
+    one.settle()
+    upload.put_manifest("/a", False)
+    assert files.read(one, "/a") == versions[2]
+
+
 # Kind (0 allows, 1 denies), flags (1 for files, 8 not here) and mask (1 reads, 0x20 passes) of an entry
 @each("kind, flag, mask, want", [
     ("passes and reads", 0, 1, 0x21, True), ("passes alone", 0, 1, 0x20, False), ("reads here", 0, 0, 0x21, False),
