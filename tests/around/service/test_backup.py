@@ -165,6 +165,20 @@ def test_on_the_disk_before_an_older_one_goes(room, folder):
     room.kept = [".new-others", room.kept[1], name]
 
 
+def test_a_clock_that_ran_ahead(room, folder):
+    """What is named for a time to come does not push out what was made just now."""
+    front, made = os.path.join(folder, "of-the-front"), {}
+    put_file(os.path.join(folder, "etc/fileroom/plans.toml"), "")
+    for words, end in ([room.db, room.roster, room.backups], "T00-00-00Z"), (["--front", front], ".tar.gz"):
+        for year in 2997, 2998, 2999:
+            os.makedirs(os.path.join(words[-1], f"{year}-01-01{end}"))
+        status, told, faults = said(BACKUP, *words, KEEP="2", ETC=os.path.join(folder, "etc"))
+        assert (status, faults) == (0, "")
+        made[words[-1]] = sorted([os.path.basename(told.strip()), f"2999-01-01{end}"])
+    room.kept = made[room.backups]
+    assert sorted(os.listdir(front)) == made[front]
+
+
 def test_no_room_and_no_words(room):
     refuses("there is no room", room.db + "-none", room.roster, room.backups)
     assert said(BACKUP)[0] == 2
