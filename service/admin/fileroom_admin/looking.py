@@ -12,7 +12,7 @@ from . import alive, dav, now, paces, rosters, signin, warned
 from .changes import JOURNAL, sum_in
 from .front import OF_ROOM, end_of, of_room
 from .held import JAILS, Bounds, is_by_hand
-from .owned import made_at
+from .owned import TO_COME, age_of
 from .places import (CHANGES, FRONT_FILES, HERE, LISTEN, LOGINS, SEARCHED, WORKERS, Fault, read, read_json, said,
                      said_before, sample)
 
@@ -323,7 +323,10 @@ class Findings:
         if not names:
             self.add(f"{room} has no backup", f"systemctl start fileroom-backup@{room}")
             return
-        age = time.time() - made_at(max(names))
+        age = age_of(max(names))
+        if age < 0:
+            self.add(f"{room}: the backup {max(names)} is {TO_COME}",
+                     f"move it away from {self.places.backups(room)}; or, if that is its time, correct the clock")
         if age > hours * 3600:
             self.add(f"{room}: the latest backup is {age / 3600:.0f} hours old",
                      f"journalctl -u fileroom-backup@{room} says why")

@@ -9,7 +9,7 @@ import time
 from . import alive, now, paces, warned
 from .front import end_of
 from .looking import Findings, look
-from .owned import latest, made_at
+from .owned import age_of, latest
 from .places import LISTEN, Fault, read, said_before
 
 WINDOW = 600  # seconds of the front's log that are counted
@@ -79,7 +79,7 @@ class Numbers:
         used, left = paces.of_numbers(folder, names)
         self.add("numbers_used", used or None, room=room)
         self.add("numbers_left_days", left, room=room)
-        self.add("backup_age_seconds", time.time() - made_at(latest(self.places, room)), room=room)
+        self.add("backup_age_seconds", age_of(latest(self.places, room)), room=room)
         tried = os.path.join(folder, ".tried")
         if os.path.exists(tried):
             self.add("restore_age_seconds", time.time() - os.lstat(tried).st_mtime, room=room)

@@ -8,11 +8,13 @@ import os
 import re
 import sys
 import tempfile
+import time
 
 from .places import HERE, Fault
 
 TOLD = 20  # paths at most
 GROUP, INHERITED = 0x40, 0x80  # marks of an entry
+TO_COME = "named for a time to come, and passes for the latest until then"
 # (how many things each owns, with a large file as one)
 WHOLE = """SELECT node.owner, count(*) FROM node LEFT JOIN node AS above ON above.id = node.parent
     WHERE NOT is_part(coalesce('/' || above.name, '') || '/' || node.name) GROUP BY node.owner"""
@@ -50,6 +52,11 @@ def latest(places, room):
 def made_at(name):
     """When a backup of that name was made."""
     return datetime.datetime.strptime(name, "%Y-%m-%dT%H-%M-%SZ").replace(tzinfo=datetime.timezone.utc).timestamp()
+
+
+def age_of(name):
+    """In seconds; below 0 where the clock ran ahead as it was made, or is behind now."""
+    return time.time() - made_at(name)
 
 
 @contextlib.contextmanager

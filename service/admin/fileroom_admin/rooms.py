@@ -61,7 +61,10 @@ def back_up(places, room):
         done = subprocess.run(["systemctl", "start", f"fileroom-backup@{room}"], check=False)
         if done.returncode:
             raise Fault(f"there is no backup: journalctl -u fileroom-backup@{room}")
-        if time.time() - owned.made_at(owned.latest(places, room)) > FRESH:
+        name = owned.latest(places, room)
+        if owned.age_of(name) < 0:
+            raise Fault(f"the backup {name} of {room} is {owned.TO_COME}: move it away, or correct the clock")
+        if owned.age_of(name) > FRESH:
             raise Fault(f"the backup of {room} that was made is not there")
 
 

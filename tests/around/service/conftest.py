@@ -14,9 +14,9 @@ from served import HERE
 sys.path.insert(0, os.path.join(HERE, "..", "service", "admin"))
 pytest.register_assert_rewrite("service.contents", "service.machines", "service.stopped")
 from .contents import backed_up, filled
-from .machines import STAND_INS, Machine, Served
+from .machines import STAND_INS, Machine, Served, stamp
 
-LATE = "2999-01-01"
+LATE = stamp(0)
 
 
 @pytest.fixture
@@ -98,8 +98,8 @@ def sound(tmp_path_factory, begun, pair):
     words = ["openssl", "x509", "-new", "-key", key, "-days", "23", "-subj", "/CN=x", "-out", cert]
     subprocess.run(words, check=True, capture_output=True)
     for room in "club", "more", "plans":
-        os.makedirs(it.at(f"var/backups/fileroom/{room}/{LATE}T00-00-00Z"))
-    it.write(f"var/backups/fileroom-front/{LATE}.tar.gz", "")
+        os.makedirs(it.at(f"var/backups/fileroom/{room}/{LATE}"))
+    it.write("var/backups/fileroom-front/2020-01-01.tar.gz", "")
     return it.root
 
 

@@ -17,7 +17,7 @@ from .contents import SERVICE
 from .machines import FOLDER
 
 NOTHING = 0, "no problems found; rooms checked: club, more, plans\n", ""
-CLUB, FRONT = "var/backups/fileroom/club", f"var/backups/fileroom-front/{LATE}.tar.gz"
+CLUB, FRONT = "var/backups/fileroom/club", "var/backups/fileroom-front/2020-01-01.tar.gz"
 
 
 def test_nothing_is_wrong(looked_at):
@@ -78,7 +78,7 @@ def test_memory_for_a_start(looked_at, most, is_noted):
 
 def test_numbers_that_are_no_finding(looked_at):
     """Also a link, which is not followed, and a pipe, at which nobody waits."""
-    numbers = f"var/backups/fileroom/plans/{LATE}T00-00-00Z/numbers"
+    numbers = f"var/backups/fileroom/plans/{LATE}/numbers"
     for text in "750000\n", "x", "":
         looked_at.write(numbers, text)
         assert looked_at.does("check") == NOTHING, text
@@ -96,7 +96,7 @@ def test_hours_of_a_backup(looked_at, hours, more, found):
     made = time.strftime("%Y-%m-%dT%H-%M-%SZ", time.gmtime(now - hours * 3600))
     os.rename(os.path.join(club, *os.listdir(club)), os.path.join(club, made))
     assert looked_at.does("check", *more)[0] == found
-    os.rename(os.path.join(club, made), os.path.join(club, f"{LATE}T00-00-00Z"))
+    os.rename(os.path.join(club, made), os.path.join(club, LATE))
     os.utime(front, (now, now - hours * 3600))
     assert looked_at.does("check", *more)[0] == found
 

@@ -79,7 +79,7 @@ def test_no_backup_of_now(machine, folder):
 
 @each("status, hours, why", [
     ("it fails", 1, 0, "there is no backup"), ("it is none of now", 0, 2, "that was made is not there"),
-    ("it is one", 0, 0, None)])
+    ("it is of a time to come", 0, -2, "is named for a time to come"), ("it is one", 0, 0, None)])
 def test_a_backup_that_is_asked_for(status, hours, why):
     its = mock.Mock(is_machine=True, copies=lambda _: [stamp(9), stamp(hours)])
     with mock.patch.object(rooms.subprocess, "run", return_value=mock.Mock(returncode=status)) as run, \
