@@ -237,6 +237,31 @@ def test_a_new_file_that_is_not_the_same(lived, script, what):
     assert (told, lived.is_renewed(), beside(lived.db)) == (1, False, [])
 
 
+@pytest.mark.parametrize("which", ["old", "new"])
+def test_a_file_that_sqlite_finds_damaged(lived, script, which, capfd):
+    """With each row where it belongs: it counts one free page more than there is."""
+    def miscount(path):
+        with contextlib.closing(sqlite3.connect(path)) as table:
+            table.execute("PRAGMA wal_checkpoint(TRUNCATE)")
+        with open(path, "r+b") as file:
+            file.seek(36)
+            more = int.from_bytes(file.read(4), "big") + 1
+            file.seek(36)
+            file.write(more.to_bytes(4, "big"))
+
+    def spoil(old, new, renumber=script.renumber):
+        renumber(old, new)
+        if which == "new":
+            miscount(new)
+
+    if which == "old":
+        miscount(lived.db)
+    with mock.patch.object(script, "renumber", spoil), mock.patch.object(script, "reported", lambda *_: []):
+        told = script.main([lived.db, lived.roster])
+    assert (told, lived.is_renewed(), beside(lived.db)) == (1, False, [])
+    assert "sqlite3 finds it damaged" in capfd.readouterr().err
+
+
 def test_a_program_that_reports_another_room(lived, script):
     reports = iter([["a"], ["b"]])
     with mock.patch.object(script, "reported", lambda *_: next(reports)):
