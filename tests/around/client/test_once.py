@@ -69,17 +69,23 @@ def test_the_same_again_is_the_one_that_was_pending(desk, log):
     assert said == ["finished what was pending: APPEND /log: done", AGAIN]
 
 
+def with_trash(desk):
+    """Ann's, and what goes there."""
+    with desk.room() as room:
+        for path in "/trash", "/trash/ann", "/d", "/e":
+            room.mkdir(path)
+        room.set_list("/trash/ann", 2, [{"flag": 0, "mask": 0x1F07FF, "type": 0, "who": "OWNER@"}])
+        for path in "/d/a", "/d/b":
+            room.create(path, b"x")
+
+
 @each("words, before, says", [
     ("into a folder", ["mv", "/d/a", "/e"], [], "/d/a is now /e/a\n"),
     ("to a name", ["mv", "/d/a", "/b"], [], "/d/a is now /b\n"),
     ("to the trash", ["rm", "/d/a"], [], "/d/a: in /trash/ann\n"),
     ("back", ["trash", "restore", "a"], ["rm", "/d/a"], "/d/a: restored\n")])
 def test_a_command_that_moves(desk, words, before, says):
-    with desk.room() as room:
-        for path in "/trash", "/trash/ann", "/d", "/e":
-            room.mkdir(path)
-        room.set_list("/trash/ann", 2, [{"flag": 0, "mask": 0x1F07FF, "type": 0, "who": "OWNER@"}])
-        room.create("/d/a", b"x")
+    with_trash(desk)
     if before:
         desk.does(*before)
     with desk.losing("RENAME"):
@@ -89,23 +95,35 @@ def test_a_command_that_moves(desk, words, before, says):
     assert AGAIN in err
 
 
-@each("to, words, want", [("another one", "/c", ["/b", "/d"], {"c", "d"}),
-                          ("one that was refused", "/b", ["/a", "/b"], {"b"})])
-def test_a_move_behind_one_that_was_pending(desk, to, words, want):
+@each("to, words, at, want", [("another one", "/c", ["/b", "/d"], "/d", {"c", "d"}),
+                              ("into a folder that was to move", "/c", ["/b", "/c"], "/c/b", {"c"}),
+                              ("one that was refused", "/b", ["/a", "/b"], "/b", {"b"})])
+def test_a_move_behind_one_that_was_pending(desk, to, words, at, want):
     """It is done itself."""
     with desk.room() as room:
-        for path in "/a", "/b":
-            room.create(path, b"")
+        room.mkdir("/a")
+        room.create("/b", b"")
     with desk.losing("RENAME"):
         assert desk.does("mv", "/a", to)[0] == 3
     with desk.other() as other:
         if to == "/b":
             other.remove("/b")
     status, out, err = desk.does("mv", *words)
-    assert (status, out) == (0, f"{words[0]} is now {words[1]}\n"), err
+    assert (status, out) == (0, f"{words[0]} is now {at}\n"), err
     assert f"finished what was pending: RENAME /a {to}: {'EXIST' if to == '/b' else 'done'}" in err
     with desk.other() as other:
         assert {*other.children("/")} == want
+
+
+def test_a_restore_behind_another_that_was_pending(desk):
+    with_trash(desk)
+    desk.does("rm", "/d/a", "/d/b")
+    with desk.losing("RENAME"):
+        assert desk.does("trash", "restore", "a")[0] == 3
+    status, out, err = desk.does("trash", "restore", "b")
+    assert (status, out) == (0, "/d/b: restored\n"), err
+    with desk.other() as other:
+        assert {*other.children("/d")} == {"a", "b"}
 
 
 @pytest.mark.parametrize("fault, why", [

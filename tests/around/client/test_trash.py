@@ -57,6 +57,12 @@ def test_a_name_again_and_again(desk, in_trash, in_tokyo):
     assert in_trash() == [names[2]]
 
 
+@each("called, want", [("as it was", "\u00e9", True), ("by letters that are not composed", "e\u0301", True),
+                       ("as it is there", f"\u00e9~d~{STAMP}", True), ("another one", "e", False)])
+def test_what_something_in_the_trash_is_called(called, want):
+    assert trash.is_called(f"\u00e9~d~{STAMP}", called) == want
+
+
 def test_places_are_one_for_a_sixteenth_of_the_users():
     assert trash.places_of("ann") == ["/trash/@d/ann", "/trash/ann"]
     parts = [trash.places_of(f"member{it:03}")[0].split("/")[2] for it in range(1000)]
