@@ -14,7 +14,7 @@ const store = new Proxy(items, {
 });
 export const kept = { clear: () => held.clear(), does: items };
 
-const locks = new Map(); // from a name to those who wait for it, while somebody has it: till all tabs end
+const locks = new Map(); // from a name to those who wait for it, while somebody has it
 
 export const tabs = {
   /** All tabs end, and with them their locks: whoever waits for one has it. */
@@ -27,8 +27,16 @@ export const tabs = {
 
 function request(name, options, does = options) {
   if (!locks.has(name)) {
-    locks.set(name, []);
-    return Promise.resolve(does({ name }));
+    const waiting = [];
+    locks.set(name, waiting);
+    const done = Promise.resolve(does({ name }));
+    const free = () => {
+      if (locks.get(name) !== waiting) return; // (its tab has ended)
+      locks.delete(name);
+      for (const it of waiting) it();
+    };
+    done.then(free, free);
+    return done;
   }
   if (options.ifAvailable) return Promise.resolve(does(null));
   return new Promise((goOn) => locks.get(name).push(() => goOn(request(name, options, does))));

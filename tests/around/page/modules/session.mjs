@@ -22,6 +22,19 @@ beforeEach(() => {
   Object.assign(patience, { waits: [], isDead: false });
 });
 
+/** What the first tab left is that of another one. */
+function leftAs(count) {
+  for (const key of Object.keys(localStorage)) {
+    const text = localStorage.getItem(key);
+    localStorage.removeItem(key);
+    localStorage.setItem(key.replace("/club/0", `/club/${count}`), text);
+  }
+}
+
+async function hears(its) {
+  for (let times = 0; times < 1_000 && !its.told.length; times += 1) await soon();
+}
+
 /** A tab that has asked, so its session is open, in each lane; and an empty log. */
 async function begun() {
   const its = await tab();
@@ -106,18 +119,28 @@ for (const count of [0, 7]) { // (where several ended the next one goes on as th
   test(`what was under way as tab ${count} ended is sent by the next one, once, and told`, async () => {
     const its = await begun();
     await endsIn(() => its.session.ask(append("x")), "lose");
-    for (const key of Object.keys(localStorage)) {
-      const text = localStorage.getItem(key);
-      localStorage.removeItem(key);
-      localStorage.setItem(key.replace("/club/0", `/club/${count}`), text);
-    }
+    leftAs(count);
     const next = await tab();
-    for (let times = 0; times < 1_000 && !next.told.length; times += 1) await soon();
+    await hears(next);
     assert.deepEqual(next.told.map(([command, reply]) => [command, reply.code]), [[append("x"), 0]]);
     assert.equal(new Set(numbers()).size, 1);
     assert.equal(await logged(next), "x");
   });
 }
+
+test("a session that another tab left is nobody else's until what was under way in it is done", async () => {
+  const its = await begun();
+  await endsIn(() => its.session.ask(append("x")), "lose");
+  leftAs(1);
+  const [first, second] = [await tab(), await tab()];
+  await hears(first);
+  assert.deepEqual([first, second].map(({ session, told }) => [session.key.split("/").at(-1), told.length]),
+    [["0", 1], ["2", 0]]);
+  const third = await tab(); // (by now it is free)
+  assert.equal(third.session.kept.name, its.session.kept.name);
+  assert.equal((await third.session.ask(append("y"))).code, 0);
+  assert.equal(await logged(third), "xy");
+});
 
 for (const [fault, text] of [["drop", ""], ["lose", "x"]]) {
   test(`a step is not done late (${fault}), and the next request has a number of its own`, async () => {
