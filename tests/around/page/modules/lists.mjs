@@ -3,10 +3,12 @@ import assert from "node:assert/strict";
 import { test } from "node:test";
 
 import { page } from "./browser.mjs";
+import { Shelf, appOver } from "./shelf.mjs";
 
 const lists = await page("lists");
 const { ALL, APPEND, CHANGE, FILE, FOLDER, LARGE, READ, SETS, VIEW, WRITE, askedOf, levelOf, ofLarge, rightsIn } =
   await page("lists");
+const { Questions, Seers } = await page("questions");
 const { Refusal } = await page("room");
 const { t } = await page("words");
 
@@ -116,4 +118,61 @@ test("a refusal says which right lacks where, and whom to ask", () => {
   assert.equal(above, `${lacks} ${t.askAnyOwner}`);
   const adding = new Refusal({ code: 5, bit: 2, path: "/" }, { cmd: "CREATE", path: "/a" }, {}).message;
   assert.equal(adding, `${t.lacksRight("/", [t.rights[2][1]])} ${t.askAnyOwner}`);
+});
+
+/** Over a shelf, in a room of these users that answers as the lists say. */
+function answering(shelf, users) {
+  const app = appOver(shelf);
+  app.room.users = async () => users;
+  app.room.allowed = async (object, user, groups) => {
+    let [left, found] = [ALL, 0];
+    for (const it of object.entries.filter((one) => lists.isFor(one, object, user, groups))) {
+      if (!lists.isDeny(it)) found |= it.mask & left;
+      left &= ~it.mask;
+    }
+    return found;
+  };
+  return app;
+}
+
+test("of one list an owner and their group have what it gives them, and another thing's owner has less", async () => {
+  const [shelf, list] = [new Shelf(), { aclflag: 2,
+    entries: [entry("OWNER@", ALL), entry("ann"), entry("bob"), entry("GROUP@", CHANGE), entry("eng", READ, GROUP)] }];
+  for (const [path, owner, group] of [["/a", "ann", "eng"], ["/b", "bob", "eng"], ["/c", "ann", "staff"]]) {
+    shelf.put(path, "text", { owner, group, list });
+  }
+  const questions = new Questions(answering(shelf, {}));
+  const allowed = async (path) => [await questions.allowed(path, "ann", []), await questions.allowed(path, "bob", []),
+    await questions.allowed(path, "eve", ["eng"])];
+  assert.deepEqual([await allowed("/a"), await allowed("/b"), await allowed("/c")],
+    [[ALL, VIEW, CHANGE], [VIEW, ALL, CHANGE], [ALL, VIEW, READ]]);
+});
+
+test("who can see a thing is told anew, whatever of it changed", async () => {
+  const [shelf, roster, path] = [new Shelf(), { ann: [], bob: [] }, "/d/a.txt"];
+  const own = { aclflag: 2, entries: [entry("OWNER@", ALL), entry("EVERYONE@")] };
+  const put = (it, list, more = {}) => shelf.put(it, it === path ? "text" : undefined, { list, ...more });
+  const only = (...entries) => ({ aclflag: 2, entries: [entry("OWNER@", ALL), ...entries] });
+  for (const it of ["/", "/d"]) put(it, only());
+  put(path, own);
+  const seers = new Seers(answering(shelf, roster));
+  const told = async () => {
+    seers.renew();
+    return (await seers.of({ path, kind: FILE })).words;
+  };
+  assert.equal(await told(), t.onlyYou);
+  put("/", only(entry("bob")));
+  assert.equal(await told(), t.onlyYou);
+  put("/d", only(entry("bob"))); // (the way there is open: the thing's own list is as before)
+  assert.equal(await told(), t.everyoneHere);
+  put("/", only());
+  assert.equal(await told(), t.onlyYou);
+  put("/", only(entry("EVERYONE@")));
+  roster.eve = [];
+  assert.equal(await told(), `${t.yourself}, bob`);
+  put(path, only());
+  assert.equal(await told(), t.onlyYou);
+  put("/d", only(entry("ann"), entry("bob")));
+  put(path, only(), { owner: "bob" });
+  assert.equal(await told(), "bob");
 });
