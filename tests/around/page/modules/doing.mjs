@@ -18,11 +18,14 @@ const { latest, note } = await page("rail");
 const { FolderTree } = await page("tree");
 const { helpThem, setBack } = await page("questions");
 const { showShared } = await page("contents");
+const { SharePanel } = await page("share");
+const { openMenu } = await page("dialogs");
 const TRASH = "/trash/@d/ann";
 const PRIVATE = { aclflag: 2, entries: [{ type: 0, flag: 3, mask: 0x1f07ff, who: "OWNER@" }] };
 const LARGE = new Uint8Array(PIECE + 1).fill(7);
 
 const soon = () => new Promise((goOn) => setTimeout(goOn, 0));
+const key = (name) => ({ key: name, preventDefault() {}, stopPropagation() {} });
 
 /** The button of a dialog, once it is there. */
 async function comes(words) {
@@ -237,6 +240,48 @@ test("a folder is chosen whatever folder is closed whose name begins its own", a
   tree.close(tree.items.get("/pro"));
   await tree.goTo("/projects");
   assert.deepEqual([tree.value, [...tree.items.keys()]], ["/projects", ["/", "/pro", "/projects"]]);
+});
+
+test("the folder that is chosen last stays the goal, however late one comes that was chosen before", async () => {
+  const [shelf, app] = [new Shelf(), appOver(new Shelf())];
+  for (const it of ["/a", "/a/x", "/b"]) shelf.put(it);
+  app.room = appOver(shelf).room;
+  for (const choose of [(tree) => tree.click({ target: tree.items.get("/b") }), (tree) => tree.goTo("/b"),
+    (tree) => tree.key({ ...key("ArrowDown"), target: tree.items.get("/a") })]) {
+    let goOn = null;
+    const late = new Promise((tell) => { goOn = tell; });
+    const tree = new FolderTree(app, [], "/");
+    for (let times = 0; times < 50; times += 1) await soon();
+    shelf.askAside = async (command) => {
+      if (command.cmd === "LIST" && command.path === "/a") await late;
+      return shelf.ask(command);
+    };
+    const going = tree.goTo("/a/x");
+    await choose(tree);
+    goOn();
+    await going;
+    const chosen = [...tree.items].filter(([, it]) => it.ariaSelected === "true").map(([path]) => path);
+    assert.deepEqual([tree.value, chosen, tree.legend.textContent], ["/b", ["/b"], `${t.toFolder}/b`]);
+  }
+});
+
+test("keys that lead on, out of the dialog or off the page are taken by no list of choices", async () => {
+  const anchor = document.createElement("button");
+  document.body.append(anchor);
+  const tree = new FolderTree(appOver(new Shelf()), [], "/");
+  const panel = new SharePanel({ kind: "folder", owner: "ann", group: "eng" }, { own: [], handed: [] }, { ann: [] },
+    { set() {} });
+  const field = panel.element.querySelectorAll("input").find((it) => it.role === "combobox");
+  openMenu(anchor, [{ words: "Open", does() {} }], "it");
+  for (const [onkeydown, target, own] of [[tree.list.onkeydown, tree.items.get("/"), "ArrowDown"],
+    [field.onkeydown, field, "ArrowDown"], [shown("div.menu")[0].onkeydown, null, "Home"]]) {
+    for (const [name, isTaken] of [[own, true], ["F5", false], ["Tab", false]]) {
+      let taken = false;
+      await onkeydown({ ...key(name), target, preventDefault: () => { taken = true; } });
+      assert.deepEqual([name, taken], [name, isTaken]);
+    }
+  }
+  assert.deepEqual(shown("div.menu"), []);
 });
 
 test("a place is followed as its folder is moved, and none whose name begins alike", async () => {
