@@ -19,6 +19,7 @@ const { FolderTree } = await page("tree");
 const { helpThem, setBack } = await page("questions");
 const { showShared } = await page("contents");
 const { SharePanel } = await page("share");
+const { entriesOf } = await page("lists");
 const { openMenu } = await page("dialogs");
 const TRASH = "/trash/@d/ann";
 const PRIVATE = { aclflag: 2, entries: [{ type: 0, flag: 3, mask: 0x1f07ff, who: "OWNER@" }] };
@@ -391,6 +392,22 @@ test("a copy of what has a list of its own is never open to more", async () => {
   await writeCopy(room, "/a", "/c", LARGE);
   assert.deepEqual(order("/c").map(([cmd]) => cmd).slice(0, 3), ["MKDIR", "SETLIST", "MKDIR"]);
   assert.deepEqual(shelf.things.get("/c").list, PRIVATE);
+});
+
+test("who is given another level has it in its place: what stood behind denies no more, and no less", () => {
+  const [bob, eve, kim] = ["bob", "eve", "kim"].map((name) => ({ id: "user", name }));
+  const denied = { type: 1, flag: 0x43, mask: 0x1f07ff, who: "staff" };
+  const of = (level, whom) => entriesOf(level, whom, "folder");
+  const own = [...of("work", bob), denied, ...of("view", eve), { ...denied, flag: 3, who: "bob" }];
+  const after = [];
+  const panel = new SharePanel({ kind: "folder", owner: "ann", group: "eng" }, { own, handed: [] },
+    { ann: [], bob: ["staff"], eve: ["staff"], kim: [] }, { set: (...its) => after.push(its) });
+  for (const its of [[bob, "view"], [eve, "work"], [kim, "edit"], [bob, null]]) panel.give(...its);
+  const [works, ofStaff, views, ofBob] = [own.slice(0, 2), [own[2]], [own[3]], [own[4]]];
+  assert.deepEqual(after, [[[of("view", bob), ofStaff, views, ofBob], of("view", bob)],
+    [[works, ofStaff, of("work", eve), ofBob], of("work", eve)],
+    [[works, ofStaff, views, ofBob, of("edit", kim)], of("edit", kim)],
+    [[ofStaff, views, ofBob], []]].map(([all, news]) => [all.flat(), news]));
 });
 
 test("who is let pass stands behind those who are kept out", async () => {
