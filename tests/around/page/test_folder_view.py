@@ -16,6 +16,12 @@ WIDTH = "return document.documentElement.scrollWidth"
 MENU_AT = ("document.querySelector(arguments[0]).dispatchEvent(new MouseEvent('contextmenu', {bubbles: true, "
            "cancelable: true, button: 2, clientX: 90, clientY: 300}))")
 BOX = "const it = document.querySelector('.menu').getBoundingClientRect(); return [it.left, it.bottom]"
+# what of a menu cannot be seen whole, wherever that is scrolled to
+OUT_OF_SIGHT = """return [...document.querySelectorAll('.menu > *')].filter((it) => {
+  it.scrollIntoView({block: 'nearest'});
+  const box = it.getBoundingClientRect();
+  return box.top < 0 || box.bottom > innerHeight;
+}).map((it) => it.textContent)"""
 ALL_TICK = "const it = document.querySelector('.things thead input'); return [it.checked, it.indeterminate]"
 EXPANDED = "return document.querySelector('[aria-label=\"More for attic\"]').ariaExpanded"
 OFFERED = "return document.querySelector('[role=menu], .chosen:not([hidden])') !== null"
@@ -323,6 +329,17 @@ def test_menu_on_a_phone(club, browser, frame):
     browser.press("More for attic")
     offers(browser)
     assert browser.script(BOX) == [0, 740]
+
+
+def test_a_menu_is_within_reach_on_a_phone_held_across(club, browser, frame):
+    """And on any screen that is lower than the menu: each of its items comes into sight."""
+    for width, height in (667, 320), (1000, 320):
+        browser.size(width, height)
+        browser.press("More for attic")
+        offers(browser)
+        out = browser.script(OUT_OF_SIGHT)
+        assert (width, out) == (width, [])
+        browser.keys("escape")
 
 
 def test_a_phone_is_told_of_no_drops(club, browser, frame):
