@@ -1,5 +1,4 @@
-/** Files go to the user's disk, folders and several things as a zip (PKWARE's APPNOTE,
- * sections 4.3 to 4.5). */
+/** Files go to the user's disk, folders and several things as a zip (PKWARE's APPNOTE, 4.3 to 4.5). */
 import { FOLDER, ROOT, forDisk, fromText, lookInto, make, nameAt, namesOf, once, readFile, shown, sizeWords, t,
   transferring, whole } from "./shared.js";
 

@@ -9,10 +9,8 @@ import { FolderTree } from "./tree.js";
 async function copy(room, from, to, transfer) {
   const found = await whole(room, from, transfer);
   const at = path => inFolder(to, ...namesOf(path).slice(namesOf(from).length));
-  const depth = ({ path }) => namesOf(at(path)).length;
-  if (Math.max(...found.map(depth)) > MAX_NAMES) throw new Error(t.refusals[TOO_DEEP]);
-  const folders = found.filter(it => it.kind === FOLDER).sort((a, b) => depth(a) - depth(b));
-  for (const { path } of folders) await room.step("MKDIR", at(path));
+  if (found.some(({ path }) => namesOf(at(path)).length > MAX_NAMES)) throw new Error(t.refusals[TOO_DEEP]);
+  for (const { path } of found.filter(it => it.kind === FOLDER)) await room.step("MKDIR", at(path));
   const files = found.filter(it => it.kind === FILE);
   const quiet = transfer.quiet();
   transfer.total = transfer.bar.max = files.length;

@@ -1,7 +1,7 @@
 /** Files and folders of the user's disk go into the room; what a folder has no room for, into another beside it. */
 import { EXIST, FOLDER, FOLDER_FULL, MAX_NAMES, MOST_BYTES, MOST_THINGS, ROOT, TOO_DEEP, ask, besideIt, button,
-  calledIn, clean, folderOf, foldersAbove, forEach, inFolder, isTooLong, isWithin, lastName, listOf, make, nameFault,
-  namesOf, numbered, offered, once, orElse, ownList, pathOf, pickFiles, settle, shortened, shown, t,
+  calledIn, clean, folderOf, foldersAbove, forEach, inFolder, isAlike, isTooLong, isWithin, lastName, listOf, make,
+  nameFault, namesOf, numbered, offered, once, orElse, ownList, pathOf, pickFiles, settle, shortened, shown, t,
   tellFault } from "./common.js";
 import { writeCopy, writeFile } from "./files.js";
 import { DEEPEST, sizeFault } from "./manifest.js";
@@ -95,23 +95,26 @@ async function freeOf(path, namesIn, taken) {
   return its;
 }
 
+const ownAt = (room, path) => room.look("GETLIST", path).then(it => it && ownList(it));
+
 export async function makeLike(room, path, like) {
   await orElse(room.step("MKDIR", path), null, EXIST);
-  const list = await room.look("GETLIST", like);
-  const own = list && ownList(list);
-  if (own) await room.step("SETLIST", path, own);
+  const own = await ownAt(room, like);
+  if (own && !isAlike(own, await ownAt(room, path))) await room.step("SETLIST", path, own);
 }
 
+/** The folder, or where that is full one beside it, new or of the same list. */
 export async function placeIn(room, path) {
   if (namesOf(path).length === MAX_NAMES) throw new Error(t.refusals[TOO_DEEP]);
   const namesIn = async it => await room.names(it) ?? [];
   if ((await namesIn(path)).length < MOST_THINGS) return path;
   if (path === ROOT) throw new Error(t.refusals[FOLDER_FULL]);
-  const there = new Map(await namesIn(folderOf(path)));
+  const [there, own] = [new Map(await namesIn(folderOf(path))), await ownAt(room, path)];
   for (let count = 2; ; count += 1) {
     const goal = besideIt(path, count);
     const kind = there.get(lastName(goal));
-    if (!kind || kind === FOLDER && (await namesIn(goal)).length < MOST_THINGS) return goal;
+    if (!kind || kind === FOLDER && (await namesIn(goal)).length < MOST_THINGS &&
+      isAlike(own, await ownAt(room, goal))) return goal;
   }
 }
 
@@ -161,11 +164,10 @@ export async function freePaths(room, paths) {
 
 export const freePath = async (room, path) => (await freePaths(room, [path]))[0];
 
-/** Those below the folder, each behind the one above it. */
+/** What may be new, each behind the one above it. */
 function foldersOf(wanted, folder) {
-  const depth = path => namesOf(path).length;
   const all = wanted.flatMap(({ path, file }) => [...foldersAbove(path), ...file ? [] : [path]]);
-  return [...new Set(all)].filter(it => depth(it) > depth(folder)).sort((a, b) => depth(a) - depth(b));
+  return [...new Set(all)].filter(it => it !== ROOT && !isWithin(folder, it)).sort();
 }
 
 async function overfull(wanted, folder, namesIn) {
@@ -182,10 +184,8 @@ function beforeWords(replaced) {
 
 async function sendAll(app, transfer, wanted, folder) {
   const { room } = app;
-  const likes = wanted.beside ?? [];
-  for (const { goal, like } of likes.filter(it => it.like === folder)) await makeLike(room, goal, like);
   for (const path of foldersOf(wanted, folder)) await orElse(room.step("MKDIR", path), null, EXIST);
-  for (const { goal, like } of likes.filter(it => it.like !== folder)) await makeLike(room, goal, like);
+  for (const { goal, like } of wanted.beside ?? []) await makeLike(room, goal, like);
   const [files, isOne, replaced] = [wanted.filter(it => it.file), wanted.length === 1, []];
   let [count, size] = [0, 0];
   await forEach(files, async it => {

@@ -6,7 +6,7 @@ import { buttonOf, happens, kept, page, shown } from "./browser.mjs";
 import { Shelf, appOver } from "./shelf.mjs";
 
 const { t } = await page("words");
-const { edit, makeFolder } = await page("actions");
+const { edit, makeDocument, makeFolder } = await page("actions");
 const { copyInto, emptyTrash, moveInto, putAllBack, putBack, remove } = await page("moving");
 const { isOwnTrash, nameAt, ownTrash, toTrash, toldBy, trashOf } = await page("trash");
 const { writeCopy, writeFile } = await page("files");
@@ -497,4 +497,25 @@ test("a folder takes as many things as it has room for, unasked", async () => {
   for (let at = 0; at < 255; at += 1) shelf.put(`/${at}`, "a");
   await uploaded(shelf, "/", onDisk("last", "new"));
   assert.deepEqual([shelf.names("/").length, shelf.text("/last"), shown("dialog")], [256, "new", []]);
+});
+
+test("what a full folder has no room for goes into one of its access beside it, and nobody's list is set", async () => {
+  const eve = { type: 0, flag: 3, mask: 0x1200a9, who: "eve" };
+  const [shelf, list] = [new Shelf(), { aclflag: 1, entries: [eve] }];
+  const make = async (name) => {
+    const done = makeDocument(appOver(shelf), "/d");
+    await comes(t.make);
+    shown("dialog")[0].querySelector("input").value = name;
+    await press(t.make);
+    await done;
+  };
+  shelf.put("/d", undefined, { list });
+  for (let at = 0; at < 256; at += 1) shelf.put(`/d/${at}`, "a");
+  shelf.put("/d (2)", undefined, { list: PRIVATE }); // (made private since, or another one by chance)
+  await make("one");
+  assert.deepEqual([shelf.names("/d (2)"), shelf.things.get("/d (2)").list], [[], PRIVATE]);
+  assert.deepEqual([shelf.names("/d (3)"), shelf.things.get("/d (3)").list], [["one"], list]);
+  shelf.refuses = ({ cmd }) => (cmd === "SETLIST" ? 5 : 0); // (of somebody else's folder)
+  await make("two");
+  assert.deepEqual(shelf.names("/d (3)"), ["one", "two"]);
 });
