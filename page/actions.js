@@ -167,7 +167,7 @@ export async function edit(app, path) {
   const undo = async () => {
     if ((await app.room.run("READ", path)).data !== written) throw new Error(t.changed);
     await app.room.run("WRITE", path, { data: seen });
-    await app.done(t.textBack, null, null, true);
+    await app.done(t.textBack, { to: path }, null, true);
   };
   const isDone = await ask({ title, does: t.save, fields: [[t.text, field], ...keeps ? [["", keeps]] : []], task,
     faultOf: () => tooLong(typed()),

@@ -169,6 +169,31 @@ def test_after_a_rename_the_page_stands_where_it_stood(browser, long):
     assert (top > 100, moved < 80) == (True, True)  # (a notice takes a line or two)
 
 
+@pytest.mark.parametrize("by", ["mouse", "keys"])
+def test_a_save_that_is_undone_leads_back_to_what_was_edited(club, browser, long, by):
+    """In a list to its row, and in its own view to its name: keys go on from there, and not from the top."""
+    def saves_and_undoes(press):
+        press()
+        browser.fill("Text", "after")
+        browser.press("Save")
+        browser.sees("Saved.", "#notices")
+        if by == "mouse":
+            browser.press("Undo")
+        else:
+            browser.chord("ctrl", "z")
+        browser.sees("The old text is back.", "#notices")
+        browser.until("the page is at rest", lambda: not browser.script("return document.querySelector('main').inert"))
+        return browser.script(FOCUS)
+    pen = "//main//button[@title='Edit 40.txt']"
+    browser.script("document.querySelectorAll('.things .name')[40].focus()")  # (till it is in sight it has no pen)
+    browser.until("its pen", lambda: browser.script(f"return document.evaluate(\"{pen}\", document, null, 9)"
+                                                    ".singleNodeValue.checkVisibility()"))
+    assert saves_and_undoes(lambda: browser.act(pen, "click")) == "40.txt"
+    browser.follow("40.txt")
+    assert saves_and_undoes(lambda: browser.press("Edit", "//main")) == "40.txt"
+    assert club.text("/long/40.txt") == ""
+
+
 def test_back_leads_to_no_old_name(browser, long):
     browser.follow("40.txt")
     browser.press("Rename", "//main")
