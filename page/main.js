@@ -55,7 +55,8 @@ class App {
     const here = placeOf(location.hash);
     if (!isFound) forgetFound();
     else if (here?.view !== "open") this.things?.renew();
-    this.saying = [words, undo && (() => this.attempt(t.undo, undo))];
+    // (a key repeats)
+    this.saying = [words, undo && (() => this.back ??= this.attempt(t.undo, undo).finally(() => delete this.back))];
     if (here && moved && isWithin(here.path, moved.from)) { // (the next place tells it)
       return location.replace(addressOf({ room: here.room, path: moved.to }));
     }

@@ -1,8 +1,10 @@
 """Several things at once: chosen by ticks and clicks, moved, brought back, downloaded, removed, dragged, cut, copied,
 pasted."""
+import time
+
 import pytest
 
-from .club import CHOSEN, DIALOG, PIECE, ROWS, TOP, ends, forget_told, row, search_in, to_folder
+from .club import CHOSEN, DIALOG, PIECE, ROWS, TEXTS, TOP, ends, forget_told, row, search_in, to_folder
 from .drawn import PNG
 
 CELLAR, ATTIC = f"{TOP}/cellar", f"{TOP}/attic"
@@ -19,6 +21,10 @@ DRAG = """const data = new DataTransfer(), [from, to] = [arguments[0], arguments
 const told = [[from, 'dragstart'], [to, 'dragover'], [to, 'drop'], [from, 'dragend']].map(([it, type]) =>
   it.dispatchEvent(new DragEvent(type, {bubbles: true, cancelable: true, dataTransfer: data})));
 return !told[1];"""
+# Undo, by keys that are held down, and by a double click
+HELD = """for (let count = 0; count < 3; count += 1) document.body.dispatchEvent(
+  new KeyboardEvent('keydown', {key: 'z', ctrlKey: true, repeat: count > 0, bubbles: true, cancelable: true}));"""
+TWICE = "const it = document.querySelector('#notices .undo'); it.click(); it.click();"
 DROP_FILE = """const data = new DataTransfer(); data.items.add(new File(['dropped'], 'dropped.txt'));
 const to = document.evaluate(arguments[0], document, null, 9).singleNodeValue;
 for (const type of ['dragover', 'drop']) to.dispatchEvent(
@@ -134,6 +140,23 @@ def test_a_row_is_dragged_onto_a_folder(club, browser, frame):
     browser.press("Undo")
     browser.sees("is there again", "#notices")
     assert club.names(CELLAR) == []
+
+
+@pytest.mark.parametrize("does", [HELD, TWICE], ids=["held", "twice"])
+def test_what_is_undone_twice_is_undone_once(club, browser, frame, does):
+    """By a key that is held, or a double click: nothing is told as failed."""
+    browser.until("what it is", lambda: "0 items" in row(browser, "cellar"))
+    browser.script(DRAG, TR("list.xlsx"), TR("cellar"))
+    browser.sees("is now /frame/cellar/list.xlsx", "#notices")
+    club.lossy.hold('"RENAME"')
+    before = club.lossy.times('"RENAME"')
+    browser.script(does)
+    browser.until("it is on its way", lambda: club.lossy.held)
+    time.sleep(0.5)  # (a second one would come right behind it)
+    sent = club.lossy.times('"RENAME"') - before
+    club.lossy.go_on()
+    browser.sees("is there again", "#notices")
+    assert (sent, browser.script(TEXTS, "#notices .fault"), "list.xlsx" in club.names(TOP)) == (1, [], True)
 
 
 def test_several_are_dragged_onto_the_way_above(club, browser, both):
