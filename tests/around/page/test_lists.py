@@ -102,6 +102,9 @@ def test_two_change_a_list(club, browser):
     browser.press("Set it all the same")
     browser.sees("Sharing updated.", "#notices")
     assert club.own(path) == [(0, 0, VIEW, "bob"), (0, 0, 1, "bob")]
+    browser.press("Undo")
+    browser.sees("Sharing is as it was.", "#notices")
+    assert club.own(path) == [(0, 0, 1, "eve")]  # (as it was right before, and not as it was read)
 
 
 def test_one_vocabulary(club, browser):

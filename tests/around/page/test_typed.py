@@ -149,6 +149,9 @@ def test_conflict_goes_on_with_mine(club, browser, june):
     browser.press("Save")
     browser.sees("Saved.")
     assert club.text(PATH) == "theirs and mine"
+    browser.press("Undo")
+    browser.sees("The old text is back.", "#notices")
+    assert club.text(PATH) == "theirs once more"  # (and not what was there before any of it)
 
 
 # Where the page stands
