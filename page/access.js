@@ -87,8 +87,9 @@ class Entry {
 
 class ListView {
   constructor(app, place, standing, list, roster, mayChange) {
-    Object.assign(this, { app, place, standing, list, roster, mayChange, aclflag: list.aclflag, own: ownOf(list),
-      opened: null, object: { path: place.path, kind: standing.kind } });
+    const { room, user } = app;
+    Object.assign(this, { app, room, user, place, standing, list, roster, mayChange, aclflag: list.aclflag,
+      own: ownOf(list), opened: null, object: { path: place.path, kind: standing.kind } });
     this.copied = []; // of what was handed down
     this.changes = []; // of lists, which can be set back
     this.element = make("div.typed");
@@ -122,7 +123,7 @@ class ListView {
   }
 
   get keepsControl() {
-    const [{ app: { user }, roster, standing: its, own }, right] = [this, { rights: WRITE_LIST, allowed: WRITE_LIST }];
+    const [{ user, roster, standing: its, own }, right] = [this, { rights: WRITE_LIST, allowed: WRITE_LIST }];
     const entries = [...own, ...this.inherited];
     return !roster?.[user] || deciding({ ...its, entries }, user, roster[user], right) !== null;
   }
@@ -176,7 +177,7 @@ class ListView {
     const why = { title: `${t.saveList}?`, words: t.noControl, does: t.saveList };
     if (!this.keepsControl && !await ask(why)) return false;
     const now = await this.app.attempt(about, async () => {
-      const its = await this.app.room.run("GETLIST", this.place.path);
+      const its = await this.room.run("GETLIST", this.place.path);
       if (isAlike(its, this.list)) await this.set();
       return its;
     });
@@ -185,9 +186,9 @@ class ListView {
 
   async end(news) {
     const { app, object } = this;
-    const found = await app.attempt(this.called, () => shutOut(app, object, news));
+    const found = await app.attempt(this.called, () => shutOut(this, object, news));
     const changes = this.changes.splice(0);
-    const told = found ? await helpThem(app, object, news, found, changes) : "";
+    const told = found ? await helpThem(this, object, news, found, changes) : "";
     const words = `${t.listSet} ${told}`.trim();
     const undo = this.keepsControl && this.undo(changes);
     await app.done(news.length ? [words, " ", letterOf(this.place)] : words, null, undo);
@@ -215,10 +216,10 @@ class ListView {
   }
 
   async tellMore(panel) {
-    const { app, object, list } = this;
-    const handed = await origins(app.room, object.path, this.inherited.filter(it => !isDeny(it)));
+    const { room, object, list } = this;
+    const handed = await origins(room, object.path, this.inherited.filter(it => !isDeny(it)));
     for (const [it, folder] of handed) panel.tellFrom(whomOf(it), this.linkTo(folder));
-    const found = await shutOut(app, object, list.entries.filter(it => !isDeny(it)));
+    const found = await shutOut(this, object, list.entries.filter(it => !isDeny(it)));
     for (const its of Map.groupBy(found, ({ whom }) => JSON.stringify(whom)).values()) {
       const [isBarred, who] = [its.some(it => it.folders.length), named(its)];
       const words = isBarred ? t.cannotReach(who) : t.lacksStill(who, rightsIn(its[0].lacks, object.kind));
@@ -229,19 +230,19 @@ class ListView {
   async allow(found) {
     const [changes, { whom }] = [[], found[0]];
     const entries = this.list.entries.filter(it => !isDeny(it) && isAlike(whomOf(it), whom));
-    const isDone = await this.app.attempt(t.letPass, () => letAll(this.app, this.object, entries, found, changes));
+    const isDone = await this.app.attempt(t.letPass, () => letAll(this, this.object, entries, found, changes));
     if (isDone) await this.app.done(t.allCan([whomText(whom)]), null, this.undo(changes));
   }
 
   undo(changes) {
     return async () => {
-      await setBack(this.app.room, changes);
+      await setBack(this.room, changes);
       await this.app.done(t.listBack);
     };
   }
 
   async set(before = this.list) {
-    const { app: { room }, object: { path, kind } } = this;
+    const { room, object: { path, kind } } = this;
     const manifest = kind === LARGE && await room.look("READ", inFolder(path, MANIFEST));
     this.changes.push(await setList(room, path, before, { aclflag: this.aclflag, entries: this.own }));
     this.start = this.text;

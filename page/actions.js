@@ -109,14 +109,15 @@ function asLines(text, before) {
 }
 
 async function append(app, path) {
+  const { room } = app;
   // (read before anything is typed)
   const before = await app.attempt(t.appendTo(shown(path)), async () =>
-    toText(fromBase64((await app.room.look("READ", path, { keep: false }))?.data ?? "")) ?? "");
+    toText(fromBase64((await room.look("READ", path, { keep: false }))?.data ?? "")) ?? "");
   if (before === null) return;
   const text = area("", 6);
   const isDone = await ask({ title: t.appendTo(shown(lastName(path))), does: t.append, words: t.onOwnLine,
     fields: [[t.text, text]], faultOf: () => tooLong(fromText(text.value)),
-    task: () => app.room.run("APPEND", path, { data: toBase64(fromText(asLines(text.value, before))) }) });
+    task: () => room.run("APPEND", path, { data: toBase64(fromText(asLines(text.value, before))) }) });
   if (isDone) await app.done(t.replaced, null, null, true);
 }
 
@@ -131,31 +132,31 @@ function settle(who, theirs, mine, keep, take) {
 const kept = new Set();
 
 export async function edit(app, path) {
-  const title = t.doTo(t.edit, shown(lastName(path)));
-  const found = await app.attempt(title, () => Promise.all([app.room.run("READ", path),
-    app.room.look("GETLIST", path).then(it => (it ? trashOf(app) : {}))]));
+  const [{ room }, title] = [app, t.doTo(t.edit, shown(lastName(path)))];
+  const found = await app.attempt(title, () => Promise.all([room.run("READ", path),
+    room.look("GETLIST", path).then(it => (it ? trashOf({ ...app, room }) : {}))]));
   if (!found) return;
   let [[{ data: seen }, { path: trash }], told, written] = [found, t.replaced];
   const text = toText(fromBase64(seen));
   if (text === null) return tellFault(t.about(title, t.theirBytes));
   const [field, lineEnd] = [area(text), text.includes("\r\n") ? "\r\n" : "\n"]; // (a text field has \n alone)
   const typed = () => fromText(field.value.replaceAll("\n", lineEnd));
-  const [since, key] = [Date.now() / 1000, app.room.name + path];
+  const [since, key] = [Date.now() / 1000, room.name + path];
   const keeps = trash && checkbox(t.keepOld, !kept.has(key));
   const keep = async () => {
-    told = t.keptAs(shown(lastName(await keepBeside(app.room, path, t.copyOf(app.user), typed()))));
+    told = t.keptAs(shown(lastName(await keepBeside(room, path, t.copyOf(app.user), typed()))));
   };
   const take = () => { told = t.otherStands(shown(lastName(path))); };
   const task = async () => {
-    const [{ data: now }, data] = [await app.room.run("READ", path), toBase64(typed())];
+    const [{ data: now }, data] = [await room.run("READ", path), toBase64(typed())];
     if (now === seen) {
       if (keeps?.firstChild.checked) {
-        await keepInTrash(app.room, path, trash);
+        await keepInTrash(room, path, trash);
         keeps.firstChild.checked = false; // (what is written may be refused, and sent again)
         kept.add(key);
         told += t.keptUnder(1, t.trash);
       }
-      await app.room.run("WRITE", path, { data });
+      await room.run("WRITE", path, { data });
       return void (written = data);
     }
     const its = (await changesIn(app, [folderOf(path)])).get(path);
@@ -165,8 +166,8 @@ export async function edit(app, path) {
     if (chosen === "on" || !chosen) throw new Error(t.notReplaced);
   };
   const undo = async () => {
-    if ((await app.room.run("READ", path)).data !== written) throw new Error(t.changed);
-    await app.room.run("WRITE", path, { data: seen });
+    if ((await room.run("READ", path)).data !== written) throw new Error(t.changed);
+    await room.run("WRITE", path, { data: seen });
     await app.done(t.textBack, { to: path }, null, true);
   };
   const isDone = await ask({ title, does: t.save, fields: [[t.text, field], ...keeps ? [["", keeps]] : []], task,

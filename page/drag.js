@@ -41,10 +41,7 @@ export const takeRows = (element, app, folder, isFolder = () => true) => take(el
 
 const hasFiles = data => data.types.includes("Files");
 
-async function put(app, folder, data) {
-  const chosen = await dropped(data).catch(tellIt);
-  if (chosen) await upload(app, folder, chosen);
-}
+const put = (app, folder, data) => upload(app, folder, dropped(data));
 
 export const takeFiles = (element, app, folder, isFolder) => take(element, data => hasFiles(data) && isFolder(),
   data => put(app, folder, data));
@@ -103,9 +100,9 @@ async function putRows(app, { paths, isCut }, folder) {
   await moveInto(app, others, folder);
 }
 
-async function putPicture(app, file, folder) {
-  const path = await freePath(app.room, inFolder(folder, file.type.replace(PICTURE, "screenshot.$1")));
-  await upload(app, folder, [{ names: [lastName(path)], file }]);
+function putPicture(app, file, folder) {
+  const path = freePath(app.room, inFolder(folder, file.type.replace(PICTURE, "screenshot.$1")));
+  return upload(app, folder, path.then(it => [{ names: [lastName(it)], file }]));
 }
 
 function paste(app, event) {

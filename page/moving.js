@@ -51,11 +51,11 @@ async function askWhere(app, paths, { words, does, start = folderOf(paths[0]), c
   return isDone && goals();
 }
 
-export function wayBack(app, places) {
+export function wayBack(app, places, room = app.room) {
   follow(app, places);
   return async () => {
     const paths = [...places.keys()];
-    await withEach(t.undo, paths, it => app.room.aside("RENAME", places.get(it), { to: it }));
+    await withEach(t.undo, paths, it => room.aside("RENAME", places.get(it), { to: it }));
     follow(app, new Map(paths.map(it => [places.get(it), it])));
     await app.done(t.isBack(named(paths), paths.length), only(paths, { from: places.get(paths[0]), to: paths[0] }));
   };
@@ -64,13 +64,13 @@ export function wayBack(app, places) {
 const only = (paths, its) => (paths.length === 1 ? its : null);
 
 async function moveTo(app, paths, goals) {
-  const to = new Map(paths.map((it, at) => [it, goals[at]]));
-  const done = await withEach(t.move, paths, it => app.room.aside("RENAME", it, { to: to.get(it) }));
+  const [{ room }, to] = [app, new Map(paths.map((it, at) => [it, goals[at]]))];
+  const done = await withEach(t.move, paths, it => room.aside("RENAME", it, { to: to.get(it) }));
   if (!done.length) return () => app.done("");
   const where = only(done, to.get(done[0])) ?? folderOf(goals[0]);
-  const undo = wayBack(app, new Map(done.map(it => [it, to.get(it)])));
+  const undo = wayBack(app, new Map(done.map(it => [it, to.get(it)])), room);
   const moved = only(done, { from: done[0], to: where });
-  const seers = new Seers(app);
+  const seers = new Seers({ ...app, room });
   const seen = await Promise.all(done.map(it => seers.of({ path: to.get(it) })));
   const who = new Set(seen.map(it => (it ? ` ${t.about(t.heads.who, it.words)}.` : "")));
   return () => app.done(t.isNow(named(done), shown(where), done.length) + [...who].join(""), moved, undo);
@@ -124,7 +124,7 @@ async function copyAll(app, paths, goals) {
   });
 }
 
-async function contentsWords({ room }, paths) {
+async function contentsWords(room, paths) {
   const all = await Promise.all(paths.map(it => whole(room, it, NOBODY)));
   const found = all.flat().filter(it => !paths.includes(it.path));
   if (!found.length) return [];
@@ -136,25 +136,25 @@ async function contentsWords({ room }, paths) {
 
 /** To the trash at once, since there is a way back; for good after a question. */
 export async function remove(app, paths, does = t.doTo(t.remove, shortNamed(paths)), inside = paths) {
-  const places = new Map(); // in the trash
+  const [{ room }, places] = [app, new Map()]; // in the trash
   const asked = await app.attempt(does, async () => {
     const { path: trash, fault } = isInTrash(paths[0]) ? { fault: "" } : await trashOf(app);
     if (trash) {
-      const toIt = async it => places.set(it, await toTrash(app.room, it, trash));
+      const toIt = async it => places.set(it, await toTrash(room, it, trash));
       const gone = await withEach(t.remove, paths, toIt);
       noteGone(app, [...places].map(it => it.toReversed()));
       return { gone };
     }
     const why = fault === "" ? "" : ` ${t.askTrash(fault ?? t.noTrash)}`;
-    return { words: [t.forGood + why, await contentsWords(app, inside)] };
+    return { words: [t.forGood + why, await contentsWords(room, inside)] };
   });
   if (!asked) return;
   let { words, gone } = asked;
-  const task = async () => { gone = await withEach(t.remove, paths, it => removeAll(app.room, it)); };
+  const task = async () => { gone = await withEach(t.remove, paths, it => removeAll(room, it)); };
   const how = { title: does, does: inside === paths ? t.remove : does, isFinal: true, words, task };
   if (words && !await ask(how)) return;
   await app.done(gone.length ? (words ? t.isRemoved : t.isInTrash)(named(gone), gone.length) : "",
-    only(paths, { from: paths[0], to: folderOf(paths[0]) }), words ? null : wayBack(app, places));
+    only(paths, { from: paths[0], to: folderOf(paths[0]) }), words ? null : wayBack(app, places, room));
 }
 
 export async function emptyTrash(app, path) {

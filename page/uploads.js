@@ -103,7 +103,7 @@ export async function makeLike(room, path, like) {
   if (own && !isAlike(own, await ownAt(room, path))) await room.step("SETLIST", path, own);
 }
 
-/** The folder, or where that is full one beside it, new or of the same list. */
+/** It, or where it is full one beside it, new or of its list. */
 export async function placeIn(room, path) {
   if (namesOf(path).length === MAX_NAMES) throw new Error(t.refusals[TOO_DEEP]);
   const namesIn = async it => await room.names(it) ?? [];
@@ -171,7 +171,7 @@ function foldersOf(wanted, folder) {
 }
 
 async function overfull(wanted, folder, namesIn) {
-  const all = [...foldersOf(wanted, folder), ...wanted.filter(it => it.file).map(it => it.path)];
+  const all = [...foldersOf(wanted, folder), ...wanted.map(it => it.path)];
   const inside = await Promise.all([...Map.groupBy(all, folderOf)].map(async ([above, paths]) =>
     [above, new Set([...await namesIn(above), ...paths.map(lastName)])]));
   return inside.filter(([, names]) => names.size > MOST_THINGS);
@@ -182,8 +182,7 @@ function beforeWords(replaced) {
   return one?.kept ? t.keptUnder(replaced.length, one.trash ? t.trash : shown(lastName(one.kept))) : "";
 }
 
-async function sendAll(app, transfer, wanted, folder) {
-  const { room } = app;
+async function sendAll(app, room, transfer, wanted, folder) {
   for (const path of foldersOf(wanted, folder)) await orElse(room.step("MKDIR", path), null, EXIST);
   for (const { goal, like } of wanted.beside ?? []) await makeLike(room, goal, like);
   const [files, isOne, replaced] = [wanted.filter(it => it.file), wanted.length === 1, []];
@@ -196,7 +195,7 @@ async function sendAll(app, transfer, wanted, folder) {
       const at = await writeFile(room, path, new Uint8Array(await file.arrayBuffer()), transfer, isNew);
       settle(aboutOf(room, path));
       [count, size] = [count + 1, size + file.size];
-      if (it.replaces && at === path) replaced.push(it); // (else it lies beside somebody else's newer one)
+      if (it.replaces && at === path) replaced.push(it); // (else it lies beside a newer one)
     } catch (fault) {
       transfer.check();
       transfer.fail(isOne ? fault.message : t.about(shown(path), fault.message), aboutOf(room, path));
@@ -237,11 +236,12 @@ async function wantedOf(app, folder, chosen) {
 }
 
 export async function upload(app, folder, chosen) {
+  const { room, user } = app; // (another may be shown by then)
   try {
-    const wanted = await wantedOf(app, folder, chosen);
-    if (wanted.length) await start(app, wanted, folder);
+    const wanted = await wantedOf({ room, user }, folder, await chosen);
+    if (wanted.length) await start(app, wanted, folder, room);
   } catch (fault) {
-    tellFault(t.about(t.uploadTo(shown(calledIn(app.room.name, folder))), fault.message));
+    tellFault(t.about(t.uploadTo(shown(calledIn(room.name, folder))), fault.message));
   }
 }
 
@@ -253,12 +253,12 @@ export const keepBeside = async (room, path, words, bytes) =>
 
 /** `replaces` is null where nothing whole is there yet. */
 export async function newVersion(app, path, [it], replaces) {
-  const [{ file }, name, folder] = [it, lastName(path), folderOf(path)];
+  const [{ room }, { file }, name, folder] = [app, it, lastName(path), folderOf(path)];
   const fault = faultOf({ names: [name], file }, folder);
-  if (fault) return tellFault(t.nothingSent(fault), aboutOf(app.room, path));
+  if (fault) return tellFault(t.nothingSent(fault), aboutOf(room, path));
   const wanted = { path, file, isNew: false, replaces: replaces !== null };
   const keep = async () => {
-    wanted.kept = await keepBeside(app.room, path, t.before(new Date().toISOString().slice(0, 10)));
+    wanted.kept = await keepBeside(room, path, t.before(new Date().toISOString().slice(0, 10)));
   };
   const { path: trash } = replaces?.mayRead ? await trashOf(app).catch(() => ({})) : {};
   const mayGo = !replaces || await ask({ title: t.doTo(t.replace, shown(name)),
@@ -266,12 +266,12 @@ export async function newVersion(app, path, [it], replaces) {
     words: t.takesPlace(shown(file.name), sizeWords(file.size)) + (trash ? "" : ` ${t.forGood}`),
     others: offered([[trash, { words: t.replace, value: true }],
       [replaces.mayRead && replaces.mayAdd, { words: t.keepBoth, value: true, task: keep }]]) });
-  if (mayGo) await start(app, [wanted], folder);
+  if (mayGo) await start(app, [wanted], folder, room);
 }
 
-function start(app, wanted, folder) {
+function start(app, wanted, folder, room) {
   const total = wanted.reduce((sum, { file }) => sum + (file?.size ?? 0), 0);
   const title = t.doTo(t.upload, wanted.length === 1 ? shown(lastName(wanted[0].path)) : t.allThings(wanted.length));
-  const about = aboutOf(app.room, ...wanted.map(it => it.path));
-  return transferring(app, title, { total, about }, it => sendAll(app, it, wanted, folder));
+  const about = aboutOf(room, ...wanted.map(it => it.path));
+  return transferring(app, title, { total, about }, it => sendAll(app, room, it, wanted, folder));
 }

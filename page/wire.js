@@ -36,9 +36,9 @@ const whyNoReply = status =>
 
 async function fetchText(url, how) {
   try {
-    const whole = new URL(url, location.origin); // (not of the page's address, which may hold a password)
-    const rules = { cache: "no-store", credentials: "same-origin", redirect: "error" };
-    const answer = await fetch(whole, { ...rules, ...how, signal: AbortSignal.timeout(WAIT) });
+    // (not of the page's address, which may hold a password)
+    const answer = await fetch(new URL(url, location.origin), { cache: "no-store", credentials: "same-origin",
+      redirect: "error", ...how, signal: AbortSignal.timeout(WAIT) });
     return { status: answer.status, isHeld: answer.headers.has("room-held"), text: await answer.text() };
   } catch {
     throw new NoAnswer(t.unreachable);

@@ -108,6 +108,8 @@ export class Element {
     this.parentNode = null;
   }
 
+  get firstChild() { return this.childNodes[0] ?? null; }
+
   get textContent() {
     return this.childNodes.map((it) => (it instanceof Element ? it.textContent : it)).join("");
   }

@@ -12,12 +12,13 @@ const { isOwnTrash, nameAt, ownTrash, toTrash, toldBy, trashOf } = await page("t
 const { writeCopy, writeFile } = await page("files");
 const { NOBODY, readFile } = await page("reading");
 const { PIECE } = await page("manifest");
-const { useClipboard } = await page("drag");
+const { takeDrops, useClipboard } = await page("drag");
 const { upload } = await page("uploads");
 const { latest, note } = await page("rail");
 const { FolderTree } = await page("tree");
 const { helpThem, setBack } = await page("questions");
 const { showShared } = await page("contents");
+const { showAccess } = await page("access");
 const { SharePanel } = await page("share");
 const { entriesOf } = await page("lists");
 const { openMenu } = await page("dialogs");
@@ -490,6 +491,72 @@ test("what the trash has no room for is not replaced", async () => {
   await done;
   assert.equal(shelf.text("/d/a.txt"), "a");
   assert.equal(shown("div.fault").filter((it) => it.textContent.includes(t.trashFull)).length, 1);
+});
+
+test("what is dropped goes into the room that was shown, whatever room is shown by then", async () => {
+  const [shelf, other] = [trashed(), trashed()];
+  const app = Object.assign(appOver(shelf), { place: { path: "/d" }, watched: { path: "/d", put: true } });
+  let found = null;
+  const entry = { isFile: true, name: "b.txt", file: (tell) => { found = () => tell(onDisk("b.txt", "b").file); } };
+  const items = [{ kind: "file", webkitGetAsEntry: () => entry }];
+  takeDrops(app);
+  happens("drop", { dataTransfer: { types: ["Files"], items }, preventDefault() {} });
+  while (!found) await soon();
+  app.room = appOver(other).room;
+  found();
+  for (let times = 0; times < 100 && !shelf.names("/d").includes("b.txt"); times += 1) await soon();
+  assert.deepEqual([shelf.names("/d"), other.asked], [["a.txt", "b.txt"], []]);
+  app.room = appOver(shelf).room;
+  const done = upload(app, "/d", [onDisk("c.txt", "c")]);
+  app.room = appOver(other).room;
+  await done;
+  assert.deepEqual([shelf.names("/d"), other.asked], [["a.txt", "b.txt", "c.txt"], []]);
+});
+
+test("what is begun in a room goes on there, whatever room is shown by then", async () => {
+  const [shelf, other] = [trashed(), trashed()];
+  const [app, elsewhere] = [appOver(shelf), appOver(other).room];
+  const { room } = app;
+  const all = ["a", "b", "c", "d", "e"]; // (more than go beside each other)
+  shelf.put("/e");
+  for (const it of all) shelf.put(`/d/${it}`, it);
+  const leaves = () => {
+    app.room = elsewhere;
+    return 0;
+  };
+  const begins = async (task) => {
+    [app.room, shelf.refuses] = [room, leaves];
+    await task();
+    shelf.refuses = () => 0;
+    assert.ok(app.room === elsewhere);
+  };
+  const paths = all.map((it) => `/d/${it}`);
+  await begins(() => moveInto(app, paths, "/e"));
+  assert.deepEqual([shelf.names("/d"), shelf.names("/e")], [["a.txt"], all]);
+  await app.undo();
+  await begins(() => remove(app, paths));
+  assert.deepEqual([shelf.names("/d"), shelf.names(TRASH).length], [["a.txt"], 5]);
+  await app.undo();
+  assert.deepEqual([shelf.names("/d"), shelf.names("/e")], [["a", "a.txt", ...all.slice(1)], []]);
+  await begins(async () => {
+    const done = edit(app, "/d/a.txt");
+    await comes(t.save);
+    shown("textarea")[0].value = "edited";
+    await press(t.save);
+    await done;
+  });
+  assert.equal(shelf.text("/d/a.txt"), "edited");
+  await app.undo();
+  assert.equal(shelf.text("/d/a.txt"), "a");
+  app.room = room;
+  room.roster = elsewhere.roster = { ann: [] };
+  const nodes = await showAccess(app, { view: "access", room: "club", path: "/d/a.txt" });
+  const panel = nodes.find((it) => it.matches("section"));
+  await begins(() => panel.querySelectorAll("button").find((it) => it.textContent === t.makePrivate).click());
+  for (let times = 0; times < 50; times += 1) await soon();
+  assert.equal(shelf.things.get("/d/a.txt").list.aclflag, 2);
+  await app.undo();
+  assert.deepEqual([shelf.things.get("/d/a.txt").list.aclflag, other.asked], [1, []]);
 });
 
 test("a folder takes as many things as it has room for, unasked", async () => {
