@@ -1,4 +1,6 @@
 """A folder as in a file manager: what is seen first, sorting, keys, menus, links, what is seen by itself."""
+import time
+
 import pytest
 
 from .club import (ALL, CHOSEN, DIALOG, FOUND, FRAME, MENU, PIECE, PLACE, ROWS, TEXTS, TOP, VIEW, by_menu, ends, entry,
@@ -471,6 +473,21 @@ def test_others_changes_are_not_seen_where_that_is_not_wished(club, browser, fra
         browser.later(comes_back)
         assert club.lossy.times('"LIST"') == sent
         browser.keys("escape")
+
+
+def test_what_is_chosen_while_the_page_looks_again_stays_chosen(club, browser, frame):
+    """Whatever it finds: what is pressed then is of the rows that were chosen."""
+    club.lay(f"{TOP}/of eve.txt")
+    club.lossy.hold('"LIST"', '"keep":false')
+    browser.script("dispatchEvent(new Event('focus'))")
+    browser.until("it looks", lambda: club.lossy.held)
+    browser.act("//tr[.//bdi='notes.txt']//input", "click")
+    club.lossy.go_on()
+    time.sleep(1)  # (it has looked by then)
+    assert browser.script(CHOSEN) == ["notes.txt"]
+    browser.keys("escape")
+    browser.script("dispatchEvent(new Event('focus'))")
+    browser.sees("of eve.txt", ".things")
 
 
 def test_one_click_downloads_what_cannot_be_shown(club, browser, frame):

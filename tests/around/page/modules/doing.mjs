@@ -476,6 +476,17 @@ test("a document has its name again where what replaces it cannot take it", asyn
   assert.deepEqual([shelf.names("/").includes("a"), shelf.text("/a")], [true, "before"]);
 });
 
+test("a large version takes no document away that somebody wrote meanwhile", async () => {
+  const shelf = new Shelf();
+  shelf.put("/a", "before");
+  shelf.refuses = ({ cmd, path }) => {
+    if (cmd === "CREATE" && path.endsWith("/.room-file")) shelf.things.get("/a").data = btoa("theirs");
+    return 0;
+  };
+  await refused(writeFile(appOver(shelf).room, "/a", LARGE), t.changed);
+  assert.deepEqual([shelf.names("/"), shelf.text("/a")], [["a"], "theirs"]);
+});
+
 const onDisk = (name, text) =>
   ({ names: [name], file: { size: text.length, arrayBuffer: async () => new TextEncoder().encode(text) } });
 
@@ -557,6 +568,15 @@ test("what is begun in a room goes on there, whatever room is shown by then", as
   assert.equal(shelf.things.get("/d/a.txt").list.aclflag, 2);
   await app.undo();
   assert.deepEqual([shelf.things.get("/d/a.txt").list.aclflag, other.asked], [1, []]);
+});
+
+test("where both are kept, a name is free that nothing has, nor what is uploaded with it", async () => {
+  const shelf = trashed();
+  const done = uploaded(shelf, "/d", onDisk("a.txt", "new"), onDisk("a (2).txt", "second"), onDisk("b.txt", "b"));
+  await press(t.keepBoth);
+  await done;
+  assert.deepEqual(shelf.names("/d").map((it) => [it, shelf.text(`/d/${it}`)]),
+    [["a (2).txt", "second"], ["a (3).txt", "new"], ["a.txt", "a"], ["b.txt", "b"]]);
 });
 
 test("a folder takes as many things as it has room for, unasked", async () => {

@@ -79,6 +79,18 @@ test("an answer that comes late is not drawn over the row on which somebody stan
   assert.equal(details.element.querySelector("h2").textContent, "second");
 });
 
+test("who can see it is told no longer than it is known", async () => {
+  const [who, seen] = [make("td"), [{ words: t.onlyYou, told: "ann" }, null, { words: "bob", told: "bob" }]];
+  const row = { path: "/a", access: "#access/club/a", cells: { who }, app: { user: "ann", room: {} }, pen: {},
+    look: async () => ({ kind: "folder" }),
+    things: { seers: { of: async () => seen.shift() }, details: { draw: async () => {} } } };
+  const told = async () => {
+    await Row.prototype.tellWho.call(row);
+    return who.firstChild.hidden ? "" : who.textContent;
+  };
+  assert.deepEqual([await told(), await told(), await told()], [t.onlyYou, "", "bob"]);
+});
+
 test("a change of today is told by its time, one of the same day of another year by that", () => {
   const [now, before] = [new Date(), new Date()];
   before.setFullYear(now.getFullYear() - 1);
