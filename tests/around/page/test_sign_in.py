@@ -131,7 +131,7 @@ def test_logging_out_ends_other_tabs_too(club, browser):
     of_user(browser, "Log out")
     browser.sees("You are logged out", "h1")
     browser.turn_to(read)
-    browser.sees("Password")
+    browser.until("the form", lambda: "Password" in (browser.text_of("body") or ""))  # (of no page yet there is none)
     browser.turn_to(typed)
     assert browser.script("return document.querySelector('textarea').value") == "half a"
     browser.script("document.querySelector('textarea').value = ''")

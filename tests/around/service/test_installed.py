@@ -124,7 +124,7 @@ def test_a_package_starts_what_was_enabled(machine):
                         "fileroom-admin front"]
     assert [it.partition(" start ")[2] for it in told if " start " in it] == [
         "fileroom-ports.service fileroom@plans.service fileroom-backup@plans.timer fileroom-try@plans.timer",
-        "fileroom-signin.socket"]
+        "fileroom-signin.socket", "fileroom-metrics.timer"]
     assert said("sh", "-c", text, "postinst", "abort-upgrade", **machine.env)[::2] == (0, "")
     assert machine.told() == []
 
