@@ -61,7 +61,8 @@ def test_a_change_in_the_room_of_the_longest_name(front):
 
 
 def test_a_login_of_any_letters(fronted, gateway):
-    """That a roster may have: it is counted, and held, also by WebDAV; and a guess of it has its name."""
+    """That a roster may have: it is counted, and held, also by WebDAV; and a guess of it has its name, as long as a
+    password may be."""
     front, user = fronted([LONGEST_LOGIN], dav=gateway.at), LONGEST_LOGIN
     assert front.status(user, "POST", SLOT + "1", CHANGE) == 200
     assert [json.loads(it)["by"] for it in changes_of(front)] == [f"{user}@plans"]
@@ -69,9 +70,11 @@ def test_a_login_of_any_letters(fronted, gateway):
     for method, target, body, status in (("POST", SLOT + "2", CHANGE, 429), ("POST", SLOT + "2", LOOK, 200),
                                          ("PUT", "/dav/plans/x", b"x", 429), ("GET", "/dav/plans/x", b"", 200)):
         assert front.status(user, method, target, body) == status, (method, status)
-    assert front.status(None, "GET", "/whoami", more=[login(user, "no")]) == 401
+    for letters in 2, 256, 300:
+        assert front.status(None, "GET", "/whoami", more=[login(user, "x" * letters)]) == 401
     front.settle()
-    assert text_of(log_of(front, "fileroom-logins.log")).endswith(f' as "{user}"\n')
+    told = text_of(log_of(front, "fileroom-logins.log")).splitlines()
+    assert [it.rpartition(" as ")[2] for it in told] == [f'"{user}"'] * 2
 
 
 @each("length, count", [("a look", len(LOOK), 0), ("the longest", 3999, 0), ("one that is padded", 4000, 1)])
