@@ -283,15 +283,18 @@ def served():
 
 
 def test_a_network(ports):
-    """The addresses of one (/64) count as one; another has its own."""
+    """The addresses of one (/64) count as one."""
     with served() as connected:
         begin = time.monotonic()
         connected(20 * NEAR)
         are_bounded("tcp6", AT_ONCE, 30, begin)
-        with socket.socket(socket.AF_INET6) as line:
-            line.settimeout(0.5)  # (a packet that was dropped comes again after a second)
-            line.bind((FAR, 0))
-            assert line.connect_ex((SERVER, FRONT)) == 0
+
+
+def test_another_network(ports):
+    """Of the same site has its own, while that has some left."""
+    with served() as connected:
+        connected(10 * NEAR)
+        assert connected(60 * [FAR]) >= 60
 
 
 def test_a_site(ports):
