@@ -3,6 +3,7 @@ import json
 import os
 
 import pytest
+from given import each
 from fileroom_admin.trash import part_of
 from served import text_of
 
@@ -210,6 +211,15 @@ def test_a_table_hands_over_to_nobody_who_goes(machine, leaver):
     status, _, faults = machine.does(*("kim" if it == "ann" else it for it in words))
     assert (status, faults) == (1, "fileroom-admin: kim has what kim owns already\n")
     assert leaver.askers == set()
+
+
+@each("more, lines, want", [("tried", ["--dry-run"], "", 0), ("refused", [], "ann,plans,eng\n", 1)])
+def test_a_table_that_is_tried_or_refused_hands_over_nothing(machine, leaver, more, lines, want):
+    """And holds nobody."""
+    words = table(machine, f"user,rooms,groups\nann,plans club,eng\n{lines}")
+    assert machine.does(*words[:3], *more, *words[3:])[0] == want
+    assert (leaver.askers, os.path.exists(machine.at(HELD)), owners(leaver, "bob")) == (
+        set(), False, dict.fromkeys(OWNED, "bob"))
 
 
 def test_a_new_name_owns_it_all_by_the_lines_that_are_told(machine, leaver):
