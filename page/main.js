@@ -57,7 +57,7 @@ class App {
     else if (here?.view !== "open") this.things?.renew();
     // (a key repeats)
     this.saying = [words, undo && (() => this.back ??= this.attempt(t.undo, undo).finally(() => delete this.back))];
-    if (here && moved && isWithin(here.path, moved.from)) { // (the next place tells it)
+    if (here && moved?.from && isWithin(here.path, moved.from)) { // (the next place tells it)
       return location.replace(addressOf({ room: here.room, path: moved.to }));
     }
     const back = standing(moved?.to);

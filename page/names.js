@@ -57,7 +57,7 @@ export const lastName = path => namesOf(path).at(-1) ?? ROOT;
 
 export const calledIn = (room, path) => (path === ROOT ? room ?? path : path);
 export const nameIn = (room, path) => (path === ROOT ? room : lastName(path));
-export const isWithin = (path, folder) => path === folder || path.startsWith(`${folder}/`);
+export const isWithin = (path, folder) => path === folder || path.startsWith(inFolder(folder, ""));
 
 export function foldersAbove(path) {
   const names = namesOf(path);

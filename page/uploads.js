@@ -167,7 +167,7 @@ export const freePath = async (room, path) => (await freePaths(room, [path]))[0]
 /** What may be new, each behind the one above it. */
 function foldersOf(wanted, folder) {
   const all = wanted.flatMap(({ path, file }) => [...foldersAbove(path), ...file ? [] : [path]]);
-  return [...new Set(all)].filter(it => it !== ROOT && !isWithin(folder, it)).sort();
+  return [...new Set(all)].filter(it => !isWithin(folder, it)).sort();
 }
 
 async function overfull(wanted, folder, namesIn) {
