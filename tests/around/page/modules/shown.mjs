@@ -48,7 +48,7 @@ test("a text of several blanks has each of them in its place, in German too", as
     ["shutOutAt", [["bob", "eve"], "/a"], "Kein Weg durch /a für bob und eve."],
     ["isFull", ["/a", "/b"], "/a ist voll: 256 Elemente. Was Sie anlegen, kommt in /b"],
     ["takesPlace", ["a.txt", "2 KiB"], "a.txt (2 KiB) ersetzt, was da ist"],
-    ["isNow", ["/a", "/b", 1], "/a ist jetzt /b."], ["isNow", ["/a", "/b", 2], "/a sind jetzt /b."],
+    ["isNow", ["/a", "/b", 1], "/a ist jetzt /b."], ["isNow", ["/a", "/b", 2], "/a sind jetzt in /b."],
     ["notInRoster", ["eve", true], "eve ist kein Benutzer dieses Raums."],
     ["notInRoster", ["eve", false], "eve ist keine Gruppe dieses Raums."],
     ["ruling", [true, "bob", "lesen"], "Verboten für bob: lesen."],
