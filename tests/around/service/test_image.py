@@ -12,7 +12,8 @@ from .contents import SERVICE
 TOP = os.path.join(SERVICE, "..")
 VOLUME = [it.partition(":")[2] for it in
           re.search(r'(?s)\nVOLUME="(.*?)"\n', text_of(os.path.join(TOP, "tools", "image")))[1].split()]
-MADE_ANEW = "/etc/logrotate.d/fileroom"
+MADE_ANEW = {"/etc/logrotate.d/fileroom", "/var/lib/prometheus/node-exporter/fileroom.prom",
+             "/var/log/nginx/fileroom-logins.log"}  # (the last one: of guesses of this day)
 
 
 def is_in_volume(path):
@@ -27,7 +28,7 @@ def users(path):
 
 def test_what_a_purge_keeps_outlives_a_container():
     kept = re.search(r"(?s)for kept in (.*?)\n    do", text_of(os.path.join(SERVICE, "deb", "postrm")))[1]
-    paths = [it for it in kept.replace("\\", " ").split() if it != MADE_ANEW]
+    paths = [it for it in kept.replace("\\", " ").split() if it not in MADE_ANEW]
     assert len(paths) > 4
     assert [it for it in [*paths, "/var/lib/fileroom-dav"] if not is_in_volume(it)] == []
 
