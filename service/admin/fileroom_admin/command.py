@@ -253,7 +253,7 @@ def see(call, user, room, path):
 
 
 def tell_log(call, room, **given):
-    told.log(call.places, room, SimpleNamespace(**given), print)
+    told.log(call.places, room, SimpleNamespace(**given), print, say_fault)
 
 
 def check(call, backup_hours, prometheus):

@@ -1,5 +1,6 @@
 """Who changed what in a room, and when: the front's log of changes, with a line for each change."""
 import collections
+import contextlib
 import datetime
 import gzip
 import hashlib
@@ -220,9 +221,20 @@ class Told:
             self.tell_first()
 
 
-def log(places, room, given, say):
+def first_time(places):
+    """Of the first line that can be read, or none."""
+    for line in lines_of(places, None):
+        with contextlib.suppress(ValueError, KeyError, TypeError, AttributeError):
+            return Change(line, lambda *_: False).time
+    return None
+
+
+def log(places, room, given, say, warn):
     """Those of a room, of one user, at or below a path, since a time, as wanted."""
     since = since_when(given.since) if given.since else None
+    first = first_time(places) if since else None
+    if since and (first is None or first > since):
+        warn(f"the log here begins {first.isoformat() if first else 'later'}: what was before is not known")
     begin = since and begins(places, room, since)
     odd, seen, where, shown, lists = 0, "", "", of_backups().shown, Lists(places, room, begin)
     told = Told(lambda text: say(shown(text)), lists)

@@ -143,8 +143,18 @@ CHANGES = [{"body": {"cmd": "MKDIR", "path": "/a"}}, {"body": {"cmd": "RENAME", 
     ("--since 2020-01-01", ["/a", "/a/b", "/a/c:", "/a/c", "/a/x", "/d"]), ("--since 2999-02-01", [])])
 def test_some_of_it(folder, words, paths):
     """By user, path, and time. What was in a folder went, or came, with it."""
-    status, lines, _ = tells(log_of(folder, [{**it} for it in CHANGES]), *words.split())
+    status, lines, faults = tells(log_of(folder, [{**it} for it in CHANGES]), *words.split())
     assert (status, [line.split()[2] for _, line in lines]) == (0, paths)
+    begins = f"fileroom-admin: the log here begins {TIME}: what was before is not known\n"
+    assert faults == begins * ("2020" in words)
+
+
+def test_a_log_that_has_nothing(folder):
+    """As on a machine that took the place of another, whose log stayed there."""
+    for root in folder, log_of(folder, []):
+        status, lines, faults = tells(root, "--since", "3d")
+        assert (status, lines) == (0, [])
+        assert faults == "fileroom-admin: the log here begins later: what was before is not known\n"
 
 
 def test_no_time(folder):
