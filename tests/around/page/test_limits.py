@@ -86,7 +86,7 @@ def test_limit_of_a_name_as_it_is_typed(club, browser):
     club.open()
     make_new(browser, "New document")
     browser.fill("Name", LONG)
-    browser.sees("This counts as 81 letters, and 64 are the most", "dialog")
+    browser.sees("This counts as 81 letters; 64 are the most", "dialog")
     browser.press(f"Shorten it to {SHORT}", DIALOG)
     browser.until("it is told no more", lambda: "counts as" not in browser.shown())
     browser.press("Create", DIALOG)

@@ -94,7 +94,7 @@ def test_several_are_moved_and_back(club, browser, both):
     browser.press("Create")
     browser.sees(f"To the folder {BOX}", "dialog")
     browser.press("Move", DIALOG)
-    browser.sees(f"2 items are now {BOX}.", "#notices")
+    browser.sees(f"2 items are now in {BOX}.", "#notices")
     assert club.names(BOX) == BOTH
     browser.press("Undo")
     browser.sees("2 items are there again.", "#notices")
@@ -161,7 +161,7 @@ def test_what_is_undone_twice_is_undone_once(club, browser, frame, does):
 
 def test_several_are_dragged_onto_the_way_above(club, browser, both):
     browser.script(DRAG, TR("notes.txt"), "//*[@class='way']/li[1]")
-    browser.sees("2 items are now /.", "#notices")
+    browser.sees("2 items are now in /.", "#notices")
     assert {*BOTH} <= {*club.names("/")}
     browser.press("Undo")
     browser.sees("2 items are there again", "#notices")
@@ -192,7 +192,7 @@ def test_cut_and_paste(club, browser, both):
     assert (len(club.names(TOP)), club.names(CELLAR)) == (6, [])
     club.open(CELLAR)
     browser.chord("ctrl", "v")
-    browser.sees("2 items are now /frame/cellar.", "#notices")
+    browser.sees("2 items are now in /frame/cellar.", "#notices")
     assert (len(club.names(TOP)), club.names(CELLAR)) == (4, BOTH)
     browser.press("Undo")
     browser.sees("2 items are there again.", "#notices")

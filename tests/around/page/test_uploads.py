@@ -75,7 +75,7 @@ def test_upload_of_what_cannot_be(club, browser, big):
     club.put("/big", club.on_disk("too large", bytes(16 * MIB + 1)), told=f"{TOO_LARGE} Nothing was sent.")
     club.put("/big", *map(club.on_disk, files, files.values()))
     browser.sees("2 of 3 cannot be uploaded", "dialog")
-    for told in TOO_LARGE, f"{LONG}: This counts as 66 letters, and 64 are the most. Accents":
+    for told in TOO_LARGE, f"{LONG}: This counts as 66 letters; 64 are the most. Accents":
         browser.sees(told, "dialog li")
     assert [it for it in club.lossy.bodies if b"CREATE" in it or b"MKDIR" in it] == []
     browser.press("Upload the other 1")
