@@ -8,7 +8,7 @@ from .asked import Asked
 from .faults import Answered, NotThere, is_refused
 from .locks import Condition, Lock, Locks
 from .names import above, href, is_below, split_destination
-from .tree import Thing, spelled, thing_at
+from .tree import Thing, is_there, spelled, thing_at
 from .visit import Visit
 
 WRITE = 0x2  # on a folder: to add a document
@@ -93,6 +93,11 @@ class Rules:
                                   is_member=is_member)
         if lock is not None and self.may_change(path):
             raise self.held(path, lock, "lock-token-submitted")
+
+    def need_free_to_put(self, path: str) -> None:
+        """(A lock of the folder alone keeps which names it has, and not what is in its documents: RFC 4918, 7.4.)"""
+        of_above = self.locks.on(self.asked.room, above(path))
+        self.need_free(path, is_member=bool(of_above) and not is_there(self.visit, path))
 
     def may_change(self, path: str) -> bool:
         masks = {path: CHANGE, above(path): CHANGE_ABOVE}

@@ -22,7 +22,7 @@ def put(gate, visit: Visit, asked: Asked) -> Reply:
     data = asked.body(MOST)
     path, rules = place(gate, visit, asked, asked.path), Rules(visit, asked, gate.locks)
     rules.need()
-    rules.need_free(path, is_member=True)
+    rules.need_free_to_put(path)
     need_folder_above(gate, visit, asked, path)
     is_new = (asked.field("If-None-Match") or "").strip() == "*"
     with gate.changing(asked.room, path):

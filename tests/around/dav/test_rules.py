@@ -26,11 +26,12 @@ def started(started):
 
 
 def test_a_lock_of_a_folder_alone_keeps_its_names(desk):
+    """And not what is in the documents that it has (RFC 4918, 7.4)."""
     desk.play("ann MKCOL /both/named 201; ann PUT /both/named/it 201 > x")
     token = desk.locked("ann", "/both/named", Depth="0")
     for method, path in ("PUT", "new"), ("MKCOL", "new"), ("DELETE", "it"), ("LOCK", "new"):
         desk.does("bob", method, f"/both/named/{path}", 423, EXCLUSIVE if method == "LOCK" else b"")
-    desk.play("bob PUT /both/his 201 > y; bob MOVE /both/named/it 423 > /both/it")
+    desk.play("bob PUT /both/his 201 > y; bob PUT /both/named/it 204 > y; bob MOVE /both/named/it 423 > /both/it")
     for method in "MOVE", "COPY":
         desk.does("bob", method, "/both/his", 423, to="/both/named/new")
     desk.unlock("ann", "/both/named", token)
