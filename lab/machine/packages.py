@@ -30,14 +30,15 @@ def lost():
         must("systemctl", "disable", "--now", f"fileroom@{room}", f"fileroom-backup@{room}.timer",
              f"fileroom-try@{room}.timer", f"fileroom-proxy@{room}.socket")
     must("systemctl", "disable", "--now", "fileroom-ports")
-    must("mkdir", "/srv/copies")
+    must("mkdir", "-p", "/srv/copies/fileroom-log")
+    must("sh", "-c", "cp /var/log/fileroom/changes.log* /srv/copies/fileroom-log")
     must("sh", "-c", "mv /var/backups/fileroom /var/backups/fileroom-front /srv/copies; chown -R 0:0 /srv/copies")
     must("rm", "-r", *(path for it in removal.LINKS for path in glob.glob(it)), "/etc/nginx/fileroom",
          "/etc/logrotate.d/fileroom", "/var/lib/fileroom", "/etc/fileroom", "/var/log/fileroom")
     must("systemctl", "restart", "nginx")
     shell, of_front = typed.Shell("/root", HOME="/root"), max(os.listdir("/srv/copies/fileroom-front"))
     lines = typed.commands(TOP, "docs/RUNNING.md", "The machine is lost", 3)
-    tally.differs("lines for a lost machine", len(lines), 6)
+    tally.differs("lines for a lost machine", len(lines), 7)
     for line, told in lines:
         for room in ROOMS if "plans" in line else ROOMS[:1]:
             date = max(os.listdir(f"/srv/copies/fileroom/{room}"))
@@ -46,6 +47,7 @@ def lost():
             due = typed.as_told(said_then, [it.replace("plans", room) for it in told])
             tally.differs(f"lost: {given}", (status, said_then), (0, due))
     are_as_before(*ROOMS)
+    tally.differs("what was done before", "MKDIR" in said("fileroom-admin", "log", "plans")[1], True)
     tally.differs("its files' mode", must("stat", "-c", "%U %a", "/var/lib/fileroom/plans/room.db"), "fileroom 600")
 
 

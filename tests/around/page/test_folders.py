@@ -157,7 +157,8 @@ def test_search_goes_on_where_a_text_was_saved(club, browser):
     browser.press("Save")
     browser.sees("Saved.", "#notices")
     browser.until("its size", lambda: "6 bytes" in row(browser, "two.txt"))
-    assert browser.script("return document.activeElement.closest('tr')?.rowIndex") == 2
+    in_row = "return document.activeElement.closest('tr')?.rowIndex"
+    browser.until("the row", lambda: browser.script(in_row) == 2)
 
 
 def test_search_says_what_it_is_a_list_of(club, browser, tree):
@@ -184,7 +185,7 @@ def test_planted_manifest_hides_nothing(club, browser, planted):
     for name in "right", "wrong":
         club.open(f"/planted/{name}")
         browser.sees("three.txt", "main")
-    browser.sees("A large file is here, and other items that are shown", "main")
+    browser.sees("A large file is here, and other items", "main")
     club.lay(("/planted/right/.room-000", b"a name like others"))
     club.open("/planted/right")
     browser.sees(".room-000", "main")

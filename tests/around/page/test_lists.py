@@ -48,7 +48,7 @@ def test_a_list_of_its_own(club, browser):
     club.lets("eve", "/plans", VIEW)
     club.open("/plans/june.txt", "access")
     browser.sees("Handed down from the folder above")
-    browser.sees("Without the tick, what is handed down now stays, as entries of its own", "main")
+    browser.sees("Without the tick, what is handed down now stays as its own entries", "main")
     browser.act(TAKES_OVER, "click")
     browser.sees("What the folder above hands down does not count.", "main")
     browser.act(TAKES_OVER, "click")
