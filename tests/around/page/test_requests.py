@@ -35,7 +35,7 @@ def test_lost_answers_over_a_reload(club, browser, log):
     club.lossy.lose("APPEND", 10_000)
     append(browser, "after a reload")
     browser.sees("The room cannot be reached. The request is kept, and sent again until it is answered.", "#busy")
-    browser.sees("times so far.", "#busy")
+    browser.sees("Tries so far: ", "#busy")
     browser.go("about:blank")
     club.lossy.lose("")
     club.open(LOG)
@@ -44,7 +44,7 @@ def test_lost_answers_over_a_reload(club, browser, log):
     assert log() == "after a reload\n"
     club.lossy.lose("APPEND", 10_000, passes=False)
     append(browser, "too late")
-    browser.sees("times so far.", "#busy")
+    browser.sees("Tries so far: ", "#busy")
     browser.go("about:blank")
     club.lossy.lose("")
     club.does({"cmd": "REMOVE", "path": LOG})
@@ -70,7 +70,7 @@ def test_given_up_while_an_answer_is_awaited(club, browser, log):
     """It is not waited for."""
     club.lossy.lose("APPEND", 10_000)
     append(browser, "given up")
-    browser.sees("times so far.", "#busy")
+    browser.sees("Tries so far: ", "#busy")
     club.lossy.hold("APPEND")
     browser.until("it is sent once more", lambda: club.lossy.held)
     browser.press_anyway("Give up")
