@@ -5,7 +5,7 @@ Ein Klick auf den Namen öffnet es; der Knopf ⋯ einer Zeile zeigt, was Sie dam
   ersetzt alles und zeigt beide Texte, wenn es jemand inzwischen geändert hat; mit dem Haken kommt die alte Fassung in
   Ihren Papierkorb. **Neue Fassung hochladen** ersetzt es durch eine Datei.
 **Freigeben**: Namen eingeben und anklicken, was die Person darf.
-Was Sie anlegen, auch eine Kopie, gehört Ihnen. **Entfernen** legt es in Ihren Papierkorb, wo Sie einen haben: der
+**Entfernen** legt es in Ihren Papierkorb, wo Sie einen haben: der
   Weg dorthin steht neben der Liste (in einem schmalen Fenster hinter ☰). Ein neues Passwort gibt Ihre IT.
 Eine Anfrage ohne Antwort wird wieder gesendet, auch nach Neuladen, und einmal ausgeführt.
 Tasten: **Strg /** führt zur Suche, **Alt ↑** zum Ordner darüber, **Strg Z** macht rückgängig; in der Liste sucht **/**,

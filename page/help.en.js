@@ -5,7 +5,7 @@ A name opens it; the button ⋯ of a row has what you may do with it.
   both texts if somebody changed it meanwhile; with its tick the old version goes to your trash. **Upload a new
   version** replaces it by a file.
 **Share**: type a name, and press what they may do.
-What you make, a copy too, is yours. **Remove** moves it to your trash, where you have one: the way to it stands
+**Remove** moves it to your trash, where you have one: the way to it stands
   beside the list (in a narrow window behind ☰). A new password comes from whoever runs the room.
 A request without an answer is sent again, also after a reload, and done once.
 Keys: **Ctrl /** goes to the search, **Alt ↑** to the folder above, **Ctrl Z** undoes; in the list **/** searches,

@@ -5,12 +5,12 @@ import * as busy from "./busy.js";
 import { forgetFound, searchFor, showContents, showFind, showRecent, showShared } from "./contents.js";
 import { takeDrops, useClipboard } from "./drag.js";
 import { head } from "./heads.js";
-import { logOut, onLogin, tellLogin } from "./login.js";
+import { logOut } from "./login.js";
 import { showMatrix } from "./matrix.js";
 import { sessionOfTab, stayAs, userNow } from "./session.js";
 import { LANGUAGES, NOENT, ROOT, Refusal, Room, addressOf, arrive, ask, button, calledIn, choose, closeAll, closedLine,
   drawRail, end, faultLine, fileOfFront, forget, forgetOthers, heading, isMenuOpen, isPart, isRefused, isStarred,
-  isUnsaved, isWithin, language, learnDav, learnNames, leave, make, mayEnd, namesOf, onSubmit, once, openMenu, part,
+  isUnsaved, isWithin, language, learnDav, learnNames, leave, make, namesOf, onSubmit, once, openMenu, part,
   pass, pathOf, placeOf, say, settle, showHelp, shown, standing, t, tellFault, untilClosed, warn,
   watch } from "./shared.js";
 
@@ -157,7 +157,6 @@ async function leaveAll() {
   if (isUnsaved() && !await mayLose()) return;
   end();
   const isOut = await logOut();
-  tellLogin();
   document.title = "fileroom"; // (the next one may be somebody else)
   history.replaceState(null, "", "/");
   const [title, words] = isOut ? [t.loggedOut, t.forgotten] : [t.notLoggedOut, t.notForgotten];
@@ -196,8 +195,9 @@ async function look(app) {
   if (app.room) app.room.roster = null;
   forgetFound();
   if (!its) {
-    const find = it => document.querySelector(`main > ${it}`);
-    const isOther = find(".fault") ?? await find(".tools")?.isOther?.();
+    const [fault, tools] = ["fault", "tools"].map(it => document.querySelector(`main > .${it}`));
+    const isOther = fault ? (await app.nodesOf(app.place)).every(it => it.textContent !== fault.textContent) :
+      await tools?.isOther?.();
     return isOther && !isAtWork() ? app.show(standing()) : app.things?.renew();
   }
   const [had, found, list] = await Promise.all([its.list, app.room.look("LIST", its.path, { keep: false }),
@@ -241,7 +241,6 @@ async function start() {
   watch(() => part("main").querySelector(".typed")?.isUnsaved());
   addEventListener("hashchange", () => app.come());
   addEventListener("pageshow", ({ persisted }) => persisted && stayAs(user));
-  onLogin(() => mayEnd() && stayAs(user));
   addEventListener("focus", () => look(app));
   setInterval(() => look(app), MINUTE);
   addEventListener("keydown", go);

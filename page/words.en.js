@@ -146,7 +146,7 @@ export const t = {
   keepOld: "Keep the old version in the trash", textBack: "The old text is back.", goOnWithMine: "Go on with mine",
   yoursThen: "Everyone with access to this folder will have access to it.",
   isHeld: "{0} {1|is|are} {2|cut|copied}: Ctrl V puts {1|it|them} into the folder shown.",
-  toFolder: "To the folder ", isHere: "That is where it is: choose another folder above, or another name.",
+  toFolder: "To the folder ", isHere: "That is where it is: choose another folder or name.",
   moveWords: "Access will be as in the new folder, beside its own.",
   copyWords: "Its own access does not go with it.", forGood: "It cannot be brought back.",
   intoItself: "Nothing goes into itself: choose another folder.", documents: "{0} {0|document|documents}",

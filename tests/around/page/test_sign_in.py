@@ -113,34 +113,6 @@ def test_logging_out_and_in_as_another(club, browser):
     is_at(browser, "eve", "#open/club")
 
 
-def test_logging_out_ends_other_tabs_too(club, browser):
-    """But one in which something is typed, which would be lost."""
-    browser.go(club.address("#open/club/plans"))
-    types(browser, "ann", "ann-word")
-    is_at(browser, "ann", "#open/club/plans")
-    read = browser.tab()[1]
-    browser.go(club.address(f"#open/club{PATH}"))
-    browser.sees("text", "pre")
-    typed = browser.tab()[1]
-    browser.go(club.address(f"#open/club{PATH}"))
-    browser.press("Add text", "//main")
-    browser.fill("Text", "half a")
-    out = browser.tab()[1]
-    browser.go(club.address("#open/club"))
-    is_at(browser, "ann", "#open/club")
-    of_user(browser, "Log out")
-    browser.sees("You are logged out", "h1")
-    browser.turn_to(read)
-    browser.until("the form", lambda: "Password" in (browser.text_of("body") or ""))  # (of no page yet there is none)
-    browser.turn_to(typed)
-    assert browser.script("return document.querySelector('textarea').value") == "half a"
-    browser.script("document.querySelector('textarea').value = ''")
-    browser.close_tab()
-    browser.turn_to(out)
-    browser.close_tab()
-    browser.turn_to(read)
-
-
 def test_a_page_of_before(club, browser):
     """That Back brings again is looked at anew: nobody is logged in any more, or another one."""
     for user in None, "eve":

@@ -262,7 +262,7 @@ def test_fault_of_a_copy_is_told_where_the_place_is_chosen(club, browser, shut):
     club.open(f"{TOP}/{NAMES[0]}")
     browser.press("Copy", "//main")
     browser.press("Copy", DIALOG)
-    browser.sees("That is where it is: choose another folder above", "dialog")
+    browser.sees("That is where it is: choose another folder or name", "dialog")
     to_folder(browser, "club", "club")
     browser.fill("Name", "copied")
     browser.press("Copy", DIALOG)
