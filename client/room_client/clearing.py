@@ -1,4 +1,6 @@
 """What uploads made is removed, and all that is in a folder; whatever else has a name of theirs stays."""
+from collections.abc import Callable
+
 from . import manifest as form, spares
 from .faults import Refused, refused, refused_as
 from .reading import manifest_in
@@ -6,6 +8,7 @@ from .room import Room
 from .words import FILE, FOLDER, shown
 
 MOST_KEPT = 50  # bytes of a name that a mark follows
+TRIES = 5  # of a removal that meets one part after another
 
 
 def folder_of(path: str) -> tuple[str, str]:
@@ -97,6 +100,18 @@ def unfinished_at(room: Room, path: str) -> list[list[str]] | None:
 
 # Removing
 
+def looking_again(does: Callable):
+    """What comes behind a save gives parts of the file other names (uploads.py): so where one is gone, or another is
+    there, all is looked at again."""
+    for _ in range(TRIES - 1):
+        try:
+            return does()
+        except Refused as fault:
+            if not refused_as(fault, "NOENT", "NOTEMPTY"):
+                raise
+    return does()
+
+
 def remove_levels(room: Room, levels: list[list[str]]) -> None:
     for paths in levels:
         commands = [{"cmd": "REMOVE", "path": it} for it in paths]
@@ -107,7 +122,10 @@ def remove_levels(room: Room, levels: list[list[str]]) -> None:
 
 def remove_file(room: Room, path: str) -> bool:
     """Removes a folder that is a large file, or an unfinished one, and has nothing else in it. Whether it was one."""
-    found = file_at(room, path)
+    return looking_again(lambda: remove_as_found(room, path, file_at(room, path)))
+
+
+def remove_as_found(room: Room, path: str, found: list[list[str]] | None) -> bool:
     if found:
         remove_levels(room, [[path + it for it in level] for level in found])
     return found is not None
@@ -115,6 +133,10 @@ def remove_file(room: Room, path: str) -> bool:
 
 def remove_all(room: Room, path: str) -> None:
     """An object with all that is in it: the manifest of a large file first."""
+    looking_again(lambda: remove_tree(room, path))
+
+
+def remove_tree(room: Room, path: str) -> None:
     try:
         names = room.children(path)
     except Refused as fault:
@@ -126,7 +148,7 @@ def remove_all(room: Room, path: str) -> None:
     remove_levels(room, [[f"{path}/{name}" for name, kind in names.items() if kind == FILE and name != form.NAME]])
     for name, kind in names.items():
         if kind == FOLDER:
-            remove_all(room, f"{path}/{name}")
+            remove_tree(room, f"{path}/{name}")
     remove_one(room, path)
 
 

@@ -7,7 +7,7 @@ from collections.abc import Callable
 from dataclasses import dataclass
 
 from . import manifest as form
-from .clearing import file_at, remove_all, remove_file
+from .clearing import file_at, looking_again, remove_all, remove_file
 from .faults import ACCESS, BadWords, Fault, Refused, refused_as
 from .room import Room
 from .words import FOLDER, GROUP, LIST_FLAGS, neat, shown
@@ -158,7 +158,7 @@ def discard(room: Room, path: str, trash: str | None, is_whole: bool) -> str | N
     if done:
         return done["to"].rpartition("/")[2]
     its = room.stat(path)
-    if its["kind"] == FOLDER and its["size"] and not is_whole and file_at(room, path) is None:
+    if its["kind"] == FOLDER and its["size"] and not is_whole and looking_again(lambda: file_at(room, path)) is None:
         raise Refused({"code": 6, "error": "NOTEMPTY"}, {"path": path})
     return put_in_trash(room, path, trash)
 

@@ -10,7 +10,7 @@ from unittest import mock
 
 import pytest
 from given import each
-from room_client import files, manifest
+from room_client import clearing, files, manifest, trash
 from room_client.clearing import remove_all
 from room_client.faults import OtherVersion, Refused
 from room_client.line import Line
@@ -44,6 +44,19 @@ def test_a_removal_begins_with_the_manifest(desk):
         remove_all(room, "/gone")
     commands = [it.args[1] for it in asked.call_args_list]
     assert next(it["path"] for it in commands if it["cmd"] == "REMOVE") == f"/gone/{manifest.NAME}"
+
+
+@each("bin_, names", [("for good", None, []), ("to the trash", "/bin", ["bin"])])
+def test_a_part_that_gets_another_name_as_its_file_is_removed(desk, bin_, names):
+    """By what comes behind somebody's save."""
+    with desk.room() as room:
+        files.put(room, "/a", OLD)
+        room.mkdir("/bin") if bin_ else None
+        its, = (it for it in room.children("/a") if it.startswith(manifest.PIECES))
+        gone = its.replace(manifest.PIECES, manifest.GONE)
+        with before_first(clearing, "pieces_in", lambda: room.rename(f"/a/{its}", f"/a/{gone}")):
+            trash.discard(room, "/a", bin_, False)
+        assert list(room.children("/")) == names
 
 
 def test_progress_at_a_terminal_alone(desk):

@@ -2,7 +2,7 @@
 import contextlib
 
 import pytest
-from room_client import files
+from room_client import files, manifest
 
 from .desk import ANNS, BOB_READS, BOB_WRITES, asks, make_folders
 
@@ -124,3 +124,41 @@ def test_what_others_put_into_a_copy(desk):
         assert room.children("/both/copy/a") == {"theirs": "file"}
     desk.does("bob", "COPY", "/mixed", 403, to="/both/none")
     desk.does("bob", "PROPFIND", "/both/none", 404, Depth="0")
+
+
+@pytest.mark.parametrize("above", ["", "/above"])
+def test_a_part_that_gets_another_name_as_its_file_is_removed(desk, above):
+    """By what comes behind a save: the file is there, and goes whole. So does a folder that it is in."""
+    path = f"{above}/parts"
+    with desk.room() as room:
+        if above:
+            room.mkdir(above)
+        files.put(room, path, b"p" * 70_000)
+        its, = (it for it in room.children(path) if it.startswith(manifest.PIECES))
+    gone = its.replace(manifest.PIECES, manifest.GONE)
+    with meanwhile(desk, "LIST", f"{path}/{its}", lambda room: room.rename(f"{path}/{its}", f"{path}/{gone}")):
+        desk.does("ann", "DELETE", above or path, 204)
+    desk.does("ann", "GET", above or path, 404)
+
+
+def test_a_part_that_comes_as_its_file_is_removed(desk):
+    """Once, as a late step of what comes behind a save, or without end: then it is looked at a few times."""
+    is_it, count = asks("REMOVE", '"path":"/filled"'), 0
+
+    def fills():
+        nonlocal count
+        count += 1
+        desk.wire("ann", "CREATE", f"/filled/{count}", data="")
+        if count != 2:
+            desk.loser.meanwhile = is_it, fills
+    desk.play("ann MKCOL /filled 201; ann PUT /filled/it 201 > x")
+    desk.loser.meanwhile = is_it, fills
+    desk.does("ann", "DELETE", "/filled", 204)
+    assert count == 2
+    desk.play("ann MKCOL /filled 201")
+    desk.loser.meanwhile = is_it, fills
+    got = desk.does("ann", "DELETE", "/filled", 409)
+    desk.loser.settle()
+    assert b"NOTEMPTY" in got.body
+    assert count <= 10
+    desk.does("ann", "DELETE", "/filled", 204)
