@@ -8,7 +8,7 @@ from .faults import ACCESS, BadWords, Fault, LocalFault, Refused, refused_as
 from .local import Progress, fits_here
 from .reading import large_among, large_at, manifest_at
 from .room import Room
-from .showing import Faults, show, write_bytes
+from .showing import Faults, Told, show, write_bytes
 from .words import FILE, FOLDER, neat, shown
 
 OF_ONE = *trees.OF_ONE, BadWords
@@ -58,7 +58,7 @@ def each(items: list, does) -> None:
     for it in items:
         try:
             does(it)
-        except OF_ONE as fault:
+        except (*OF_ONE, Told) as fault:
             faults.take(fault)
     faults.end()
 
@@ -99,6 +99,7 @@ def ls_below(room: Room, asked, top: str) -> None:
         lines = [shown(trees.join(top, folder) if folder else top) + ":", *map(shown, inside.get(folder, []))]
         blocks.append("\n".join(lines))
     show(asked, [{"path": it, "kind": kind} for it, kind in sorted(tree.kinds.items())], "\n\n".join(blocks))
+    Faults(0).end(tree.shut)
 
 
 def tree(room: Room, asked) -> None:
@@ -109,6 +110,7 @@ def tree(room: Room, asked) -> None:
         names = it.split("/")
         lines.append("  " * len(names) + shown(names[-1]) + "/" * (kind == FOLDER))
     print("\n".join(lines), flush=True)
+    Faults(0).end(found.shut)
 
 
 def du(room: Room, asked) -> None:
@@ -122,6 +124,7 @@ def du(room: Room, asked) -> None:
     rows = [*((size, it + "/" * (found.kinds[it] == FOLDER)) for it, size in sums.items()), (sum(sums.values()), path)]
     wide = max(len(str(size)) for size, _ in rows)
     print("\n".join(f"{size:>{wide}}  {shown(name)}" for size, name in rows), flush=True)
+    Faults(0).end(found.shut)
 
 
 def long_lines(room: Room, asked, path: str, seen: dict[str, str], large: dict) -> None:
@@ -156,8 +159,11 @@ def stat(room: Room, asked) -> None:
 
 
 def find(room: Room, asked) -> None:
-    for path in trees.find(room, there(room, asked.path), asked.pattern):
+    top = there(room, asked.path)
+    tree = trees.tree_of(room, top)
+    for path in trees.find(tree, top, asked.pattern):
         print(shown(path))
+    Faults(0).end(tree.shut)
 
 
 # Getting
@@ -223,7 +229,7 @@ def get_folder(room: Room, path: str, to: str, is_one_of_some: bool) -> None:
     trees.fetch_all(room, path, [it for it in paths if tree.kinds[it] == FILE], tree.large, take)
     for fault in tree.mixed:
         faults.take(fault)
-    faults.end()
+    faults.end(tree.shut)
 
 
 def can_be_here(room: Room, top: str, path: str, tree: trees.RoomTree) -> bool:
@@ -240,10 +246,11 @@ def put(room: Room, asked) -> None:
     need_path(to)
     if not asked.recursive and len(names) == 1:
         return put_one(room, asked, names[0], neat(into(to, names[0])))
-    pairs, faults = [], Faults(0)
+    pairs, shut, faults = [], [], Faults(0)
     for name, path in zip(names, targets(to, names)):
         if asked.recursive and os.path.isdir(name):
             tree = local.tree_here(name, room.say)
+            shut += tree.shut
             folders = [it for it in tree.kinds if tree.kinds[it] == FOLDER]
             trees.tell_owners(room, trees.make_folders(room, path, folders, faults.take))
             pairs += [(tree.places[it], trees.join(path, it), name) for it in tree.kinds if tree.kinds[it] == FILE]
@@ -256,7 +263,7 @@ def put(room: Room, asked) -> None:
         show(asked, {"code": 0, "size": it.size}, f"{shown(it.path)}: {it.size} bytes{it.words()}")
 
     trees.send_all(room, pairs, told)
-    faults.end()
+    faults.end(shut)
 
 
 def put_one(room: Room, asked, name: str, path: str) -> None:
@@ -359,7 +366,7 @@ def copy_folder(room: Room, asked, path: str, to: str) -> None:
             faults.take(fault)
 
     trees.fetch_all(room, path, [it for it, kind in tree.kinds.items() if kind == FILE], tree.large, take)
-    faults.end()
+    faults.end(tree.shut)
 
 
 def rm(room: Room, asked) -> None:

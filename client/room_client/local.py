@@ -10,7 +10,7 @@ from contextlib import closing, contextmanager, suppress
 from dataclasses import dataclass, field
 from typing import BinaryIO
 
-from .faults import LocalFault, reading
+from .faults import Fault, LocalFault, reading
 from .manifest import PART
 from .words import FILE, FOLDER, neat, shown
 
@@ -153,12 +153,18 @@ def fits_here(name: str) -> bool:
 
 @dataclass
 class Tree:
-    """What is below a folder: for each path, with / between its names, its kind and where it is; and what was left
-    out, which nobody knows the inside of."""
+    """What is below a folder: for each path, with / between its names, its kind and where it is; what was left out,
+    which nobody knows the inside of; and why of some of that, folders that could not be listed."""
 
     kinds: dict[str, str] = field(default_factory=dict)
     places: dict[str, str] = field(default_factory=dict)
     left_out: set[str] = field(default_factory=set)
+    shut: list[Fault] = field(default_factory=list)
+
+    def leave_shut(self, path: str, fault: Fault, say: Callable[[str], None]) -> None:
+        self.left_out.add(path)
+        self.shut.append(fault)
+        say(f"what is in it is left out: {fault}")
 
     def is_known(self, path: str) -> bool:
         """Whether nothing at, above or below a path was left out."""
@@ -197,8 +203,7 @@ def walk_below(at: str, path: str, tree: Tree, say: Callable[[str], None]) -> No
         with reading(at):
             walk_here(at, path + "/", tree, say)
     except LocalFault as fault:
-        tree.left_out.add(path)
-        say(f"what is in it is left out: {fault}")
+        tree.leave_shut(path, fault, say)
 
 
 def why_not(it: os.DirEntry) -> str | None:

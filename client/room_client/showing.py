@@ -1,6 +1,7 @@
 """How a command shows what came of it."""
 import json
 import sys
+from collections.abc import Sequence
 
 from .faults import Fault, SessionLost
 from .room import say
@@ -35,9 +36,12 @@ class Faults:
     def take(self, fault: Fault) -> None:
         if self.count == 1 or isinstance(fault, SessionLost):
             raise fault
-        say(str(fault))
+        if not isinstance(fault, Told):
+            say(str(fault))
         self.first = self.first or fault
 
-    def end(self) -> None:
-        if self.first:
-            raise Told(self.first.status)
+    def end(self, told: Sequence[Fault] = ()) -> None:
+        """Also for those that were told before."""
+        first = next(filter(None, [self.first, *told]), None)
+        if first:
+            raise Told(first.status)

@@ -44,7 +44,7 @@ class Sync:
                          and not is_odd(it)], aim)
         told = ", ".join(f"{count} {word}" for word, count in self.counts.items() if count)
         print(told or "nothing to do", flush=True)
-        self.faults.end()
+        self.faults.end(mine.shut + its.shut)
 
     def both_trees(self) -> tuple[Tree, trees.RoomTree]:
         """What is below the folder here, and below the room's; the one that is to be made may not be there yet."""

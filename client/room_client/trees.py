@@ -58,8 +58,7 @@ def tree_of(room: Room, top: str) -> RoomTree:
             elif not path:
                 raise refused(reply, command)
             else:
-                tree.left_out.add(path)
-                room.say(f"what is in it is left out: {refused(reply, command)}")
+                tree.leave_shut(path, refused(reply, command), room.say)
         add_large(room, tree, top, level)
         level = level_below
     return tree
@@ -101,11 +100,10 @@ def by_folder(tree: RoomTree) -> dict[str, list[str]]:
     return inside
 
 
-def find(room: Room, top: str, pattern: str) -> Iterator[str]:
+def find(tree: RoomTree, top: str, pattern: str) -> Iterator[str]:
     """The paths below a folder whose name is as the pattern, or has it in it where it has no * ? or [."""
     fold = lambda text: unicodedata.normalize("NFC", text).casefold()  # noqa: E731
     wanted = fold(pattern if set(pattern) & set("*?[") else f"*{pattern}*")
-    tree = tree_of(room, top)
     for path, kind in sorted(tree.kinds.items()):
         if fnmatch.fnmatchcase(fold(path.rpartition("/")[2]), wanted):
             yield join(top, path) + "/" * (kind == FOLDER)

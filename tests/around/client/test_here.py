@@ -318,6 +318,7 @@ JSON = types.SimpleNamespace(json=True), {"to": "/\u202e\x9b"}, ""
 def test_names_at_a_terminal(is_terminal, does, words, want):
     out = io.StringIO()
     out.isatty = lambda: is_terminal
-    with mock.patch.object(trees, "find", return_value=iter(["/a\x1b[2J"])), contextlib.redirect_stdout(out):
+    found = trees.RoomTree({"a\x1b[2J": "file"})
+    with mock.patch.object(trees, "tree_of", return_value=found), contextlib.redirect_stdout(out):
         does(*words)
     assert out.getvalue() == want

@@ -65,6 +65,23 @@ def test_put_of_what_was_looked_at(desk):
     desk.prints("find", "/other", "*", want="/other/2026/\n/other/2026/June/\n/other/empty/\n")
 
 
+@each("words", [("put", ["put", "-r", "photos", "/d"]), ("sync", ["sync", "photos", "room:/d"])])
+def test_a_folder_here_that_cannot_be_listed(desk, words):
+    """It is left out, and the status says so."""
+    for name in "photos/a.txt", "photos/shut/b.txt":
+        desk.file(name, b"x")
+    plain = os.scandir
+
+    def scandir(at):
+        if os.path.basename(at) == "shut":
+            raise PermissionError(13, "Permission denied")
+        return plain(at)
+    with mock.patch("os.scandir", scandir):
+        status, _, err = desk.does(*words)
+    assert (status, err) == (5, "room: what is in it is left out: photos/shut: Permission denied\n")
+    desk.prints("find", "/d", "*", want="/d/a.txt\n/d/shut/\n")
+
+
 def test_names_are_composed_and_trimmed_as_they_are_made(desk):
     desk.prints("put", "-", "/a\u0308 ", stdin=b"x", want="/\u00e4: 1 bytes\n")
     desk.prints("mkdir", "/ d ", want="/d: made\n")
