@@ -9,8 +9,10 @@ import time
 from concurrent.futures import ThreadPoolExecutor
 from unittest import mock
 
+import gateway
 import pytest
 from fileroom_dav import bodies, props, spool, tree, turns
+from idle import need_places
 from nginx import login
 from room_client import files
 from room_client.reading import manifest_in
@@ -136,6 +138,15 @@ def test_threads_for_others(desk):
 
 
 # Parts of a file
+
+def test_idle_connections(tmp_path):
+    """Who comes beyond waits. (Two of the 400 are the gateway's own: where it listens, and what wakes it.)"""
+    it = gateway.start("/none", str(tmp_path / "state"), str(tmp_path / "gate.sock"))
+    try:
+        need_places(it.pid, str(tmp_path / "gate.sock"), 398, b"OPTIONS /dav/ HTTP/1.1\r\nHost: x\r\n\r\n")
+    finally:
+        gateway.stop(it)
+
 
 @pytest.fixture
 def data(desk):

@@ -11,8 +11,10 @@ import threading
 
 import pytest
 from given import each
+from idle import need_places
 from nginx import FOLDER, certified
 from served import WAIT, text_of, until
+from slapd import SignIn
 
 from .conftest import LONGEST_LOGIN
 
@@ -522,3 +524,12 @@ def test_addresses_of_a_name_share_the_time(monkeypatch, clock):
     with pytest.raises(OSError, match="no c"):
         ldap.Line("ldaps://dc:636", None, clock.now + 3)
     assert asked == [((it, 636), seconds) for it, seconds in (("a", 1), ("b", 1.5), ("c", 3))]
+
+
+def test_idle_connections(tmp_path):
+    """Who comes beyond waits. (Two of the 1,000 are the service's own: where it listens, and what wakes it.)"""
+    it = SignIn(str(tmp_path / "signin"), "servers = []\nbinds = []\n", str(tmp_path))
+    try:
+        need_places(it.server.pid, it.at, 998, b"GET / HTTP/1.1\r\nHost: x\r\n\r\n")
+    finally:
+        it.stop()
