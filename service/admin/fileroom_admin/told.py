@@ -17,6 +17,7 @@ from .words import entries, is_entry
 DONE_MOST = 24  # bytes of a reply: {"code":0,"size":65536} is the longest of what was done, and refusals are longer
 ODD_MOST = 200  # letters of one in an odd form
 WAITING = 5000  # changes that may still be sent again, or go on
+MOST_PLACES = 20  # of lines that cannot be read
 OF_A_FILE = {"MKDIR", "CREATE", "WRITE", "APPEND", "RENAME", "REMOVE", "CHOWN"}
 BEGIN = b'{"time":"'  # of a line: within one such marks have a backslash
 APART = datetime.timedelta(minutes=10)  # pieces of a large file that come later than this are another upload
@@ -234,9 +235,10 @@ def log(places, room, given, say, warn):
     since = since_when(given.since) if given.since else None
     first = first_time(places) if since else None
     if since and (first is None or first > since):
-        warn(f"the log here begins {first.isoformat() if first else 'later'}: what was before is not known")
+        warn(f"the log here begins {first.isoformat()}: what was before is not known" if first else
+             "the log here has nothing: what was done is not known")
     begin = since and begins(places, room, since)
-    odd, seen, where, shown, lists = 0, "", "", of_backups().shown, Lists(places, room, begin)
+    odd, seen, shown, lists = collections.Counter(), None, of_backups().shown, Lists(places, room, begin)
     told = Told(lambda text: say(shown(text)), lists)
 
     def is_wanted(change, command):
@@ -247,13 +249,19 @@ def log(places, room, given, say, warn):
         try:
             change = Change(line, is_wanted)
         except (ValueError, KeyError, TypeError, AttributeError):
-            odd, where = odd + 1, seen
+            odd[seen] += 1
             continue
-        seen = f", the last after {change.time.isoformat()}"
+        seen = change.time
         lists.begin = lists.begin or change.time
         if change.room == room:
             told.take(change)
     with lists.stack:
         told.end()
     if odd:
-        raise Fault(f"{odd} lines of the log cannot be read{where}")
+        raise Fault(f"{odd.total()} lines of the log cannot be read: {places_of(odd)}")
+
+
+def places_of(odd):
+    """After which lines so many stand that cannot be read."""
+    told = [f"{count} {f'after {time.isoformat()}' if time else 'at the beginning'}" for time, count in odd.items()]
+    return ", ".join(told[:MOST_PLACES]) + f", and {len(told) - MOST_PLACES} places more" * (len(told) > MOST_PLACES)

@@ -127,7 +127,7 @@ def test_a_log_that_was_cut_short(folder):
     log_of(folder, made(2))
     status, lines, faults = tells(folder)
     assert (status, [line.split()[2] for _, line in lines]) == (1, ["/0", "/1", "/2"])
-    assert faults == f"fileroom-admin: 1 lines of the log cannot be read, the last after {TIME}\n"
+    assert faults == f"fileroom-admin: 1 lines of the log cannot be read: 1 after {TIME}\n"
 
 
 CHANGES = [{"body": {"cmd": "MKDIR", "path": "/a"}}, {"body": {"cmd": "RENAME", "path": "/a/b", "to": "/a/c"}},
@@ -154,7 +154,7 @@ def test_a_log_that_has_nothing(folder):
     for root in folder, log_of(folder, []):
         status, lines, faults = tells(root, "--since", "3d")
         assert (status, lines) == (0, [])
-        assert faults == "fileroom-admin: the log here begins later: what was before is not known\n"
+        assert faults == "fileroom-admin: the log here has nothing: what was done is not known\n"
 
 
 def test_no_time(folder):
@@ -170,7 +170,7 @@ def test_a_line_that_a_full_disk_cut(folder):
     put_file(path, "".join([*whole, cut[:70], last]))
     status, lines, faults = tells(folder)
     assert (status, [it.split()[2] for _, it in lines]) == (1, ["/a", f"/{name}", "/b"])
-    assert faults == f"fileroom-admin: 1 lines of the log cannot be read, the last after {TIME}\n"
+    assert faults == f"fileroom-admin: 1 lines of the log cannot be read: 1 after {TIME}\n"
 
 
 def test_a_log_that_was_turned_over_and_a_line_that_cannot_be_read(folder):
@@ -179,7 +179,22 @@ def test_a_log_that_was_turned_over_and_a_line_that_cannot_be_read(folder):
     status, lines, faults = tells(folder)
     last = CHANGES[-1]["time"]
     assert (status, len(lines)) == (1, 6)
-    assert faults == f"fileroom-admin: 1 lines of the log cannot be read, the last after {last}\n"
+    assert faults == f"fileroom-admin: 1 lines of the log cannot be read: 1 after {last}\n"
+
+
+def test_each_place_of_lines_that_cannot_be_read(folder):
+    """As far as somebody reads them."""
+    log_of(folder, [{"body": {"cmd": "MKDIR", "path": f"/{it}"}, "time": f"2026-02-01T10:00:{it:02}+00:00"}
+                    for it in range(30)])
+    path = os.path.join(folder, LOG, "changes.log")
+    lines = text_of(path).splitlines(keepends=True)
+    told = lambda: tells(folder)[2]
+    put_file(path, "".join(["cut\n", *lines[:7], "cut\n", "cut\n", *lines[7:]]))
+    assert told() == ("fileroom-admin: 3 lines of the log cannot be read: 1 at the beginning, "
+                      "2 after 2026-02-01T10:00:06+00:00\n")
+    put_file(path, "".join(f"{it}cut\n" for it in lines))
+    assert told().startswith("fileroom-admin: 30 lines of the log cannot be read: 1 after 2026-02-01T10:00:00+00:00, ")
+    assert told().endswith("1 after 2026-02-01T10:00:19+00:00, and 10 places more\n")
 
 
 # The log of a real front
