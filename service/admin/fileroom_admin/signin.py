@@ -37,7 +37,7 @@ def conf_of(kind, servers, domain, binds, ca):
     for it in servers:
         named = SERVER.fullmatch(it)
         if not named or named[1] and not 0 < int(named[1]) < 1 << 16:
-            raise Fault(f"{it!r} is no server: HOST, ldaps://HOST or ldap://HOST, with :PORT")
+            raise Fault(f"{it!r} is no server: HOST, ldaps://HOST or ldap://HOST, with :PORT from 1 to 65535")
     if kind == "ad":
         if binds or not any(it.fullmatch(domain or "") for it in (SHORT, LONG)):
             raise Fault("signin on ad wants --domain, as SCHOOL or ad.school.example, and no --bind")

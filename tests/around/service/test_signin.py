@@ -94,8 +94,8 @@ def test_a_directory_that_does_not_answer_changes_nothing(machine, words, people
     (["ldap", "--bind", "{}{}", "host"], "has to have {} once"),
     (["ldap", "--bind", "{}", "http://host"], "is no server"),
     (["ldap", "--bind", "{}", "host", "a b"], "is no server"),
-    (["ldap", "--bind", "{}", "host:0"], "is no server"),
-    (["ldap", "--bind", "{}", "host", "[::1]:65536"], "is no server"),
+    (["ldap", "--bind", "{}", "host:0"], "is no server: HOST, ldaps://HOST or ldap://HOST, with :PORT from 1 to 65535"),
+    (["ldap", "--bind", "{}", "host", "[::1]:65536"], ":PORT from 1 to 65535"),
     (["ldap", "--bind", "{}", "--ca", "/etc/hostname", "host"], "has no certificate as PEM")])
 def test_what_is_refused(machine, more, why):
     before = machine.files()
