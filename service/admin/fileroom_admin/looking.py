@@ -13,7 +13,7 @@ from .changes import JOURNAL, sum_in
 from .front import OF_ROOM, end_of, of_room
 from .held import JAILS, Bounds, is_by_hand
 from .owned import TO_COME, age_of
-from .places import (CHANGES, FRONT_FILES, HERE, LISTEN, LOGINS, SEARCHED, WORKERS, Fault, read, read_json, said,
+from .places import (BEHIND, CHANGES, FRONT_FILES, HERE, LISTEN, LOGINS, SEARCHED, WORKERS, Fault, read, read_json, said,
                      said_before, sample)
 
 PROGRAMS = {"nginx": "nginx-light", "haproxy": "haproxy", "openssl": "openssl", "sqlite3": "sqlite3",
@@ -123,6 +123,10 @@ class Findings:
         if sorted(read_json(self.places.front("rooms.json"), list)) != self.places.rooms():
             self.add("rooms.json and /etc/fileroom name different rooms", FRONT_REMEDY)
         self.listening(read(self.places.at(LISTEN)))
+        behind = self.places.at(BEHIND)
+        if os.path.lexists(behind) and not stat.S_ISSOCK(os.lstat(behind).st_mode):
+            self.add(f"{behind} is no socket, so nginx hands on no request to a room",
+                     f"mv {behind} {behind}.other; systemctl restart nginx")
 
     def listening(self, text):
         clear = [it for it in re.findall(r"(?m)^\s*listen (.*);", text) if " ssl" not in it]
@@ -349,6 +353,12 @@ class Findings:
         if not made or time.time() - max(made) > hours * 3600:
             self.add("the front has no backup of the last day", f"fileroom-backup --front {folder}")
 
+    def disk_of_logs(self):
+        """Where it is another one than those of rooms and backups."""
+        folder = os.path.dirname(self.places.at(CHANGES))
+        if os.path.isdir(folder) and not any(paces.is_on(it, os.stat(folder).st_dev) for it in self.places.disks()):
+            self.disk(folder)
+
     def disk(self, folder):
         if os.path.isdir(folder):
             it = shutil.disk_usage(folder)
@@ -394,6 +404,7 @@ def look(it, hours):
         it.part(it.backup_of_front, hours)
     for folder in places.disks():
         it.part(it.disk, folder)
+    it.part(it.disk_of_logs)
 
 
 def check(places, hours, say):

@@ -16,6 +16,7 @@ WORKERS = "fileroom-front"  # the group of nginx's workers
 LISTEN = "etc/nginx/fileroom/listen.conf"
 LOGINS = "var/log/nginx/fileroom-logins.log"
 CHANGES = "var/log/fileroom/changes.log"
+BEHIND = "var/log/fileroom/behind.sock"
 REDIRECT = "etc/nginx/conf.d/fileroom-redirect.conf"
 ASIDE = "etc/nginx/fileroom/redirect.conf"  # the same, while the program is away
 

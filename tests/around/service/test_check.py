@@ -117,12 +117,15 @@ exec "${@:3}" """
 
 
 @pytest.mark.parametrize("filled, found", [("6500K", 0), ("7400K", 1)])
-@pytest.mark.parametrize("folder_of", ["var/lib/fileroom", "var/backups/fileroom", "var/lib/fileroom/plans"])
+@pytest.mark.parametrize("folder_of", ["var/lib/fileroom", "var/backups/fileroom", "var/lib/fileroom/plans",
+                                       "var/log/fileroom", "var/log"])
 def test_a_disk_that_is_nearly_full(looked_at, folder_of, filled, found):
+    os.makedirs(looked_at.at("var/log/fileroom"), exist_ok=True)
     unshare = ["unshare", "--mount", *([] if os.geteuid() == 0 else ["--map-root-user"])]
     path = looked_at.at(folder_of)
     status, said, _ = looked_at.does("check", within=[*unshare, "bash", "-c", SMALL, "bash", path, filled])
-    assert (status, said.count(f"the disk of {path} has 0 MiB free\n")) == (found, found), said
+    of = looked_at.at("var/log/fileroom") if "log" in folder_of else path
+    assert (status, said.count(f"the disk of {of} has 0 MiB free\n")) == (found, found), said
 
 
 # What is installed
