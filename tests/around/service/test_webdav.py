@@ -9,6 +9,7 @@ from .stopped import stops
 
 OFF = ["systemctl disable --now fileroom-dav.socket", "systemctl stop fileroom-dav.service"]
 WANTS = "etc/systemd/system/sockets.target.wants/fileroom-dav.socket"
+TRIES = "etc/systemd/system/timers.target.wants/fileroom-try@plans.timer"
 ROOM_WANTS = "etc/systemd/system/multi-user.target.wants/fileroom@plans.service"
 OF_GATEWAY = "var/lib/fileroom-dav/sessions"
 
@@ -41,14 +42,14 @@ def test_it_goes_with_its_room(machine):
     assert (status, lacks in said) == (0, True), faults
 
 
-@pytest.mark.parametrize("word, want", [("remove", [WANTS, ROOM_WANTS, OF_GATEWAY]), ("purge", [ROOM_WANTS])])
+@pytest.mark.parametrize("word, want", [("remove", [WANTS, TRIES, ROOM_WANTS, OF_GATEWAY]), ("purge", [ROOM_WANTS])])
 def test_the_package_goes(machine, word, want):
-    """Removed, it has the gateway enabled still; by a purge it is not, and nothing of the gateway is left. Rooms stay
-    enabled. (`front`, which an installation calls, enables it again: dav.txt.)"""
-    for it in WANTS, ROOM_WANTS:
+    """Removed, it has the gateway and trials enabled still; by a purge they are not, and nothing of the gateway is left.
+    Rooms stay enabled. (`front`, which an installation calls, enables the others again: dav.txt.)"""
+    for it in WANTS, TRIES, ROOM_WANTS:
         os.makedirs(os.path.dirname(machine.at(it)))
         os.symlink(f"/lib/systemd/system/{os.path.basename(it)}", machine.at(it))
     machine.write(OF_GATEWAY, "some")
     how = {"env": machine.env | {"DPKG_ROOT": machine.root}, "capture_output": True}
     subprocess.run(["sh", os.path.join(SERVICE, "deb/postrm"), word], check=True, **how)
-    assert [it for it in (WANTS, ROOM_WANTS, OF_GATEWAY) if os.path.lexists(machine.at(it))] == want
+    assert [it for it in (WANTS, TRIES, ROOM_WANTS, OF_GATEWAY) if os.path.lexists(machine.at(it))] == want
