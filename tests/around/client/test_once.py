@@ -137,6 +137,18 @@ def test_why_there_is_no_answer_yet(desk, fault, why):
     assert f"no answer yet (it answered {fault}): {why}" in said[0]
 
 
+@pytest.mark.parametrize("fault", [503, 429])
+def test_who_waits_keeps_no_connection(desk, fault):
+    """A room serves one connection after another: an open one would hold everybody else back until the next attempt."""
+    is_open = []
+    with desk.behind() as room:
+        room.children("/")
+        desk.front.faults[:] = [fault] * 2
+        with mock.patch.object(room.pace, "rest", lambda _: is_open.append(room.line.connection.sock is not None)):
+            room.children("/")
+    assert is_open == [False] * 2
+
+
 def test_a_name_that_is_not_found_is_told_as_such(desk):
     said = []
     with pytest.raises(NoAnswer, match="its host's name is not found"), mock.patch("room_client.slots.WORD_AFTER", 0):
