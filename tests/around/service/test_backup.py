@@ -353,6 +353,17 @@ def test_a_backup_by_root_in_a_users_folder(users):
     users.swapped(".", users.backups, 6, lambda _: users.does(users.db, users.roster, users.backups))
 
 
+def test_as_many_as_root_says_are_kept_in_a_users_folder(users):
+    """KEEP is a word of root's environment that the user's program gets."""
+    before = [f"{year}-01-01T00-00-00Z" for year in (2001, 2002, 2003)]
+    for it in "", *before:
+        os.mkdir(os.path.join(users.backups, it))
+        os.chown(os.path.join(users.backups, it), NOBODY, NOBODY)
+    status, output, faults = users.does(users.db, users.roster, users.backups, KEEP="2")
+    assert (status, faults) == (0, "")
+    assert sorted(os.listdir(users.backups)) == [before[-1], os.path.basename(output.strip())]
+
+
 def test_one_by_root_in_a_users_folder(users):
     assert users.does("--one", users.copied, "/f", users.at("f"))[0] == 1  # (with what is damaged in it)
     its = [os.stat(os.path.join(users.at("f"), name)) for name in ("", *below(users.at("f")))]
