@@ -62,6 +62,16 @@ def test_locks_end(locked):
         assert [one.user for one in it.at("plans", "/a") + it.at("plans", "/b")] == ["bob"]
 
 
+@pytest.mark.parametrize("seconds", [30, 90])
+def test_a_lock_lasts_as_long_as_its_refresh_says(locked, seconds):
+    """And not as long as it was to last before."""
+    its = locked.its
+    its.refresh(locked.take("/a"), seconds)
+    for left, is_held in (1.0, True), (0.0, False):
+        locked.now = 1000.0 + seconds - left
+        assert [bool(it.at("plans", "/a")) for it in (its, locked.anew())] == [is_held] * 2
+
+
 def test_locks_go_with_what_they_are_on(locked):
     """And with all that was in it; no others do."""
     for path in "/f", "/f/it", "/f/in/it", "/free":

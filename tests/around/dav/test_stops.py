@@ -163,3 +163,15 @@ def test_who_moved_what_aside_as_the_session_is_lost(desk):
     lost(desk, "RENAME", desk.at("x~"), "ann", "MOVE", "a.odt", to="x~")
     desk.does("ann", "PUT", "a.odt", 201, b"new")
     assert desk.kept("a.odt") == before
+
+
+@pytest.mark.parametrize("stops", [killed, lost])
+def test_who_removed_what_is_aside(desk, stops):
+    """It is in the trash, though no answer came, and waits there."""
+    desk.made()
+    before = desk.itself("a.odt")
+    desk.does("ann", "MOVE", "a.odt", 201, to="x~")
+    stops(desk, "RENAME", desk.at("x~"), "ann", "DELETE", "x~")
+    assert desk.inside() == {}
+    desk.does("ann", "PUT", "a.odt", 201, b"new")
+    assert desk.itself("a.odt") == before
