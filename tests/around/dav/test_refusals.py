@@ -182,6 +182,29 @@ def test_versions(desk):
     desk.does("ann", "PUT", "/v", 400, b"x", Content_Range="bytes 0-0/3")
 
 
+@each("field, status", [
+    ("its first list", "(<mine>) ([wrong])", 204), ("its second list", "([wrong]) (<mine>)", 204),
+    ("none of its lists", "([wrong]) (<mine> [wrong])", 412), ("all of a list", "(<mine> [right])", 204),
+    ("the first of a list alone", "(<mine> [wrong])", 412), ("the last of a list alone", "([wrong] <mine>)", 412),
+    ("what is not so", "(Not [wrong] <mine>)", 204), ("what is so", "(Not [right]) ([wrong] <mine>)", 412),
+    ("not what follows behind it", "(Not [wrong] [wrong] <mine>)", 412),
+    ("no lock", "([wrong] <mine>) (Not <DAV:no-lock>)", 204),
+    ("what is elsewhere", "</dav/plans/both/beside> ([other]) </dav/plans/both/if> (<mine> [wrong])", 204),
+    ("what is elsewhere, and in its second list", "</dav/plans/both/beside> (<mine>) ([other])", 204),
+    ("a lock of elsewhere", "</dav/plans/both/beside> (<mine>)", 412),
+    ("a version of elsewhere", "(<mine> [other])", 412)])
+def test_the_field_if(desk, field, status):
+    """It holds where all of one of its lists does (RFC 4918, 10.4)."""
+    for name, data in ("if", b"it"), ("beside", b"other"):
+        desk.ask("ann", "PUT", f"/both/{name}", data)
+    mine = desk.locked("ann", "/both/if", Depth="0")
+    for word, told in ("<mine>", mine), ("right", tag_of(b"it")), ("wrong", tag_of(b"no")), ("other", tag_of(b"other")):
+        field = field.replace(word, told)
+    got = desk.ask("ann", "PUT", "/both/if", b"it", If=field)
+    desk.unlock("ann", "/both/if", mine)
+    assert got.status == status, got.body
+
+
 def test_a_range(desk):
     """Also one that is longer than the file."""
     desk.does("ann", "PUT", "/range", 201, bytes(range(23)))
