@@ -338,6 +338,23 @@ def test_locks_of_folders(desk):
     desk.unlock("ann", "/both/f/made", other)
 
 
+def test_shared_locks_of_a_folder(desk):
+    """Whoever has one of them writes what is in it; and none is given beside an exclusive one in it."""
+    desk.play("ann MKCOL /both/shared 201; ann PUT /both/shared/it 201 > 1")
+    hers = desk.locked("ann", "/both/shared/it", Depth="0")
+    desk.locked("bob", "/both/shared", 207, SHARED)
+    desk.unlock("ann", "/both/shared/it", hers)
+    tokens = {it: desk.locked(it, "/both/shared", 200, SHARED) for it in ("ann", "bob")}
+    for user, token in tokens.items():
+        desk.does(user, "PUT", "/both/shared/it", 423, b"2")
+        desk.does(user, "PUT", "/both/shared/it", 204, b"2", If=f"({token})")
+        told = desk.does(user, "LOCK", "/both/shared/it", 200, If=f"({token})", Timeout="Second-60").body
+        assert b"<D:timeout>Second-60<" in told
+    for user, token in tokens.items():
+        desk.unlock(user, "/both/shared/it", token)
+    desk.does("bob", "PUT", "/both/shared/it", 204, b"3")
+
+
 def test_who_holds_what(desk):
     """Whoever may write there is told what is locked, and by whom, and not the token."""
     desk.play("ann MKCOL /both/held 201; ann PUT /both/held/it 201 > 1")
