@@ -141,6 +141,14 @@ def test_what_is_replaced_goes_to_the_trash(desk, method):
         assert [[*room.children(f"/trash/ann/{it}")] for it in found] == [["old"]]
 
 
+@pytest.mark.parametrize("depth, inside", [("0", []), ("infinity", ["it"])])
+def test_a_copy_of_a_folder_alone(desk, depth, inside):
+    source, target = f"/deep-{depth}", f"/copy-{depth}"
+    desk.play(f"ann MKCOL {source} 201; ann PUT {source}/it 201 > x")
+    desk.does("ann", "COPY", source, 201, to=target, Depth=depth)
+    assert desk.names("ann", target) == [f"/dav/plans{target}/", *(f"/dav/plans{target}/{it}" for it in inside)]
+
+
 @pytest.mark.parametrize("method", ["MOVE", "COPY"])
 def test_a_move_to_another_room(desk, method):
     desk.ask("ann", "PUT", "/x", b"x")

@@ -175,3 +175,14 @@ def test_who_removed_what_is_aside(desk, stops):
     assert desk.inside() == {}
     desk.does("ann", "PUT", "a.odt", 201, b"new")
     assert desk.itself("a.odt") == before
+
+
+def test_what_is_aside_has_made_way(desk):
+    """It is in the trash as the gateway is killed, and does not come back where somebody else has its name: it waits
+    there."""
+    desk.made()
+    before = desk.itself("a.odt")
+    desk.play("ann MOVE a.odt 201 > x~; ann PUT b.odt 201 > other")
+    killed(desk, "RENAME", f'"path":"{desk.at("x~")}"', "ann", "MOVE", "b.odt", to="x~")
+    desk.play("bob CREATE x~; ann PUT a.odt 201 > new")
+    assert (desk.itself("a.odt"), sorted(desk.inside())) == (before, ["a.odt", "b.odt", "x~"])
