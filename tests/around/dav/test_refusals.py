@@ -182,6 +182,26 @@ def test_versions(desk):
     desk.does("ann", "PUT", "/v", 400, b"x", Content_Range="bytes 0-0/3")
 
 
+def test_versions_that_are_not_wanted(desk):
+    """Of several, whichever stands there, also by a weak tag."""
+    desk.ask("ann", "PUT", "/unwanted", b"it")
+    here, other = tag_of(b"it"), tag_of(b"other")
+    for told, is_here in (f"{other}, W/{here}", True), (f"{here},{other}", True), (f'{other}, "x"', False), ("*", True):
+        desk.does("ann", "GET", "/unwanted", 304 if is_here else 200, If_None_Match=told)
+        desk.does("ann", "PUT", "/unwanted", 412 if is_here else 204, b"it", If_None_Match=told)
+        desk.does("ann", "PROPPATCH", "/unwanted", 412 if is_here else 207, NO_CHANGE, If_None_Match=told)
+
+
+def test_words_of_fields_in_other_letters(desk):
+    desk.play("ann PUT /both/words 201 > 1; ann PUT /both/others 201 > 2")
+    token = desk.locked("ann", "/both/words", Depth="Infinity", Timeout="second-60")
+    assert "<D:depth>infinity</D:depth><D:owner>me &amp; mine</D:owner><D:timeout>Second-60<" in desk.told(
+        "ann", "/both/words", "0")
+    desk.does("ann", "COPY", "/both/words", 412, to="/both/others", Overwrite="f")
+    desk.does("ann", "COPY", "/both/words", 204, to="/both/others", Overwrite="t")
+    desk.unlock("ann", "/both/words", token)
+
+
 @each("field, status", [
     ("its first list", "(<mine>) ([wrong])", 204), ("its second list", "([wrong]) (<mine>)", 204),
     ("none of its lists", "([wrong]) (<mine> [wrong])", 412), ("all of a list", "(<mine> [right])", 204),
@@ -336,6 +356,26 @@ def test_locks_of_folders(desk):
     desk.locked("cat", "/both/f/made", 403)
     desk.unlock("bob", "/both/f/made", new)
     desk.unlock("ann", "/both/f/made", other)
+
+
+@pytest.mark.parametrize("method", ["MOVE", "COPY"])
+def test_a_folder_in_which_others_locked_something(desk, method):
+    """Nothing takes its place."""
+    top, its = f"/both/in-{method}", f"/both/comes-{method}"
+    desk.play(f"ann MKCOL {top} 201; ann PUT {top}/it 201 > hers; bob MKCOL {its} 201")
+    token = desk.locked("ann", f"{top}/it", Depth="0")
+    desk.does("bob", method, its, 423, to=top)
+    desk.unlock("ann", f"{top}/it", token)
+    assert desk.get("ann", f"{top}/it") == b"hers"
+    desk.does("bob", method, its, 204, to=top)
+
+
+def test_a_lock_of_the_whole_room(desk):
+    token = desk.locked("ann", "/", Depth="0")
+    desk.does("ann", "PUT", "/in-it", 423, b"1")
+    desk.does("ann", "PUT", "/in-it", 201, b"1", If=f"</dav/plans/> ({token})")
+    desk.unlock("ann", "/", token)
+    desk.does("ann", "DELETE", "/in-it", 204)
 
 
 def test_shared_locks_of_a_folder(desk):
