@@ -348,6 +348,9 @@ def test_locks_of_folders(desk):
     desk.does("bob", "PUT", "/both/f/new", 423, b"x")
     desk.locked("bob", "/both/f/new", 423)
     desk.does("ann", "PUT", "/both/f/new", 201, b"x", If=f"</dav/plans/both/f> ({token})")
+    for path, depth, count in ("/both/f", "1", 2), ("/both/f/new", "0", 1), ("/both/f/new", "1", 1), ("/both", "1", 1):
+        root = "<D:lockroot><D:href>/dav/plans/both/f</D:href></D:lockroot>"
+        assert [desk.told(it, path, depth).count(root) for it in ("ann", "bob")] == [count] * 2, path
     desk.unlock("ann", "/both/f", token)
     new = desk.locked("bob", "/both/f/made", 201, SHARED)
     desk.locked("ann", "/both/f/made", 423)
