@@ -193,7 +193,7 @@ async function look(app) {
   const its = app.watched;
   if (!looksAgain() || isAtWork()) return;
   if (app.room) app.room.roster = null;
-  forgetFound();
+  forgetFound(addressOf(app.place));
   if (!its) {
     const [fault, tools] = ["fault", "tools"].map(it => document.querySelector(`main > .${it}`));
     const isOther = fault ? (await app.nodesOf(app.place)).every(it => it.textContent !== fault.textContent) :

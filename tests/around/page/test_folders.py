@@ -150,6 +150,7 @@ def test_search_goes_on_where_a_text_was_saved(club, browser):
     search_in(club, "/s", "txt")
     ends(browser, "2 results among 2 names.")
     assert browser.script("return document.querySelector('main [role=status]').ariaBusy") == "false"
+    browser.script("dispatchEvent(new Event('focus'))")  # (as by who comes back to a window: the page looks again)
     browser.until("pens", lambda: browser.script(f"return document.querySelectorAll('{PEN}').length") == 2)
     browser.script(f"document.querySelectorAll('{PEN}')[1].focus()")
     browser.keys("enter")
@@ -159,6 +160,18 @@ def test_search_goes_on_where_a_text_was_saved(club, browser):
     browser.until("its size", lambda: "6 bytes" in row(browser, "two.txt"))
     in_row = "return document.activeElement.closest('tr')?.rowIndex"
     browser.until("the row", lambda: browser.script(in_row) == 2)
+
+
+def test_search_that_was_left_begins_anew_once_the_page_looks_again(club, browser, tree):
+    """What is found then may not be there any more."""
+    search_in(club, "/t", "large")
+    ends(browser, "1 result among")
+    club.open("/t")
+    club.lay(("/t/large.txt", b"later"))
+    browser.script("dispatchEvent(new Event('focus'))")
+    browser.sees("large.txt", ".things")
+    browser.script("history.back()")
+    ends(browser, "2 results among")
 
 
 def test_search_says_what_it_is_a_list_of(club, browser, tree):
