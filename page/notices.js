@@ -12,8 +12,8 @@ const told = section.parentNode;
 new ResizeObserver(() => { document.documentElement.style.scrollPaddingBottom = `${told.offsetHeight + 8}px`; })
   .observe(told);
 
-function put(name, how, ...children) {
-  const it = make(name, how, ...children);
+function put(...its) {
+  const it = make(...its);
   (it.querySelector("p") ?? it).append(" ", button(t.close, () => it.remove(), "small"));
   section.prepend(it);
   return it;
@@ -28,7 +28,7 @@ export const pass = () => section.querySelectorAll(".good").forEach(it => it.rem
 export function say(words, undo = null) {
   pass();
   if (!words) return;
-  const it = put("div.good", {}, words, undo && [" ", button(t.undo, undo, "small undo")]);
+  const it = put("div.good", words, undo && [" ", button(t.undo, undo, "small undo")]);
   if (!undo) goLater(it);
 }
 
@@ -49,7 +49,7 @@ export function tellFaults(words, faults) {
   } else if (faults.length) {
     const items = make("ul", faults.map(({ about, words: its }) => make("li", { "data-about": about }, its)));
     const list = faults.length > MOST_SHOWN ? make("details", make("summary", t.show), items) : items;
-    put("div.fault", {}, make("p", `${words}:`), list);
+    put("div.fault", make("p", `${words}:`), list);
   }
 }
 
