@@ -21,7 +21,7 @@ export const watchEnd = what => added(running, what);
 export const isUnsaved = () => !isEnding && [...typed].some(it => it());
 
 export const end = () => { isEnding = true; };
-const mayEnd = () => isEnding || !isUnsaved() && running.size === 0;
+export const mayEnd = () => isEnding || !isUnsaved() && running.size === 0;
 
 addEventListener("beforeunload", event => mayEnd() || event.preventDefault());
 

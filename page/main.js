@@ -10,7 +10,7 @@ import { showMatrix } from "./matrix.js";
 import { sessionOfTab, stayAs, userNow } from "./session.js";
 import { LANGUAGES, NOENT, ROOT, Refusal, Room, addressOf, arrive, ask, button, calledIn, choose, closeAll, closedLine,
   drawRail, end, faultLine, fileOfFront, forget, forgetOthers, heading, isMenuOpen, isPart, isRefused, isStarred,
-  isUnsaved, isWithin, language, learnDav, learnNames, leave, make, namesOf, onSubmit, once, openMenu, part,
+  isUnsaved, isWithin, language, learnDav, learnNames, leave, make, mayEnd, namesOf, onSubmit, once, openMenu, part,
   pass, pathOf, placeOf, say, settle, showHelp, shown, standing, t, tellFault, untilClosed, warn,
   watch } from "./shared.js";
 
@@ -153,10 +153,13 @@ const mayLose = () => ask({ title: t.leave, words: t.unsaved, does: t.discard, s
 
 const fail = words => part("main").replaceChildren(faultLine(words));
 
+const tabs = new BroadcastChannel("out"); // others of this browser
+
 async function leaveAll() {
   if (isUnsaved() && !await mayLose()) return;
   end();
   const isOut = await logOut();
+  if (isOut) tabs.postMessage("");
   document.title = "fileroom"; // (the next one may be somebody else)
   history.replaceState(null, "", "/");
   const [title, words] = isOut ? [t.loggedOut, t.forgotten] : [t.notLoggedOut, t.notForgotten];
@@ -166,12 +169,8 @@ async function leaveAll() {
 
 function userMenu(user) {
   const [its, label] = [part("user"), t.you(user)];
-  const speak = it => {
-    choose(it);
-    location.reload();
-  };
   const others = Object.entries(LANGUAGES).filter(([it]) => it !== language)
-    .map(([lang, words]) => ({ words, lang, does: () => speak(lang) }));
+    .map(([lang, words]) => ({ words, lang, does: () => (choose(lang), location.reload()) }));
   const onclick = () => openMenu(its, [{ words: t.help, does: showHelp }, ...others,
     { words: t.refreshing(looksAgain()), does: turnLooking },
     { words: t.logOut, does: leaveAll, isApart: true }], label);
@@ -240,6 +239,7 @@ async function start() {
   });
   watch(() => part("main").querySelector(".typed")?.isUnsaved());
   addEventListener("hashchange", () => app.come());
+  tabs.onmessage = () => (mayEnd() ? location.replace("/sign-in") : tellFault(t.loginGone));
   addEventListener("pageshow", ({ persisted }) => persisted && stayAs(user));
   addEventListener("focus", () => look(app));
   setInterval(() => look(app), MINUTE);

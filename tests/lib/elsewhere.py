@@ -27,7 +27,7 @@ COMMANDS = {"POST /url": "Navigate", "POST /execute/sync": "ExecuteScript", "POS
             "POST /element/ID/clear": "ElementClear", "POST /element/ID/value": "ElementSendKeys",
             "POST /actions": "PerformActions", "GET /screenshot": "TakeScreenshot", "GET /window": "GetWindowHandle",
             "GET /window/handles": "GetWindowHandles", "POST /window": "SwitchToWindow",
-            "DELETE /window": "CloseWindow", "POST /window/rect": "SetWindowRect"}
+            "POST /window/new": "NewWindow", "DELETE /window": "CloseWindow", "POST /window/rect": "SetWindowRect"}
 TO_TOUCH = "arguments[0].scrollIntoView({ block: 'center' }); return arguments[0].tagName"
 
 

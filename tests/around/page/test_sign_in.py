@@ -8,7 +8,7 @@ from elsewhere import Firefox
 from nginx import hashed
 from served import text_of
 
-from .club import DIALOG, PLACE, append, of_user
+from .club import DIALOG, PLACE, TYPED, append, of_user
 from .test_elsewhere import club_in
 
 PATH = "/plans/june.txt"
@@ -111,6 +111,32 @@ def test_logging_out_and_in_as_another(club, browser):
     browser.go("about:blank")
     browser.go(club.address("#open/club"))
     is_at(browser, "eve", "#open/club")
+
+
+def test_logging_out_ends_other_tabs_too(club, browser):
+    """Their addresses tell no place. One in which something is typed stays, and tells why nothing is sent."""
+    browser.go(club.address("#open/club/plans"))
+    types(browser, "ann", "ann-word")
+    is_at(browser, "ann", "#open/club/plans")
+    read, typed = browser.tab()
+    browser.go(club.address(f"#open/club{PATH}"))
+    browser.press("Add text", "//main")
+    browser.fill("Text", "half a")
+    browser.tab()
+    browser.go(club.address("#open/club"))
+    is_at(browser, "ann", "#open/club")
+    of_user(browser, "Log out")
+    browser.sees("You are logged out", "h1")
+    browser.close_tab()
+    browser.turn_to(read)
+    browser.sees("Password", "label")
+    assert browser.script("return location.pathname + location.hash") == "/sign-in"
+    browser.turn_to(typed)
+    browser.sees("The login is not accepted any more. Log in again: what you typed stays here.", "#notices")
+    assert browser.script(TYPED) == "half a"
+    browser.script("document.querySelector('textarea').value = ''")  # (so that nothing asks as it closes)
+    browser.close_tab()
+    browser.turn_to(read)
 
 
 def test_a_page_of_before(club, browser):
