@@ -203,6 +203,20 @@ def test_share_is_ended_and_comes_back(club, browser, passed):
     assert club.holds({"cmd": "GETLIST", "path": PATH}) == before
 
 
+def test_share_comes_back_by_no_key_in_the_field_for_a_name(club, browser, passed):
+    """There Ctrl+Z is for what is typed, also where nothing is."""
+    club.sets(PATH, entry("bob", VIEW))
+    club.open(PATH, "access")
+    browser.press("Stop sharing with bob")
+    browser.sees("Sharing updated.", "#notices")
+    browser.act("//main//input[@role='combobox']", "click")
+    browser.chord("ctrl", "z")
+    assert (browser.script("return document.querySelector('main').ariaBusy"), club.own(PATH)) == (None, [])
+    browser.script("document.querySelector('main h1').focus()")
+    browser.chord("ctrl", "z")
+    browser.sees("Sharing is as it was.", "#notices")
+
+
 def test_share_comes_back_over_nobody_elses(club, browser, passed):
     """A list that somebody set since is left."""
     club.sets(PATH, entry("bob", VIEW))
