@@ -13,8 +13,8 @@ from .changes import JOURNAL, sum_in
 from .front import OF_ROOM, end_of, of_room
 from .held import JAILS, Bounds, is_by_hand
 from .owned import TO_COME, age_of
-from .places import (BEHIND, CHANGES, FRONT_FILES, HERE, LISTEN, LOGINS, SEARCHED, WORKERS, Fault, read, read_json, said,
-                     said_before, sample)
+from .places import (BEHIND, CHANGES, FRONT_FILES, HERE, LISTEN, LOGINS, SEARCHED, WORKERS, Fault, read, read_json,
+                     said, said_before, sample)
 
 PROGRAMS = {"nginx": "nginx-light", "haproxy": "haproxy", "openssl": "openssl", "sqlite3": "sqlite3",
             "nft": "nftables", "curl": "curl", "logrotate": "logrotate"}
