@@ -8,7 +8,7 @@ use Rattle.room_commands.proofs.Common.{Attributes, effect, effect_by, with_obje
 use Rattle.room_commands.proofs.Common.{checks, is_file, LooksAlike, StayAlike, may, may_remove, view, Turn, Own, Other}
 use Rattle.room_commands.proofs.Common.{own_turns, replies_among, OthersUnseen, BytesUnseen, without_bytes}
 use Rattle.room_commands.proofs.Common.{lists_without_bytes, handed_down, HasNoPower, SameBelow, or_left, or_right, inl}
-use Rattle.room_commands.proofs.Common.{inr, then_some, right_to_add}
+use Rattle.room_commands.proofs.Common.{inr, then_some, right_to_add, check_exists, check_file}
 use Rattle.room_commands.specs.CommandModel as C
 use Rattle.room_commands.proofs.Rights.{all_none}
 use Rattle.room_commands.proofs.ChecksTell.{exists_there, file_there}
@@ -205,36 +205,35 @@ file_of Folder h = let no : false ≡ true = h in cc
 -- another's WRITE, and APPEND
 module _ (room : Room) (caller other : SubjectModel) (bytes : List ℕ) (path : Path)
     (unseen : BytesUnseen caller room path) where
+  abbrev Unseen : Room → Type 0
+  Unseen later = LooksAlike caller room later × (HasNoPower caller room path → StayAlike caller room later)
+
+  bytes_unseen : (new : List ℕ → List ℕ) (count : ℕ → ℕ) → ((old : List ℕ) → length (new old) ≡ count (length old))
+      → check_exists room path ≡ None → check_file room path ≡ None
+      → Unseen (with_object room path (λ o. record o { bytes = new o.bytes }))
+  bytes_unseen new count counts there file =
+      let found = exists_there room path there in
+      let kind = file_of found.0.kind (file_there room path found.0 found.1 file) in (
+        unseen_bytes new count counts room caller path found.0 found.1 kind unseen,
+        unseen_bytes_stay new count counts room caller path found.0 found.1 kind unseen,
+      )
+
   written : (x : Option Refusal) → first_refusal (checks room other (C.Write bytes path)) ≡ x
-      → LooksAlike caller room (effect_by room other (C.Write bytes path) x).room
-      × (HasNoPower caller room path → StayAlike caller room (effect_by room other (C.Write bytes path) x).room)
+      → Unseen (effect_by room other (C.Write bytes path) x).room
   written (Some r) is = (λ q. refl, λ powerless. stay_itself room caller)
   written None is =
       let (_, (there, (file, _))) = all_none (checks room other (C.Write bytes path)) is in
-      let found = exists_there room path there in
-      let kind = file_of found.0.kind (file_there room path found.0 found.1 file) in (
-        unseen_bytes (λ old. bytes) (λ n. length bytes) (λ old. refl) room caller path found.0 found.1 kind unseen,
-        unseen_bytes_stay (λ old. bytes) (λ n. length bytes) (λ old. refl) room caller path found.0 found.1 kind unseen,
-      )
+      bytes_unseen (λ old. bytes) (λ n. length bytes) (λ old. refl) there file
 
-  pub unseen_write : LooksAlike caller room (effect room other (C.Write bytes path)).room
-      × (HasNoPower caller room path → StayAlike caller room (effect room other (C.Write bytes path)).room)
+  pub unseen_write : Unseen (effect room other (C.Write bytes path)).room
   unseen_write = written (first_refusal (checks room other (C.Write bytes path))) refl
 
   appended : (x : Option Refusal) → first_refusal (checks room other (C.Append bytes path)) ≡ x
-      → LooksAlike caller room (effect_by room other (C.Append bytes path) x).room
-      × (HasNoPower caller room path → StayAlike caller room (effect_by room other (C.Append bytes path) x).room)
+      → Unseen (effect_by room other (C.Append bytes path) x).room
   appended (Some r) is = (λ q. refl, λ powerless. stay_itself room caller)
   appended None is =
       let (_, (there, (file, _))) = all_none (checks room other (C.Append bytes path)) is in
-      let found = exists_there room path there in
-      let kind = file_of found.0.kind (file_there room path found.0 found.1 file) in (
-        unseen_bytes (λ old. old ++ bytes) (λ n. n + length bytes) (λ old. length-append old bytes)
-            room caller path found.0 found.1 kind unseen,
-        unseen_bytes_stay (λ old. old ++ bytes) (λ n. n + length bytes) (λ old. length-append old bytes)
-            room caller path found.0 found.1 kind unseen,
-      )
+      bytes_unseen (λ old. old ++ bytes) (λ n. n + length bytes) (λ old. length-append old bytes) there file
 
-  pub unseen_append : LooksAlike caller room (effect room other (C.Append bytes path)).room
-      × (HasNoPower caller room path → StayAlike caller room (effect room other (C.Append bytes path)).room)
+  pub unseen_append : Unseen (effect room other (C.Append bytes path)).room
   unseen_append = appended (first_refusal (checks room other (C.Append bytes path))) refl

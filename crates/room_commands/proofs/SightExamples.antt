@@ -11,19 +11,26 @@ use Rattle.room_commands.proofs.Shorthands.{replies}
 abbrev bob : SubjectModel
 bob = record { name = codes "bob"; groups = [] }
 
--- an object of ann's, where everybody has these rights
-abbrev of_ann : Path → Kind → ℕ → List ℕ → Path × Object
-of_ann path kind mask data_bytes = (
+-- an object of ann's, with this group, these flags and this list
+abbrev listed : Path → Kind → List ℕ → ℕ → List EntryModel → List ℕ → Path × Object
+listed path kind group aclflag own data_bytes = (
   path,
   record {
     kind = kind;
     owner = codes "ann";
-    group = codes "eng";
-    aclflag = 2;
-    own = record { allow = true; flags = 0; mask = mask; who = Everyone } ∷ [];
+    group = group;
+    aclflag = aclflag;
+    own = own;
     bytes = data_bytes;
   },
 )
+
+abbrev everybody : ℕ → ℕ → EntryModel
+everybody flags mask = record { allow = true; flags = flags; mask = mask; who = Everyone }
+
+-- and one where everybody has these rights
+abbrev of_ann : Path → Kind → ℕ → List ℕ → Path × Object
+of_ann path kind mask data_bytes = listed path kind (codes "eng") 2 (everybody 0 mask ∷ []) data_bytes
 
 abbrev room_of : List (Path × Object) → Room
 room_of objects = record { objects = objects; left = 999900 }
@@ -164,23 +171,6 @@ left_shows = refl
 
 many_show : replies new_room bob (C.Mkdir a ∷ C.Mkdir (codes "b" ∷ []) ∷ []) ≡ Done ∷ Done ∷ []
 many_show = refl
-
--- an object of ann's, with this group, these flags and this list
-abbrev listed : Path → Kind → List ℕ → ℕ → List EntryModel → List ℕ → Path × Object
-listed path kind group aclflag own data_bytes = (
-  path,
-  record {
-    kind = kind;
-    owner = codes "ann";
-    group = group;
-    aclflag = aclflag;
-    own = own;
-    bytes = data_bytes;
-  },
-)
-
-abbrev everybody : ℕ → ℕ → EntryModel
-everybody flags mask = record { allow = true; flags = flags; mask = mask; who = Everyone }
 
 -- the group of a folder and what it hands down, to whoever may add to it
 abbrev of_group : List ℕ → Room

@@ -10,7 +10,8 @@ use Rattle.room_commands.proofs.Common.{none_is_some, parent_of_end, ends, lists
 use Rattle.room_commands.proofs.Common.{Attributes, first_refusal, check_right, is_file, is_kind, is_root}
 use Rattle.room_commands.proofs.Common.{prefix_refusal, walk, is_at_or_below, LooksAlike, StayAlike, SameBelow, Sight}
 use Rattle.room_commands.proofs.Common.{may, may_remove, depth_in, view, handed_to, object_or_default, then_some}
-use Rattle.room_commands.proofs.Common.{right_to_add}
+use Rattle.room_commands.proofs.Common.{right_to_add, subst}
+use Rattle.std.proofs.Common.{subst₂}
 use Rattle.room_commands.proofs.RoomsRenamed.{rest_below, below_more}
 use Rattle.room_commands.proofs.RoomsNew.{same_or_other_path}
 use Rattle.room_commands.proofs.ChecksTell.{folder_of_kind, walk_ends_in_folder}
@@ -280,6 +281,17 @@ module _ (a b a' b' : Room) (caller : SubjectModel) (p t : Path) (s : Step a b a
     abbrev facts_b : Facts
     facts_b = facts_at b caller q
 
+    -- what is told of a room where these names are in the folder now
+    abbrev told : Room → Room → List (Name × Kind) → Facts
+    told old new names = record (facts_at old caller q) {
+      names = names;
+      depth = depth_in q new.objects;
+      full = (new.left == 0);
+    }
+
+    abbrev Alike : Object → Object → List (Name × Kind) → List (Name × Kind) → Type 0
+    Alike oa ob names others = sight_with caller (told a a' names) oa ≡ sight_with caller (told b b' others) ob
+
     way_after : walk a' caller q ≡ walk b' caller q
     way_after = walk_out a a' caller p t s.out_a q off ∙ way_alike a b caller q (alike q)
         ∙ sym (walk_out b b' caller p t s.out_b q off)
@@ -310,52 +322,15 @@ module _ (a b a' b' : Room) (caller : SubjectModel) (p t : Path) (s : Step a b a
             (not (is_file ob.kind) && (facts_b.may add_file || facts_b.may add_subdirectory))
             (ap (λ (seen : Sight). seen.full) same)
 
-        changed_names : children a' q ≡ children b' q
-            → sight_with caller (record facts_a {
-              names = children a' q;
-              depth = depth_in q a'.objects;
-              full = (a'.left == 0);
-            }) oa
-            ≡ sight_with caller (record facts_b {
-              names = children b' q;
-              depth = depth_in q b'.objects;
-              full = (b'.left == 0);
-            }) ob
-        changed_names names =
-            seen_changed caller facts_a facts_b oa ob same (children a' q) (depth_in q a'.objects)
-            (depth_in q b'.objects) (a'.left == 0) (b'.left == 0) fulls
-            (depth_after walked)
-            ∙ (λ i. sight_with caller (record facts_b {
-              names = names i;
-              depth = depth_in q b'.objects;
-              full = (b'.left == 0);
-            }) ob)
+        changed_names : children a' q ≡ children b' q → Alike oa ob (children a' q) (children b' q)
+        changed_names names = subst (Alike oa ob (children a' q)) names
+            (seen_changed caller facts_a facts_b oa ob same (children a' q) (depth_in q a'.objects)
+            (depth_in q b'.objects) (a'.left == 0) (b'.left == 0) fulls (depth_after walked))
 
-        kept_names : ((n : Name) → Off p t (q ++ n ∷ []))
-            → sight_with caller (record facts_a {
-              names = children a' q;
-              depth = depth_in q a'.objects;
-              full = (a'.left == 0);
-            }) oa
-            ≡ sight_with caller (record facts_b {
-              names = children b' q;
-              depth = depth_in q b'.objects;
-              full = (b'.left == 0);
-            }) ob
-        kept_names offs =
-            (λ i. sight_with caller (record facts_a {
-              names = names_kept_a q offs i;
-              depth = depth_in q a'.objects;
-              full = (a'.left == 0);
-            }) oa)
-            ∙ seen_kept caller facts_a facts_b oa ob same (depth_in q a'.objects)
-            (depth_in q b'.objects) (a'.left == 0) (b'.left == 0) fulls
-            (depth_after walked)
-            ∙ (λ i. sight_with caller (record facts_b {
-              names = sym (names_kept_b q offs) i;
-              depth = depth_in q b'.objects;
-              full = (b'.left == 0);
-            }) ob)
+        kept_names : ((n : Name) → Off p t (q ++ n ∷ [])) → Alike oa ob (children a' q) (children b' q)
+        kept_names offs = subst₂ (Alike oa ob) (sym (names_kept_a q offs)) (sym (names_kept_b q offs))
+            (seen_kept caller facts_a facts_b oa ob same (depth_in q a'.objects)
+            (depth_in q b'.objects) (a'.left == 0) (b'.left == 0) fulls (depth_after walked))
 
     -- where the way passes, what is there looks alike
     there_after : walk a caller q ≡ None → (oa ob : Option Object)
