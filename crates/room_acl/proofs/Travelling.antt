@@ -19,33 +19,44 @@ given_by kind f d n g = option_map (λ given. bit_or given g) (in_column kind (t
 abbrev with_flags : EntryModel → ℕ → EntryModel
 with_flags entry flags = record entry { flags = flags }
 
--- row by row: what is given to a folder and from there to the kind
-rows_twice : (kind : Kind) (f d n : Bool) →
+abbrev plain : ℕ → EntryModel
+plain flags = record { allow = true; flags = flags; mask = 0; who = Everyone }
+
+-- what given flags keep to: they are flags, with the mark, lawful where they arrive, and IDENTIFIER_GROUP is b
+abbrev keeps : Kind → Bool → ℕ → Bool
+keeps kind b flags =
+    (bit_and flags all_flags == flags) && (is_inherited flags
+    && (may_be_own kind (plain flags) && cond b (identifier_group flags) (not (identifier_group flags))))
+
+-- row by row: what is given to a folder and from there to the kind, and that given flags keep to it
+rows : (kind : Kind) (f d n : Bool) →
     (option_and_then (flags_with_group kind) (given_by Folder f d n 0) ≡ cond (not n) (given_by kind f d n 0) None)
     × (option_and_then (flags_with_group kind) (given_by Folder f d n 64) ≡ cond (not n) (given_by kind f d n 64) None)
-rows_twice File false false false = (refl, refl)
-rows_twice File false false true = (refl, refl)
-rows_twice File false true false = (refl, refl)
-rows_twice File false true true = (refl, refl)
-rows_twice File true false false = (refl, refl)
-rows_twice File true false true = (refl, refl)
-rows_twice File true true false = (refl, refl)
-rows_twice File true true true = (refl, refl)
-rows_twice Folder false false false = (refl, refl)
-rows_twice Folder false false true = (refl, refl)
-rows_twice Folder false true false = (refl, refl)
-rows_twice Folder false true true = (refl, refl)
-rows_twice Folder true false false = (refl, refl)
-rows_twice Folder true false true = (refl, refl)
-rows_twice Folder true true false = (refl, refl)
-rows_twice Folder true true true = (refl, refl)
+    × (option_map_or (keeps kind false) (given_by kind f d n 0) true ≡ true)
+    × (option_map_or (keeps kind true) (given_by kind f d n 64) true ≡ true)
+rows File false false false = (refl, refl, refl, refl)
+rows File false false true = (refl, refl, refl, refl)
+rows File false true false = (refl, refl, refl, refl)
+rows File false true true = (refl, refl, refl, refl)
+rows File true false false = (refl, refl, refl, refl)
+rows File true false true = (refl, refl, refl, refl)
+rows File true true false = (refl, refl, refl, refl)
+rows File true true true = (refl, refl, refl, refl)
+rows Folder false false false = (refl, refl, refl, refl)
+rows Folder false false true = (refl, refl, refl, refl)
+rows Folder false true false = (refl, refl, refl, refl)
+rows Folder false true true = (refl, refl, refl, refl)
+rows Folder true false false = (refl, refl, refl, refl)
+rows Folder true false true = (refl, refl, refl, refl)
+rows Folder true true false = (refl, refl, refl, refl)
+rows Folder true true true = (refl, refl, refl, refl)
 
 flags_twice : (kind : Kind) (flags : ℕ) →
     option_and_then (flags_with_group kind) (flags_with_group Folder flags)
     ≡ cond (not (no_propagate flags)) (flags_with_group kind flags) None
 flags_twice kind flags =
-    let rows = rows_twice kind (file_inherit flags) (directory_inherit flags) (no_propagate flags) in
-    elim (group_alone flags) [ inl p ↦ rw p.0 rows.0 | inr p ↦ rw p.0 rows.1 ]
+    let row = rows kind (file_inherit flags) (directory_inherit flags) (no_propagate flags) in
+    elim (group_alone flags) [ inl p ↦ rw p.0 row.0 | inr p ↦ rw p.0 row.1 ]
 
 entry_by_flags : (kind : Kind) (entry : EntryModel) (o : Option ℕ) →
     option_and_then (entry_handed_down kind) (option_map (with_flags entry) o)
@@ -87,35 +98,6 @@ hands_down_twice (entry ∷ rest) kind =
     (hands_down_twice rest kind)
     ∙ filter_front kind entry (travelling rest) (not (no_propagate entry.flags))
 
-abbrev plain : ℕ → EntryModel
-plain flags = record { allow = true; flags = flags; mask = 0; who = Everyone }
-
--- what given flags keep to: they are flags, with the mark, lawful where they arrive, and IDENTIFIER_GROUP is b
-abbrev keeps : Kind → Bool → ℕ → Bool
-keeps kind b flags =
-    (bit_and flags all_flags == flags) && (is_inherited flags
-    && (may_be_own kind (plain flags) && cond b (identifier_group flags) (not (identifier_group flags))))
-
-rows_keep : (kind : Kind) (f d n : Bool) →
-    (option_map_or (keeps kind false) (given_by kind f d n 0) true ≡ true)
-    × (option_map_or (keeps kind true) (given_by kind f d n 64) true ≡ true)
-rows_keep File false false false = (refl, refl)
-rows_keep File false false true = (refl, refl)
-rows_keep File false true false = (refl, refl)
-rows_keep File false true true = (refl, refl)
-rows_keep File true false false = (refl, refl)
-rows_keep File true false true = (refl, refl)
-rows_keep File true true false = (refl, refl)
-rows_keep File true true true = (refl, refl)
-rows_keep Folder false false false = (refl, refl)
-rows_keep Folder false false true = (refl, refl)
-rows_keep Folder false true false = (refl, refl)
-rows_keep Folder false true true = (refl, refl)
-rows_keep Folder true false false = (refl, refl)
-rows_keep Folder true false true = (refl, refl)
-rows_keep Folder true true false = (refl, refl)
-rows_keep Folder true true true = (refl, refl)
-
 pub record IsGiven (kind : Kind) (flags given : ℕ) : Type 0 where
   pub are_flags : IsFlags given
   pub marked : is_inherited given ≡ true
@@ -141,13 +123,13 @@ is_given kind flags given found =
     let f = file_inherit flags in
     let d = directory_inherit flags in
     let n = no_propagate flags in
-    let rows = rows_keep kind f d n in
+    let row = rows kind f d n in
     elim (group_alone flags) [
       | inl p ↦ IsGiven-from_keeps kind false flags given p.1
           (sym (ap (λ o. option_map_or (keeps kind false) o true) (sym (ap (given_by kind f d n) p.0) ∙ found))
-          ∙ rows.0)
+          ∙ row.2)
       | inr p ↦ IsGiven-from_keeps kind true flags given p.1
-          (sym (ap (λ o. option_map_or (keeps kind true) o true) (sym (ap (given_by kind f d n) p.0) ∙ found)) ∙ rows.1)
+          (sym (ap (λ o. option_map_or (keeps kind true) o true) (sym (ap (given_by kind f d n) p.0) ∙ found)) ∙ row.3)
     ]
 
 -- the same from a row of the table
