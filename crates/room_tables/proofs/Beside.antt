@@ -285,59 +285,39 @@ create_beside ours o text params old new count of h before was =
     subst (IsBeside (ours ++ o ∷ []) no_trees before) (sym (ap (λ (p : Tally × Database). p.1) (same_value all.2)))
     (sequence_beside (ours ++ o ∷ []) before two.0 all.0 one two.2)
 
-room_creates : IsCreate room_table room_text
+-- the text adds the next table of ours beside others
+abbrev Adds : Schema → Schema → List ℕ → Type 1
+Adds schema next text = (old new : State) (count : ℕ) → ExecutesInside 0 text [] old new (Ok count)
+    → AddsTables schema next old.now new.now
+
+table_beside : (schema next : Schema) (o : Table) (text : List ℕ) → IsCreate o text
+    → next.tables ≡ schema.tables ++ o ∷ [] → Adds schema next text
+table_beside schema next o text of is old new count h before none was =
+    rw is (create_beside schema.tables o text [] old new count of h before was)
+
+pub room_beside : Adds schema_0 schema_1 room_text
 unfolding everything
-room_creates = (refl, refl, refl, refl)
+room_beside = table_beside schema_0 schema_1 room_table room_text (refl, refl, refl, refl) refl
 
-pub room_beside : (old new : State) (count : ℕ) → ExecutesInside 0 room_text [] old new (Ok count)
-    → AddsTables schema_0 schema_1 old.now new.now
-room_beside old new count h before none was =
-    create_beside [] room_table room_text [] old new count room_creates h before was
-
-node_creates : IsCreate node_table node_text
+pub node_beside : Adds schema_1 schema_2 node_text
 unfolding everything
-node_creates = (refl, refl, refl, refl)
+node_beside = table_beside schema_1 schema_2 node_table node_text (refl, refl, refl, refl) refl
 
-pub node_beside : (old new : State) (count : ℕ) → ExecutesInside 0 node_text [] old new (Ok count)
-    → AddsTables schema_1 schema_2 old.now new.now
-node_beside old new count h before none was =
-    create_beside schema_1.tables node_table node_text [] old new count node_creates h before was
-
-entry_creates : IsCreate entry_table entry_text
+pub entry_beside : Adds schema_2 schema_3 entry_text
 unfolding everything
-entry_creates = (refl, refl, refl, refl)
+entry_beside = table_beside schema_2 schema_3 entry_table entry_text (refl, refl, refl, refl) refl
 
-pub entry_beside : (old new : State) (count : ℕ) → ExecutesInside 0 entry_text [] old new (Ok count)
-    → AddsTables schema_2 schema_3 old.now new.now
-entry_beside old new count h before none was =
-    create_beside schema_2.tables entry_table entry_text [] old new count entry_creates h before was
-
-doc_creates : IsCreate doc_table doc_text
+pub doc_beside : Adds schema_3 schema_4 doc_text
 unfolding everything
-doc_creates = (refl, refl, refl, refl)
+doc_beside = table_beside schema_3 schema_4 doc_table doc_text (refl, refl, refl, refl) refl
 
-pub doc_beside : (old new : State) (count : ℕ) → ExecutesInside 0 doc_text [] old new (Ok count)
-    → AddsTables schema_3 schema_4 old.now new.now
-doc_beside old new count h before none was =
-    create_beside schema_3.tables doc_table doc_text [] old new count doc_creates h before was
-
-session_creates : IsCreate session_table session_text
+pub session_beside : Adds schema_4 schema_5 session_text
 unfolding everything
-session_creates = (refl, refl, refl, refl)
+session_beside = table_beside schema_4 schema_5 session_table session_text (refl, refl, refl, refl) refl
 
-pub session_beside : (old new : State) (count : ℕ) → ExecutesInside 0 session_text [] old new (Ok count)
-    → AddsTables schema_4 schema_5 old.now new.now
-session_beside old new count h before none was =
-    create_beside schema_4.tables session_table session_text [] old new count session_creates h before was
-
-kept_creates : IsCreate (slots_table Fresh) kept_text
+pub kept_beside : Adds schema_5 (room_schema Fresh) kept_text
 unfolding everything
-kept_creates = (refl, refl, refl, refl)
-
-pub kept_beside : (old new : State) (count : ℕ) → ExecutesInside 0 kept_text [] old new (Ok count)
-    → AddsTables schema_5 (room_schema Fresh) old.now new.now
-kept_beside old new count h before none was =
-    create_beside schema_5.tables (slots_table Fresh) kept_text [] old new count kept_creates h before was
+kept_beside = table_beside schema_5 (room_schema Fresh) (slots_table Fresh) kept_text (refl, refl, refl, refl) refl
 
 -- ---- nothing was made yet
 

@@ -66,33 +66,34 @@ step old new schema next table text count has empty makes_it plain h =
           it.others empty it.empty);
     }
 
+-- the text makes the next table
+abbrev Adds : Schema → Schema → List ℕ → Type 1
+Adds schema next text = (old new : State) (count : ℕ) → ExecutesInside 0 text [] old new (Ok count)
+    → IsMade schema old.now → IsMade next new.now
+
+next_step : (schema next : Schema) (table : Table) (text : List ℕ) → Makes schema text table next
+    → lacks_sequence next ≡ false → Adds schema next text
+next_step schema next table text it plain old new count h was =
+    step old new schema next table text count was.schema was.empty it plain h
+
 pub room_step : (old new : State) (count : ℕ) → ExecutesInside 0 room_text [] old new (Ok count)
     → old.now.schema ≡ schema_0 → IsMade schema_1 new.now
 room_step old new count h was = step old new schema_0 schema_1 _ room_text count was tt room_makes refl h
 
-pub node_step : (old new : State) (count : ℕ) → ExecutesInside 0 node_text [] old new (Ok count)
-    → IsMade schema_1 old.now → IsMade schema_2 new.now
-node_step old new count h was =
-    step old new schema_1 schema_2 _ node_text count was.schema was.empty node_makes refl h
+pub node_step : Adds schema_1 schema_2 node_text
+node_step = next_step schema_1 schema_2 _ node_text node_makes refl
 
-pub entry_step : (old new : State) (count : ℕ) → ExecutesInside 0 entry_text [] old new (Ok count)
-    → IsMade schema_2 old.now → IsMade schema_3 new.now
-entry_step old new count h was =
-    step old new schema_2 schema_3 _ entry_text count was.schema was.empty entry_makes refl h
+pub entry_step : Adds schema_2 schema_3 entry_text
+entry_step = next_step schema_2 schema_3 _ entry_text entry_makes refl
 
-pub doc_step : (old new : State) (count : ℕ) → ExecutesInside 0 doc_text [] old new (Ok count)
-    → IsMade schema_3 old.now → IsMade schema_4 new.now
-doc_step old new count h was = step old new schema_3 schema_4 _ doc_text count was.schema was.empty doc_makes refl h
+pub doc_step : Adds schema_3 schema_4 doc_text
+doc_step = next_step schema_3 schema_4 _ doc_text doc_makes refl
 
-pub session_step : (old new : State) (count : ℕ) → ExecutesInside 0 session_text [] old new (Ok count)
-    → IsMade schema_4 old.now → IsMade schema_5 new.now
-session_step old new count h was =
-    step old new schema_4 schema_5 _ session_text count was.schema was.empty session_makes refl h
+pub session_step : Adds schema_4 schema_5 session_text
+session_step = next_step schema_4 schema_5 _ session_text session_makes refl
 
-pub kept_step : (old new : State) (count : ℕ) → ExecutesInside 0 kept_text [] old new (Ok count)
-    → IsMade schema_5 old.now → IsMade (room_schema Fresh) new.now
-kept_step old new count h was =
-    step old new schema_5 (room_schema Fresh) _ kept_text count was.schema was.empty kept_makes refl h
+pub kept_step : Adds schema_5 (room_schema Fresh) kept_text
+kept_step = next_step schema_5 (room_schema Fresh) _ kept_text kept_makes refl
 
 -- tables that were just made
 pub made_room : (db : Database) → IsMade (room_schema Fresh) db

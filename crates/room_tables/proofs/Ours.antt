@@ -1,10 +1,12 @@
 -- Tables of ours behind others.
-use Rattle.room_tables.proofs.Common.{◌≡◌, ◌≢◌, ◌+◌, ◌&&◌, ◌||◌, not, ℕ, zero, suc, Bool, true, false, cond, is_some}
+use Rattle.room_tables.proofs.Common.{◌≡◌, ◌≢◌, ◌+◌, ◌||◌, ℕ, zero, suc, Bool, true, false, cond, is_some}
 use Rattle.room_tables.proofs.Common.{List, [], ◌∷◌, ◌++◌, slice_get, Option, None, Some, inl, inr, refl, sym, ap}
-use Rattle.room_tables.proofs.Common.{subst, ◌∙◌, true≢false, option_and_then, eq-eqb, codes, arith, cases_Bool, ne_eqb}
+use Rattle.room_tables.proofs.Common.{subst, ◌∙◌, option_and_then, eq-eqb, codes, arith, cases_Bool, ne_eqb}
 use Rattle.room_tables.proofs.Common.{AllByRecursion, position_from, list_any, find, Has, all_has, same_name, Trees}
 use Rattle.room_tables.proofs.Common.{Row, Database, sequence, Schema, Table, IsApart, IsBeside, HasItsSequence}
 use Rattle.room_tables.proofs.Common.{AreOurs, with_rows}
+use Rattle.std.proofs.Math.Bool.{and-false}
+use Rattle.std.proofs.lemmas.Bool.{not-false}
 use Rattle.std.proofs.lemmas.List.Folds.{find-append}
 
 -- ---- lists
@@ -93,21 +95,13 @@ pub still_whole : (ours : List Table) (held : Trees) (before after : Database) �
     → HasItsSequence before.schema → HasItsSequence after.schema
 still_whole ours held before after was whole = elim (cases_Bool had) [
   | inl some ↦
-      let has : is_some (sequence before.schema) ≡ true = not_false _ (rw some at whole) in
-      rw (sequence_front before.schema after.schema was.tables was.tables_are has) (and_false _)
+      let has : is_some (sequence before.schema) ≡ true = not-false _ (rw some at whole) in
+      rw (sequence_front before.schema after.schema was.tables was.tables_are has) (and-false _)
   | inr none ↦ rw (counted ∙ none) refl
 ]
   where
     had : Bool
     had = list_any (λ (t : Table). t.is_counted) before.schema.tables
-
-    not_false : (b : Bool) → not b ≡ false → b ≡ true
-    not_false true h = refl
-    not_false false h = absurd (true≢false h)
-
-    and_false : (b : Bool) → (b && false) ≡ false
-    and_false true = refl
-    and_false false = refl
 
     uncounted : (tables : List Table) → AllByRecursion (IsApart before.schema.tables) tables
         → AllByRecursion (λ (t : Table). t.is_counted ≡ false) tables

@@ -7,7 +7,7 @@ use Rattle.room_tables.proofs.Common.{Trees, no_trees, is_int, Int, Row, column,
 use Rattle.room_tables.proofs.Common.{State, ExecutesInside, Table, EntryModel, Node, Records, has_a_table, room_table}
 use Rattle.room_tables.proofs.Common.{node_table, entry_table, Fresh, one_column, number_in, entry_of, records_of, has}
 use Rattle.room_tables.proofs.Common.{only, shown_node, node_of, entries_shown, name_of_text, IsKeyed, IsReadBack}
-use Rattle.room_tables.proofs.Common.{kind_number, IsBeside, Fills, six, with_rows}
+use Rattle.room_tables.proofs.Common.{kind_number, IsBeside, Fills, six, with_rows, drop, list_any}
 use Rattle.room_tables.specs.Fresh.{filled, StandForNode, StandForNext, StandForEntries, StandsBeside, MayStandBeside}
 use Rattle.room_tables.proofs.Changes.{unnumbered, all_chosen}
 use Rattle.room_tables.proofs.Effects.{same_records, row_of_node, node_back, params_of_node}
@@ -40,43 +40,27 @@ are_free schema none =
 abbrev Finds : List ℕ → Table → Type 0
 Finds name o = AllByRecursion (λ (w : Table). same_name w.name name ≡ true → w ≡ o) six
 
+other_names : (name : List ℕ) (o : Table) (tables : List Table)
+    → list_any (λ (w : Table). same_name w.name name) tables ≡ false
+    → AllByRecursion (λ (w : Table). same_name w.name name ≡ true → w ≡ o) tables
+other_names name o [] none = tt
+other_names name o (w ∷ tables) none =
+    let parts = or_parts _ _ none in (λ is. absurd (true≢false (sym is ∙ parts.0)), other_names name o tables parts.1)
+
 finds_room : Finds (codes "room") room_table
 unfolding same_name
-finds_room = (
-  λ h. refl,
-  (
-    λ h. absurd (true≢false (sym h)),
-    (
-      λ h. absurd (true≢false (sym h)),
-      (λ h. absurd (true≢false (sym h)), (λ h. absurd (true≢false (sym h)), (λ h. absurd (true≢false (sym h)), tt))),
-    ),
-  ),
-)
+finds_room = (λ h. refl, other_names (codes "room") room_table (drop 1 six) refl)
 
 finds_node : Finds (codes "node") node_table
 unfolding same_name
-finds_node = (
-  λ h. absurd (true≢false (sym h)),
-  (
-    λ h. refl,
-    (
-      λ h. absurd (true≢false (sym h)),
-      (λ h. absurd (true≢false (sym h)), (λ h. absurd (true≢false (sym h)), (λ h. absurd (true≢false (sym h)), tt))),
-    ),
-  ),
-)
+finds_node =
+    (λ h. absurd (true≢false (sym h)), (λ h. refl, other_names (codes "node") node_table (drop 2 six) refl))
 
 finds_entry : Finds (codes "entry") entry_table
 unfolding same_name
 finds_entry = (
   λ h. absurd (true≢false (sym h)),
-  (
-    λ h. absurd (true≢false (sym h)),
-    (
-      λ h. refl,
-      (λ h. absurd (true≢false (sym h)), (λ h. absurd (true≢false (sym h)), (λ h. absurd (true≢false (sym h)), tt))),
-    ),
-  ),
+  (λ h. absurd (true≢false (sym h)), (λ h. refl, other_names (codes "entry") entry_table (drop 3 six) refl)),
 )
 
 -- ---- the row of a node
