@@ -5,7 +5,7 @@ use Rattle.room_commands.proofs.Common.{length, Option, None, Some, ◌==◌, co
 use Rattle.room_commands.proofs.Common.{Result, Kind, File, Folder, read_data, list_directory, add_file, append_data}
 use Rattle.room_commands.proofs.Common.{add_subdirectory, read_attributes, read_acl, delete_object, delete_child}
 use Rattle.room_commands.proofs.Common.{SubjectModel, EntryModel, allowed_mask, Name, Path, path_eq, Object, Room}
-use Rattle.room_commands.proofs.Common.{IsRoom, object_at, children, list_of, standing_of, parent_of, none_is_some}
+use Rattle.room_commands.proofs.Common.{IsRoom, object_at, children, list_of, standing_of, parent_of}
 use Rattle.room_commands.proofs.Common.{same_path, without_bytes, lists_without_bytes, CommandModel, Refusal}
 use Rattle.room_commands.proofs.Common.{Attributes, IsLawful, first_refusal, checks, check_right, walk, is_file}
 use Rattle.room_commands.proofs.Common.{is_root, is_kind, check_exists, check_file, effect, effect_by, changed}
@@ -16,6 +16,7 @@ use Rattle.room_commands.proofs.Rights.{all_none}
 use Rattle.room_commands.proofs.ChecksTell.{exists_there, file_there}
 use Rattle.room_commands.proofs.RoomsObject.{after_change, children_stay, depth_stays}
 use Rattle.room_commands.proofs.RoomLaws.{right_alike, walk_alike, bytes_stay_out}
+use Rattle.room_commands.proofs.Looks.{by_outcome}
 use Rattle.room_commands.proofs.NothingShows.{refused_alike, in_turn}
 use Rattle.room_commands.proofs.Shorthands.{bytes_of, handed_by, if_reached, seen_less, or_no_object}
 
@@ -174,14 +175,6 @@ module _ (new : List ℕ → List ℕ) (count : ℕ → ℕ) (counts : (l : List
 
 module _ (a b : Room) (caller : SubjectModel) (room_a : IsRoom a) (room_b : IsRoom b)
     (alike : LooksAlike caller a b) where
-  rooms_alike : (command : CommandModel) (x y : Option Refusal) → x ≡ y
-      → (x ≡ None → y ≡ None → LooksAlike caller (changed a caller command) (changed b caller command))
-      → LooksAlike caller (effect_by a caller command x).room (effect_by b caller command y).room
-  rooms_alike command None None same change = change refl refl
-  rooms_alike command (Some r) (Some s) same change = alike
-  rooms_alike command None (Some s) same change = absurd (none_is_some s same)
-  rooms_alike command (Some r) None same change = absurd (none_is_some r (sym same))
-
   file_kind : (kind : Kind) → is_file kind ≡ true → kind ≡ File
   file_kind File h = refl
   file_kind Folder h = let no : false ≡ true = h in cc
@@ -222,10 +215,11 @@ module _ (a b : Room) (caller : SubjectModel) (room_a : IsRoom a) (room_b : IsRo
   pub stay_alike : (command : CommandModel) → IsLawful command → changes_bytes_alone command ≡ true
       → LooksAlike caller (effect a caller command).room (effect b caller command).room
   stay_alike command lawful alone =
-      rooms_alike command (first_refusal (checks a caller command)) (first_refusal (checks b caller command))
+      by_outcome (λ x y. LooksAlike caller (effect_by a caller command x).room (effect_by b caller command y).room)
+      (first_refusal (checks a caller command)) (first_refusal (checks b caller command))
       (refused_alike _ (checks a caller command) (checks b caller command)
       (in_turn a b caller room_a room_b alike command lawful))
-      (change_alike command alone)
+      (change_alike command alone) (λ r. alike)
 
 -- two rooms that differ in bytes alone give the same to what is added, and hand down the same
 module _ (room other : Room)

@@ -7,7 +7,7 @@ use Rattle.room_commands.proofs.Common.{write_acl, write_owner, delete_object, d
 use Rattle.room_commands.proofs.Common.{Name, Path, path_eq, Object, Room, IsRoom, object_at, children, list_of}
 use Rattle.room_commands.proofs.Common.{parent_of, root_list, some_is, none_is_some, other_path, nothing_below, Ends}
 use Rattle.room_commands.proofs.Common.{ends, parent_of_end, nothing_in_empty, without_bytes, lists_without_bytes}
-use Rattle.room_commands.proofs.Common.{CommandModel, Refusal, IsLawful, first_refusal, checks, check_right}
+use Rattle.room_commands.proofs.Common.{CommandModel, IsLawful, first_refusal, checks, check_right}
 use Rattle.room_commands.proofs.Common.{check_absent, walk, is_at_or_below, is_root, is_file, is_kind, right_to_add}
 use Rattle.room_commands.proofs.Common.{refuse_if, NotEmpty, own_entries_of_setlist, effect, effect_by, changed}
 use Rattle.room_commands.proofs.Common.{with_object, with_new, without, renamed, new_object, reply, LooksAlike}
@@ -24,6 +24,7 @@ use Rattle.room_commands.proofs.RoomsRenamed.{at_new_place, at_old_place, away, 
 use Rattle.room_commands.proofs.RoomLaws.{room_if_passed, right_alike, walk_alike, bytes_stay_out}
 use Rattle.room_commands.proofs.BytesAlone.{change_alike, group_kept, handed_kept, kind_kept}
 use Rattle.room_commands.proofs.EffectIsRoom.{effect_is_room, not_root_ends}
+use Rattle.room_commands.proofs.Looks.{by_outcome}
 use Rattle.room_commands.proofs.NothingShows.{refused_alike, in_turn, reply_alike}
 use Rattle.room_commands.proofs.Staying.{Off, Numbers, stay, region_at, front_is_off, off_front, list_out}
 use Rattle.room_commands.proofs.Shorthands.{handed_by, kind_of}
@@ -379,24 +380,18 @@ module _ (a b : Room) (caller : SubjectModel) (room_a : IsRoom a) (room_b : IsRo
       (λ o. refl) walked (or_right _ _ (ap is_none right)) found.0 found.1 later_a later_b
   change_stays command passed passed_b later_a later_b = before
 
-  rooms_stay : (command : CommandModel) (x y : Option Refusal) → x ≡ y
-      → (x ≡ None → y ≡ None → StayAlike caller (changed a caller command) (changed b caller command))
-      → StayAlike caller (effect_by a caller command x).room (effect_by b caller command y).room
-  rooms_stay command None None same change = change refl refl
-  rooms_stay command (Some r) (Some s) same change = before
-  rooms_stay command None (Some s) same change = absurd (none_is_some s same)
-  rooms_stay command (Some r) None same change = absurd (none_is_some r (sym same))
-
   pub command_stays : (command : CommandModel) → IsLawful command
       → StayAlike caller (effect a caller command).room (effect b caller command).room
   command_stays command lawful =
       let Rest = reply a caller command ≡ reply b caller command in
-      rooms_stay command (first_refusal (checks a caller command)) (first_refusal (checks b caller command))
+      by_outcome (λ x y. StayAlike caller (effect_by a caller command x).room (effect_by b caller command y).room)
+      (first_refusal (checks a caller command)) (first_refusal (checks b caller command))
       (refused_alike Rest (checks a caller command) (checks b caller command)
       (in_turn a b caller room_a room_b before.now command lawful))
       (λ passed passed_b. change_stays command passed passed_b
       (rw (room_if_passed a caller command passed) at (effect_is_room a caller command lawful room_a))
       (rw (room_if_passed b caller command passed_b) at (effect_is_room b caller command lawful room_b)))
+      (λ r. before)
 
 -- so each of a list of commands is answered alike
 pub all_replies_alike : (caller : SubjectModel) (commands : List CommandModel) (a b : Room)

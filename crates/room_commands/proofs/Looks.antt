@@ -1,5 +1,5 @@
 -- Two rooms that look alike to a caller: what each check and each reply of its commands asks is the same in both.
-use Rattle.room_commands.proofs.Common.{◌≡◌, ℕ, refl, ap, sym, ◌∙◌, Bool, true, false, not, cond, ◌&&◌, ◌||◌, List, []}
+use Rattle.room_commands.proofs.Common.{◌≡◌, ℕ, refl, ap, sym, ◌∙◌, subst, Bool, true, false, not, cond, ◌&&◌, ◌||◌, List, []}
 use Rattle.room_commands.proofs.Common.{◌∷◌, ◌++◌, map, length, Option, None, Some, is_some, option_map, nat_le, find}
 use Rattle.room_commands.proofs.Common.{list_all, AllByRecursion, map-append, and_parts, and_from, Kind, File, Folder}
 use Rattle.room_commands.proofs.Common.{Decision, has_bit, named_bits, all_rights, execute, add_file, add_subdirectory}
@@ -18,13 +18,17 @@ use Rattle.room_commands.proofs.ChecksTell.{not_refused, exists_there}
 use Rattle.room_commands.proofs.Shorthands.{if_reached, there_seen, kind_of, right_on}
 use Rattle.std.specs.Result.{result_err}
 
+-- what checks come to in two rooms, where it is the same: both pass, or both refuse alike
+pub by_outcome : (P : Option Refusal → Option Refusal → Type 0) (x y : Option Refusal) → x ≡ y
+    → (x ≡ None → y ≡ None → P None None) → ((r : Refusal) → P (Some r) (Some r)) → P x y
+by_outcome P None y same passed refused = subst (P None) same (passed refl (sym same))
+by_outcome P (Some r) y same passed refused = subst (P (Some r)) same (refused r)
+
 -- checks of two rooms are alike where the first two are, and the others are where the first two pass
 pub then_alike : (x y : Option Refusal) (xs ys : List (Option Refusal)) → x ≡ y
     → (x ≡ None → first_refusal xs ≡ first_refusal ys) → first_refusal (x ∷ xs) ≡ first_refusal (y ∷ ys)
-then_alike None None xs ys same others = others refl
-then_alike (Some r) (Some s) xs ys same others = same
-then_alike None (Some s) xs ys same others = absurd (none_is_some s same)
-then_alike (Some r) None xs ys same others = absurd (none_is_some r (sym same))
+then_alike x y xs ys same others = by_outcome (λ x y. first_refusal (x ∷ xs) ≡ first_refusal (y ∷ ys)) x y same
+    (λ passed _. others passed) (λ r. refl)
 
 first_of_both : (xs ys : List (Option Refusal))
     → first_refusal (xs ++ ys) ≡ first_refusal (first_refusal xs ∷ first_refusal ys ∷ [])

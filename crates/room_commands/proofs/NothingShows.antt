@@ -5,8 +5,8 @@ use Rattle.room_commands.proofs.Common.{and_from, or_left, or_right, Kind, File,
 use Rattle.room_commands.proofs.Common.{write_data, add_file, append_data, add_subdirectory, delete_child}
 use Rattle.room_commands.proofs.Common.{read_attributes, delete_object, read_acl, write_acl, write_owner, SubjectModel}
 use Rattle.room_commands.proofs.Common.{allowed_mask, own_entries_fault, max_names, Name, Path, path_eq, Room, IsRoom}
-use Rattle.room_commands.proofs.Common.{object_at, children, list_of, standing_of, parent_of, some_is, none_is_some}
-use Rattle.room_commands.proofs.Common.{parent_of_end, Ends, CommandModel, paths_of, Refusal, NotDone, About, Names}
+use Rattle.room_commands.proofs.Common.{object_at, children, list_of, standing_of, parent_of, none_is_some}
+use Rattle.room_commands.proofs.Common.{parent_of_end, Ends, CommandModel, paths_of, Refusal, About, Names}
 use Rattle.room_commands.proofs.Common.{Size, Bytes, Entries, Allowed, RefusalCode, NotEmpty, TooDeep, Inval}
 use Rattle.room_commands.proofs.Common.{Exist, IsLawful, own_entries_of_setlist, first_refusal, checks, refuse_if}
 use Rattle.room_commands.proofs.Common.{check_right, check_removal, may_delete, walk, check_exists, check_absent}
@@ -21,7 +21,7 @@ use Rattle.room_commands.proofs.EffectIsRoom.{not_root_ends}
 use Rattle.room_commands.proofs.DepthTells.{depth_tells_empty}
 use Rattle.room_commands.proofs.Looks.{BothThere, both_there, way_alike, exists_alike, absent_alike, folder_alike}
 use Rattle.room_commands.proofs.Looks.{file_alike, right_alike, kind_of_alike, in_folder_alike}
-use Rattle.room_commands.proofs.Looks.{folder_full_alike, room_full_alike, shown_same}
+use Rattle.room_commands.proofs.Looks.{by_outcome, folder_full_alike, room_full_alike, shown_same}
 use Rattle.room_commands.proofs.Shorthands.{also, bytes_of, or_no_object, removal_refusal}
 
 -- two lists of checks refuse alike: each pair is alike where those before it pass. Where all pass, so is the rest
@@ -48,14 +48,6 @@ passed_alike Rest [] (y ∷ ys) alike passed = absurd alike
 passed_alike Rest (x ∷ xs) [] alike passed = absurd alike
 passed_alike Rest (None ∷ xs) (y ∷ ys) alike passed = passed_alike Rest xs ys (alike.1 refl) passed
 passed_alike Rest (Some r ∷ xs) (y ∷ ys) alike passed = absurd (none_is_some r (sym passed))
-
-replied_alike : (a b : Room) (caller : SubjectModel) (command : CommandModel) (x y : Option Refusal) → x ≡ y
-    → (x ≡ None → reply a caller command ≡ reply b caller command)
-    → (effect_by a caller command x).reply ≡ (effect_by b caller command y).reply
-replied_alike a b caller command None None same replies = replies refl
-replied_alike a b caller command (Some r) (Some s) same replies = ap NotDone (some_is r s same)
-replied_alike a b caller command None (Some s) same replies = absurd (none_is_some s same)
-replied_alike a b caller command (Some r) None same replies = absurd (none_is_some r (sym same))
 
 -- what a command at a path asks of the rooms looks the same in both
 pub record AlikeAt (a b : Room) (caller : SubjectModel) (path : Path) : Type 0 where
@@ -308,9 +300,9 @@ module _ (a b : Room) (caller : SubjectModel) (room_a : IsRoom a) (room_b : IsRo
   reply_at command lawful near near_to =
       let each = in_turn_at command lawful near near_to in
       let Rest = reply a caller command ≡ reply b caller command in
-      replied_alike a b caller command _ _
+      by_outcome (λ x y. (effect_by a caller command x).reply ≡ (effect_by b caller command y).reply) _ _
       (refused_alike Rest (checks a caller command) (checks b caller command) each)
-      (passed_alike Rest (checks a caller command) (checks b caller command) each)
+      (λ passed _. passed_alike Rest (checks a caller command) (checks b caller command) each passed) (λ r. refl)
 
   module _ (alike : LooksAlike caller a b) (command : CommandModel) (lawful : IsLawful command) where
     pub in_turn : AlikeInTurn
