@@ -24,7 +24,7 @@ use Rattle.sqlite_catalog.specs.Calls.{CreatesTable}
 use Rattle.sqlite_catalog.proofs.StepLemmas.{table_below}
 use Rattle.sqlite.specs.Compile.{table_defined_by}
 use Rattle.room_tables.proofs.Changes.{went, same_value}
-use Rattle.room_tables.proofs.Ours.{all_push, all_front, all_back, ours_push, still_whole}
+use Rattle.room_tables.proofs.Ours.{all_push, parted, ours_push, still_whole}
 
 -- ---- the parts of a resolver's answer
 
@@ -236,8 +236,8 @@ made_beside ours next before a b text plain was made are =
           ∙ ap (λ l. before.schema.indexes ++ l) (sym (own_push was.tables new));
       views = ap (λ (s : Schema). s.views) made.is ∙ was.views;
       rows = keeps_then before.schema.tables before.trees a.trees b.trees was.rows
-          (all_front (λ (t : Table). b.trees t.tree ≡ a.trees t.tree) before.schema.tables was.tables
-          (subst (λ l. KeepsRows l a.trees b.trees) was.tables_are made.others));
+          (parted (λ (t : Table). b.trees t.tree ≡ a.trees t.tree) before.schema.tables was.tables
+          (subst (λ l. KeepsRows l a.trees b.trees) was.tables_are made.others)).0;
     }
 
 -- and it is the next of ours, which has no row
@@ -251,8 +251,8 @@ ours_beside ours o before a b text is uncounted was made =
     ap (λ (t : Table). record t { tree = tree }) (same_value both) in
     made_beside ours (ours ++ o ∷ []) before a b text (subst IsUncounted (sym is) uncounted) was made (λ whole.
     ours_push ours o no_trees a.trees b.trees was.tables (record made.table { tree = tree }) (was.are whole)
-    (all_back (λ (t : Table). b.trees t.tree ≡ a.trees t.tree) before.schema.tables was.tables
-    (subst (λ l. KeepsRows l a.trees b.trees) was.tables_are made.others)) same made.empty
+    (parted (λ (t : Table). b.trees t.tree ≡ a.trees t.tree) before.schema.tables was.tables
+    (subst (λ l. KeepsRows l a.trees b.trees) was.tables_are made.others)).1 same made.empty
     (all_from (λ (u : Table). tree ≢ u.tree) was.tables (λ u there e. omega (
       arith,
       e,

@@ -18,7 +18,7 @@ use Rattle.sqlite_catalog.proofs.ListFacts.{none_placed}
 use Rattle.sqlite.specs.Source.{Source}
 use Rattle.room_tables.proofs.Beside.{OfParsed, gave, found, quiet, keeps_then, understood_meant}
 use Rattle.room_tables.proofs.Changes.{went, same_value, not_counted}
-use Rattle.room_tables.proofs.Ours.{all_front, all_back, located, found_behind, AreDistinct, refilled}
+use Rattle.room_tables.proofs.Ours.{parted, located, found_behind, AreDistinct, refilled}
 
 -- ---- what the text is
 
@@ -171,16 +171,16 @@ left_beside : (ours : List Table) (held next : Trees) (before a : Database) (tre
     → AreOurs ours next trees was.tables) → IsBeside ours next before (record { schema = a.schema; trees = trees })
 left_beside ours held next before a trees tree was apart same are =
     let Same = λ (t : Table). t.tree ≢ tree → trees t.tree ≡ a.trees t.tree in
-    let all = subst (AllByRecursion Same) was.tables_are same in
+    let all = parted Same before.schema.tables was.tables (subst (AllByRecursion Same) was.tables_are same) in
     record {
       tables = was.tables;
       tables_are = was.tables_are;
-      are = λ whole. are whole (all_back Same before.schema.tables was.tables all);
+      are = λ whole. are whole all.1;
       apart = was.apart;
       indexes = was.indexes;
       views = was.views;
       rows = keeps_then before.schema.tables before.trees a.trees trees was.rows (apart_kept before.schema.tables tree
-          a.trees trees apart (all_front Same before.schema.tables was.tables all));
+          a.trees trees apart all.0);
     }
 
 -- a table of ours, how its name finds it, and what an INSERT into it makes of its rows

@@ -28,13 +28,9 @@ use Rattle.room_tables.proofs.Writes.{IsUpdate, Updated, reads_rows, read_from}
 use Rattle.room_tables.proofs.Filters.{put_is_one_more, put_passed_over, others_left, not_both, keyed_put, keyed_filter}
 use Rattle.room_tables.proofs.Placed.{exact_entries, placed_up, placed_rows, relisted, lists_stored}
 use Rattle.room_tables.proofs.Asks.{asks_entries}
+use Rattle.room_tables.proofs.Ours.{parted}
 
 -- ---- rows at places
-
-pub parted : (P : EntryModel → Type 0) (xs ys : List EntryModel) → AllByRecursion P (xs ++ ys)
-    → AllByRecursion P xs × AllByRecursion P ys
-parted P [] ys all = (tt, all)
-parted P (x ∷ xs) ys all = let more = parted P xs ys all.1 in ((all.0, more.0), more.1)
 
 pub placed_both : (at end : ℕ) (es fs : List EntryModel) → end ≡ at + length es
     → placed at (es ++ fs) ≡ placed at es ++ placed end fs

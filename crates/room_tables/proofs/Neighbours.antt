@@ -25,7 +25,8 @@ use Rattle.room_tables.proofs.Takes.{quiet}
 use Rattle.room_tables.proofs.Writes.{IsUpdate, Updated, reads_rows}
 use Rattle.room_tables.proofs.Filters.{put_is_one_more, put_passed_over, not_both, keyed_put, keyed_filter}
 use Rattle.room_tables.proofs.Placed.{relisted}
-use Rattle.room_tables.proofs.InPlace.{parted, placed_both, all_placed, arranged, scattered, passes, shown_passing}
+use Rattle.room_tables.proofs.Ours.{parted}
+use Rattle.room_tables.proofs.InPlace.{placed_both, all_placed, arranged, scattered, passes, shown_passing}
 use Rattle.room_tables.proofs.InPlace.{shown_left, others_stay, kept, reaches, reaches_not, reaches_from}
 use Rattle.room_tables.proofs.InPlace.{stands_not, stands_at}
 

@@ -4,7 +4,7 @@ use Rattle.room_tables.proofs.Common.{List, [], ◌∷◌, ◌++◌, slice_get, 
 use Rattle.room_tables.proofs.Common.{subst, ◌∙◌, option_and_then, eq-eqb, codes, arith, cases_Bool, ne_eqb}
 use Rattle.room_tables.proofs.Common.{AllByRecursion, position_from, list_any, find, Has, all_has, same_name, Trees}
 use Rattle.room_tables.proofs.Common.{Row, Database, sequence, Schema, Table, IsApart, IsBeside, HasItsSequence}
-use Rattle.room_tables.proofs.Common.{AreOurs, with_rows}
+use Rattle.room_tables.proofs.Common.{all-append, AreOurs, with_rows}
 use Rattle.std.proofs.Math.Bool.{and-false}
 use Rattle.std.proofs.lemmas.Bool.{not-false}
 use Rattle.std.proofs.lemmas.List.Folds.{find-append}
@@ -13,16 +13,12 @@ use Rattle.std.proofs.lemmas.List.Folds.{find-append}
 
 pub all_push : {X : Type 0} (P : X → Type 0) (xs : List X) (x : X) → AllByRecursion P xs → P x
     → AllByRecursion P (xs ++ x ∷ [])
-all_push P [] x all h = (h, tt)
-all_push P (y ∷ ys) x all h = (all.0, all_push P ys x all.1 h)
+all_push P xs x all h = all-append P xs (x ∷ []) all (h, tt)
 
-pub all_front : {X : Type 0} (P : X → Type 0) (xs ys : List X) → AllByRecursion P (xs ++ ys) → AllByRecursion P xs
-all_front P [] ys all = tt
-all_front P (x ∷ xs) ys all = (all.0, all_front P xs ys all.1)
-
-pub all_back : {X : Type 0} (P : X → Type 0) (xs ys : List X) → AllByRecursion P (xs ++ ys) → AllByRecursion P ys
-all_back P [] ys all = all
-all_back P (x ∷ xs) ys all = all_back P xs ys all.1
+pub parted : {X : Type 0} (P : X → Type 0) (xs ys : List X) → AllByRecursion P (xs ++ ys)
+    → AllByRecursion P xs × AllByRecursion P ys
+parted P [] ys all = (tt, all)
+parted P (x ∷ xs) ys all = let more = parted P xs ys all.1 in ((all.0, more.0), more.1)
 
 -- the element at the place that was found is the first that passes
 pub located : {X : Type 0} (p : X → Bool) (xs : List X) (from place : ℕ) → position_from p from xs ≡ Some place
