@@ -1,10 +1,10 @@
 -- Two rooms that look alike to a caller: what each check and each reply of its commands asks is the same in both.
-use Rattle.room_commands.proofs.Common.{◌≡◌, ℕ, refl, ap, sym, ◌∙◌, subst, Bool, true, false, not, cond, ◌&&◌, ◌||◌, List, []}
+use Rattle.room_commands.proofs.Common.{◌≡◌, ℕ, refl, ap, sym, ◌∙◌, Bool, true, false, not, cond, ◌&&◌, ◌||◌, List, []}
 use Rattle.room_commands.proofs.Common.{◌∷◌, ◌++◌, map, length, Option, None, Some, is_some, option_map, nat_le, find}
 use Rattle.room_commands.proofs.Common.{list_all, AllByRecursion, map-append, and_parts, and_from, Kind, File, Folder}
 use Rattle.room_commands.proofs.Common.{Decision, has_bit, named_bits, all_rights, execute, add_file, add_subdirectory}
 use Rattle.room_commands.proofs.Common.{SubjectModel, EntryModel, allows_bit, allowed_mask, decision, decision_by}
-use Rattle.room_commands.proofs.Common.{max_children, Name, Path, Object, Room, object_at, children, list_of}
+use Rattle.room_commands.proofs.Common.{max_children, Name, Path, Object, Room, object_at, children, list_of, subst}
 use Rattle.room_commands.proofs.Common.{standing_of, some_is, none_is_some, children_rise, same_entries, kind_of_child}
 use Rattle.room_commands.proofs.Common.{Refusal, NoEnt, NotDir, IsDir, Exist, FolderFull, RoomFull, first_refusal}
 use Rattle.room_commands.proofs.Common.{refuse_if, refusal_without_place, denied_at, check_right, is_file, is_kind}
