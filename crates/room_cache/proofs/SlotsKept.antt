@@ -31,14 +31,6 @@ one_more_slot r old new name at value low is keeps are sid slot fact held = elim
       subst P same (low, subst Q (sym now.1) is)
 ]
 
--- all that a slot keeps
-pub whole_kept : (row : KeptModel) → IsKept (Whole row) (Some row)
-whole_kept row = (refl, λ other same. let e = same in cc)
-
--- and its number
-pub number_kept : (row : KeptModel) → IsKept (Number row.seq) (Some row)
-number_kept row = (refl, λ other same. absurd (let e = same in cc))
-
 -- whether the row of a slot is the one that is put
 module _ (r : Records) (row : SlotRow) where
   abbrev after : Records
