@@ -6,6 +6,8 @@ use Rattle.room_wire.proofs.Common.{and_from, and_parts, ltb-true, nat_tests, ta
 use Rattle.room_wire.proofs.Common.{Rows, Seen, rows_of, ends, prepend, empty_node, param_token, catch_all_token, first}
 use Rattle.room_wire.proofs.Common.{has_slash, segment, longest_suffix, after_param, cuts, seek, step, param_step}
 use Rattle.std.specs.Cmp.Lexicographic.{pointwise, bytes_decides}
+use Rattle.std.proofs.Math.Bool.{and-false}
+use Rattle.std.proofs.Math.Seq.{drop-append_seam}
 use Rattle.matchit.proofs.ParamLemmas.{after_param-end, after_param-stop, after_param-kid}
 use Rattle.matchit.proofs.SeekLemmas.{seek-empty, param_step-empty, or_else-none, first-prefix, step-hit, step-miss}
 use Rattle.matchit.proofs.SeekLemmas.{prepend-nil}
@@ -64,18 +66,10 @@ still (suc k) (b ∷ text) h = still k text (by (b == 47) h)
     by true h = absurd cc
     by false h = h
 
-both_false : (v : Bool) → (v && false) ≡ false
-both_false true = refl
-both_false false = refl
-
 not_one : (text : List ℕ) → has_slash text ≡ false → pointwise nat_eq (47 ∷ []) text ≡ false
 not_one [] h = refl
 not_one (b ∷ []) h = grind (arith, nat_tests)
-not_one (b ∷ c ∷ text) h = both_false (nat_eq 47 b)
-
-drop_front : (x t : List ℕ) → drop (length x) (x ++ t) ≡ t
-drop_front [] t = refl
-drop_front (b ∷ x) t = drop_front x t
+not_one (b ∷ c ∷ text) h = and-false (nat_eq 47 b)
 
 pub longer : (x : List ℕ) → 0 < length (x ++ 47 ∷ [])
 longer [] = omega arith
@@ -89,7 +83,7 @@ one_more (b ∷ x) =
     omega arith
 
 ends_so : (x : List ℕ) → ends_with nat_eq (x ++ 47 ∷ []) (47 ∷ []) ≡ true
-ends_so x = rw (one_more x, drop_front x (47 ∷ [])) refl
+ends_so x = rw (one_more x, drop-append_seam x (47 ∷ [])) refl
 
 -- ---- a parameter
 
@@ -111,7 +105,7 @@ without_slash t k v b p h =
     let no : cuts (segment (b ∷ p)) (47 ∷ []) ≡ false = rw seg
     (ap (λ z. ltb 1 (length (b ∷ p)) && z)
     (not_one (drop (length (b ∷ p) - 1) (b ∷ p)) (still (length (b ∷ p) - 1) (b ∷ p) h))
-    ∙ both_false (ltb 1 (length (b ∷ p)))) in
+    ∙ and-false (ltb 1 (length (b ∷ p)))) in
     after_param-end (kid t k ∷ []) v b p (are t k) (longest t k (segment (b ∷ p)) false no) h
 
 at_slash : (t : List ℕ) (k : ℕ) (v : Option ℕ) (b : ℕ) (p : List ℕ) → has_slash (b ∷ p) ≡ true → part (b ∷ p) ≡ []

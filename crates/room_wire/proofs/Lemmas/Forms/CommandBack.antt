@@ -67,13 +67,9 @@ flags_fit e h = let small = flags_small e.flags h.flags in omega (arith, small)
 mask_fits : (e : EntryModel) → IsEntry e → e.mask < 2 ^ 64
 mask_fits e h = let small = mask_small e.mask h.mask in omega (arith, small)
 
-type_read : (b : Bool) → of_json (outline (num (type_of b))) ≡ Some (num (type_of b))
-type_read true = number_back 0 (omega arith)
-type_read false = number_back 1 (omega arith)
-
-type_has_number : (b : Bool) → HasNumbers (outline (num (type_of b)))
-type_has_number true = IsNumber-decimal 0 (omega arith)
-type_has_number false = IsNumber-decimal 1 (omega arith)
+type_small : (b : Bool) → type_of b < 2 ^ 64
+type_small true = omega arith
+type_small false = omega arith
 
 type_depth : (b : Bool) → depth (outline (num (type_of b))) ≡ 0
 type_depth true = refl
@@ -82,8 +78,13 @@ type_depth false = refl
 entry_read : (e : EntryModel) → IsEntry e → of_json (outline (entry e)) ≡ Some (entry e)
 entry_read e h =
     object_back ((codes "flag", num e.flags) ∷ (codes "mask", num e.mask)
-    ∷ (codes "type", num (type_of e.allow)) ∷ (codes "who", string (who_text e.who)) ∷ [])
-    (number_back e.flags (flags_fit e h), (number_back e.mask (mask_fits e h), (type_read e.allow, (refl, tt)))) refl
+    ∷ (codes "type", num (type_of e.allow)) ∷ (codes "who", string (who_text e.who)) ∷ []) (
+      number_back e.flags (flags_fit e h),
+      (
+        number_back e.mask (mask_fits e h),
+        (number_back (type_of e.allow) (type_small e.allow), (refl, tt)),
+      ),
+    ) refl
 
 entries_read : (es : List EntryModel) → AllByRecursion IsEntry es
     → of_items (items_outline (entries es)) ≡ Some (entries es)
@@ -97,7 +98,7 @@ entries_have_numbers [] h = tt
 entries_have_numbers (e ∷ es) h = (
   (
     IsNumber-decimal e.flags (flags_fit e h.0),
-    (IsNumber-decimal e.mask (mask_fits e h.0), (type_has_number e.allow, (tt, tt))),
+    (IsNumber-decimal e.mask (mask_fits e h.0), (IsNumber-decimal (type_of e.allow) (type_small e.allow), (tt, tt))),
   ),
   entries_have_numbers es h.1,
 )
@@ -168,10 +169,6 @@ at_utf8 path h = (IsUtf8-are_ascii (codes "path") refl, path_utf8 path h, tt)
 bytes_utf8 : (b : List ℕ) → IsUtf8 (encode_of standard b)
 bytes_utf8 b = IsUtf8-from_ascii _ (IsAscii-encode_of standard b)
 
-type_utf8 : (b : Bool) → HasUtf8 (num (type_of b))
-type_utf8 true = digits_are_utf8 0 (omega arith)
-type_utf8 false = digits_are_utf8 1 (omega arith)
-
 entries_utf8 : (es : List EntryModel) → AllByRecursion IsEntry es → ItemsHaveUtf8 (entries es)
 entries_utf8 [] h = tt
 entries_utf8 (e ∷ es) h = (
@@ -183,7 +180,7 @@ entries_utf8 (e ∷ es) h = (
       digits_are_utf8 e.mask (mask_fits e h.0),
       (
         IsUtf8-are_ascii (codes "type") refl,
-        type_utf8 e.allow,
+        digits_are_utf8 (type_of e.allow) (type_small e.allow),
         (IsUtf8-are_ascii (codes "who") refl, who_utf8 e.who h.0.who, tt),
       ),
     ),

@@ -10,8 +10,7 @@ use Rattle.room_wire.proofs.Common.{entry_in, all_among, all_at, path_from, path
 use Rattle.room_wire.proofs.Common.{of_path, of_bytes, has_parts, verb_command, command_in, keep_at, asked_in}
 use Rattle.room_wire.proofs.Common.{command_of_body, bytes_in}
 use Rattle.room_acl.specs.declared.who.Who.{Who}
-use Rattle.room_acl.specs.Bits.{is_flags, IsFlags, is_list_flags, IsListFlags, is_mask, IsMask}
-use Rattle.room_acl.specs.Principals.{IsPrincipal}
+use Rattle.room_acl.specs.Bits.{is_flags, is_list_flags, is_mask}
 use Rattle.room_commands.specs.CommandModel as C
 use Rattle.room_wire.specs.declared.forms.commands.PathVerb.{PathVerb}
 use Rattle.room_wire.specs.declared.forms.commands.PathVerb.TheVariants as P
@@ -43,41 +42,15 @@ zip_parts {A} {B} (Some x) (Some y) both e =
 
 -- ---- parts
 
-principal_fact : (text name : List ℕ) → principal_from text ≡ Some name → IsPrincipal name
-principal_fact text name e =
-    let parts = cond_some (is_principal text) text name e in subst IsPrincipal parts.1 parts.0
-
-flags_fact : (n flags : ℕ) → flags_from n ≡ Some flags → IsFlags flags
-flags_fact n flags e =
-    let parts = cond_some (is_flags n) n flags e in subst IsFlags parts.1 parts.0
-
-mask_fact : (n mask : ℕ) → mask_from n ≡ Some mask → IsMask mask
-mask_fact n mask e =
-    let parts = cond_some (is_mask n) n mask e in subst IsMask parts.1 parts.0
-
-list_flags_fact : (n flags : ℕ) → list_flags_from n ≡ Some flags → IsListFlags flags
-list_flags_fact n flags e =
-    let parts = cond_some (is_list_flags n) n flags e in subst IsListFlags parts.1 parts.0
+-- what is taken only where it passes a test
+tested : {A : Type 0} (test : A → Bool) (o : Option A) (y : A)
+    → option_and_then (λ x. cond (test x) (Some x) None) o ≡ Some y → IsTrue (test y)
+tested test o y e = option_and_then_some (λ x. cond (test x) (Some x) None) o y e (λ x is made.
+    let parts = cond_some (test x) x y made in subst (λ z. IsTrue (test z)) parts.1 parts.0)
 
 path_at_fact : (name : List ℕ) (d : Data) (path : Path) → path_at name d ≡ Some path → IsPath path
 path_at_fact name d path e =
     option_and_then_some path_from (text_at name d) path e (λ text is made. (text_of_path text path made).0)
-
-principal_at_fact : (name : List ℕ) (d : Data) (text : List ℕ) → principal_at name d ≡ Some text → IsPrincipal text
-principal_at_fact name d text e =
-    option_and_then_some principal_from (text_at name d) text e (λ t is made. principal_fact t text made)
-
-flags_at_fact : (name : List ℕ) (d : Data) (n : ℕ)
-    → option_and_then flags_from (number_at name d) ≡ Some n → IsFlags n
-flags_at_fact name d n e = option_and_then_some flags_from (number_at name d) n e (λ k is made. flags_fact k n made)
-
-mask_at_fact : (name : List ℕ) (d : Data) (n : ℕ) → mask_at name d ≡ Some n → IsMask n
-mask_at_fact name d n e = option_and_then_some mask_from (number_at name d) n e (λ k is made. mask_fact k n made)
-
-list_flags_at_fact : (name : List ℕ) (d : Data) (n : ℕ)
-    → option_and_then list_flags_from (number_at name d) ≡ Some n → IsListFlags n
-list_flags_at_fact name d n e =
-    option_and_then_some list_flags_from (number_at name d) n e (λ k is made. list_flags_fact k n made)
 
 -- ---- entries
 
@@ -101,8 +74,8 @@ entry_fact d e made =
     (who_from it.0 it.1.1.1) e of (λ who named same.
     let fact = who_fact it.0 it.1.1.1 who named in
     let lawful : IsEntry (record { flags = it.0; mask = it.1.0; allow = it.1.1.0; who = who }) = record {
-      flags = flags_at_fact (codes "flag") d it.0 parts.0;
-      mask = mask_at_fact (codes "mask") d it.1.0 more.0;
+      flags = tested is_flags (number_at (codes "flag") d) it.0 parts.0;
+      mask = tested is_mask (number_at (codes "mask") d) it.1.0 more.0;
       who = fact.0;
       kind = fact.1;
     } in
@@ -164,7 +137,7 @@ verb_fact V.SetList d c fit made =
     let parts = zip_parts flags (option_zip entries path) it is in
     let more = zip_parts entries path it.1 parts.1 in
     subst IsLawful same (
-      list_flags_at_fact (codes "aclflag") d it.0 parts.0,
+      tested is_list_flags (number_at (codes "aclflag") d) it.0 parts.0,
       entries_at_fact (codes "entries") d it.1.0 more.0,
       path_at_fact (codes "path") d it.1.1 more.1,
     ))
@@ -177,8 +150,8 @@ verb_fact V.Chown d c fit made =
     let parts = zip_parts group (option_zip owner path) it is in
     let more = zip_parts owner path it.1 parts.1 in
     subst IsLawful same (
-      principal_at_fact (codes "group") d it.0 parts.0,
-      principal_at_fact (codes "owner") d it.1.0 more.0,
+      tested is_principal (text_at (codes "group") d) it.0 parts.0,
+      tested is_principal (text_at (codes "owner") d) it.1.0 more.0,
       path_at_fact (codes "path") d it.1.1 more.1,
     ))
 verb_fact V.Access d c fit made =
@@ -188,7 +161,7 @@ verb_fact V.Access d c fit made =
     (then_some (has_parts 3 d) _ c made) (λ it is same.
     let parts = zip_parts mask path it is in
     subst IsLawful same
-    (mask_at_fact (codes "mask") d it.0 parts.0, path_at_fact (codes "path") d it.1 parts.1))
+    (tested is_mask (number_at (codes "mask") d) it.0 parts.0, path_at_fact (codes "path") d it.1 parts.1))
 
 command_fact : (d : Data) (c : CommandModel) → AreBytes (bytes_in c) → command_in d ≡ Some c → IsLawful c
 command_fact d c fit made = option_and_then_some (λ verb. verb_command verb d)

@@ -50,18 +50,6 @@ names_tokens (n ∷ ns) =
     append_assoc (name_tokens n) (flat_map name_tokens ns) (end_array ∷ [])
     ∙ ap (λ ts. name_tokens n ++ ts) (names_tokens ns)
 
--- one item more
-pub item_written : {X : Type 0} (f : X → List Token) (xs : List X) (i : ℕ) (d : X) (old front now new : List Token)
-    → i < length xs → now ≡ old ++ (front ++ flat_map f (take i xs)) → new ≡ now ++ f (get_or xs i d)
-    → new ≡ old ++ (front ++ flat_map f (take (i + 1) xs))
-item_written f xs i d old front now new within is more =
-    let item = f (get_or xs i d) in
-    let grown : flat_map f (take i xs) ++ item ≡ flat_map f (take (i + 1) xs) =
-    sym (ap (flat_map f) (take_more xs i d within) ∙ flat_map-append f (take i xs) (get_or xs i d ∷ [])
-    ∙ ap (λ ts. flat_map f (take i xs) ++ ts) (append-nil item)) in
-    more ∙ ap (λ ts. ts ++ item) is ∙ append_assoc old (front ++ flat_map f (take i xs)) item
-    ∙ ap (λ ts. old ++ ts) (append_assoc front (flat_map f (take i xs)) item ∙ ap (λ ts. front ++ ts) grown)
-
 -- the end of the list
 pub items_ended : {X : Type 0} (f : X → List Token) (xs : List X) (i : ℕ) (old front now new : List Token)
     → length xs ≤ i → now ≡ old ++ (front ++ flat_map f (take i xs)) → new ≡ now ++ end_array ∷ []

@@ -10,31 +10,31 @@ use Rattle.room_wire.proofs.Lemmas.Messages.Streams.{follows_more}
 use Rattle.room_wire.proofs.serving.stream.serve_with.Goals as goal
 
 pub reads-init : goal.reads-init
-reads-init g c = (
-  [],
-  [],
-  [],
-  sym c.requires,
-  ([], refl, refl),
-  none_empty _ (ap length c.requires),
-  (let e = ap length c.requires in omega arith),
-  Consumes-nil _,
-  Appends-nil _,
-  omega arith,
-  omega arith,
-)
+reads-init g c = record {
+  bytes = [];
+  ms = [];
+  out = [];
+  follows = sym c.requires;
+  outputs = ([], refl, refl);
+  no_message = none_empty _ (ap length c.requires);
+  short = let e = ap length c.requires in omega arith;
+  consumes = Consumes-nil _;
+  appends = Appends-nil _;
+  counted = omega arith;
+  done = omega arith;
+}
 
 pub returns-in-Err-clause-served : goal.returns-in-Err-clause-served
 returns-in-Err-clause-served g c =
     let so = c.reads.invariant in (
-      so.0,
+      so.bytes,
       c.reads.input,
-      so.1,
-      so.2,
-      Consumes-kept _ _ _ so.0 so.7 c.in-Err.ensures.err.1,
-      so.4,
-      so.9,
-      (so.8, so.3, so.5),
+      so.ms,
+      so.out,
+      Consumes-kept _ _ _ so.bytes so.consumes c.in-Err.ensures.err.1,
+      so.outputs,
+      so.counted,
+      (so.appends, so.follows, so.no_message),
     )
 
 pub returns-in-Ok-eq0-clause-served : goal.returns-in-Ok-eq0-clause-served
@@ -42,16 +42,17 @@ returns-in-Ok-eq0-clause-served g c =
     let so = c.reads.invariant in
     let came = c.in-Ok-eq0.ensures.ok in
     let end = c.in-Ok-eq0.ensures.end c.in-Ok-eq0.field-0-test in
-    let none = subst NoMessage (sym end.0) so.5 in (
-      so.0 ++ came.0,
+    let follows = follows_more so.ms so.bytes c.reads.input came.0 so.follows in
+    let none = subst NoMessage (sym end.0) so.no_message in (
+      so.bytes ++ came.0,
       c.read_from.new.self,
-      so.1,
-      so.2,
-      Consumes-trans _ _ _ so.0 came.0 so.7 came.1,
-      so.4,
-      c.refuse.ensures.0 ∙ so.9,
-      refused_ends _ _ so.1 so.2 _ _ _ _ _ so.8
-          (subst (Follows (so.0 ++ came.0) so.1) (sym came.2) (follows_more so.1 so.0 c.reads.input came.0 so.3))
+      so.ms,
+      so.out,
+      Consumes-trans _ _ _ so.bytes came.0 so.consumes came.1,
+      so.outputs,
+      c.refuse.ensures.0 ∙ so.counted,
+      refused_ends _ _ so.ms so.out _ _ _ _ _ so.appends
+          (subst (Follows (so.bytes ++ came.0) so.ms) (sym came.2) follows)
           none (subst (λ t. 0 < length t) c.bytes.ensures (some_when _ c.if-is_empty.ensures))
           (inl end.1) c.refuse.ensures.1,
     )
@@ -60,18 +61,19 @@ pub returns-then-is_empty-clause-served : goal.returns-then-is_empty-clause-serv
 returns-then-is_empty-clause-served g c =
     let so = c.reads.invariant in
     let came = c.in-Ok-eq0.ensures.ok in
+    let follows = follows_more so.ms so.bytes c.reads.input came.0 so.follows in
     let end = c.in-Ok-eq0.ensures.end c.in-Ok-eq0.field-0-test in (
-      so.0 ++ came.0,
+      so.bytes ++ came.0,
       c.read_from.new.self,
-      so.1,
-      so.2,
-      Consumes-trans _ _ _ so.0 came.0 so.7 came.1,
-      so.4,
-      so.9,
+      so.ms,
+      so.out,
+      Consumes-trans _ _ _ so.bytes came.0 so.consumes came.1,
+      so.outputs,
+      so.counted,
       (
-        so.8,
+        so.appends,
         inr (
-          subst (Follows (so.0 ++ came.0) so.1) (sym came.2) (follows_more so.1 so.0 c.reads.input came.0 so.3),
+          subst (Follows (so.bytes ++ came.0) so.ms) (sym came.2) follows,
           sym c.bytes.ensures ∙ empty_when _ c.if-is_empty.ensures,
           end.1,
         ),
@@ -86,16 +88,16 @@ returns-in-Broken-clause-served g c =
     let ks = c.answer_all-stop.ensures.0 in
     let out = c.answer_all-stop.ensures.1 in
     let did = rw c.in-Broken.is at c.answer_all-stop.ensures.2 in (
-      so.0 ++ came.0,
+      so.bytes ++ came.0,
       c.answer_all-stop.new.input,
-      so.1 ++ ks,
-      so.2 ++ out,
-      Consumes-trans _ _ _ so.0 came.0 so.7 came.1,
+      so.ms ++ ks,
+      so.out ++ out,
+      Consumes-trans _ _ _ so.bytes came.0 so.consumes came.1,
       outputs_then may c.args.service.now c.reads.service c.answer_all-stop.new.service
-          so.1 ks so.2 out so.4 c.answer_all-stop.ensures.3,
-      c.refuse-in-Broken.ensures.0 ∙ (omega (arith, more_count so.1 ks, so.9, c.answer_all-stop.ensures.4)),
-      refused_ends _ _ (so.1 ++ ks) (so.2 ++ out) _ _ _ _ _ (Appends-trans _ _ _ so.2 out so.8 did.1)
-          (more_follows so.1 ks so.0 c.reads.input came.0 _ _ so.3 came.2 did.0)
+          so.ms ks so.out out so.outputs c.answer_all-stop.ensures.3,
+      c.refuse-in-Broken.ensures.0 ∙ (omega (arith, more_count so.ms ks, so.counted, c.answer_all-stop.ensures.4)),
+      refused_ends _ _ (so.ms ++ ks) (so.out ++ out) _ _ _ _ _ (Appends-trans _ _ _ so.out out so.appends did.1)
+          (more_follows so.ms ks so.bytes c.reads.input came.0 _ _ so.follows came.2 did.0)
           (never_none _ did.2) did.3 (inr did.2) c.refuse-in-Broken.ensures.1,
     )
 
@@ -107,17 +109,17 @@ returns-in-Last-clause-served g c =
     let ks = c.answer_all-stop.ensures.0 in
     let out = c.answer_all-stop.ensures.1 in
     let did = rw c.in-Last.is at c.answer_all-stop.ensures.2 in (
-      so.0 ++ came.0,
+      so.bytes ++ came.0,
       c.answer_all-stop.new.input,
-      so.1 ++ ks,
-      so.2 ++ out,
-      Consumes-trans _ _ _ so.0 came.0 so.7 came.1,
+      so.ms ++ ks,
+      so.out ++ out,
+      Consumes-trans _ _ _ so.bytes came.0 so.consumes came.1,
       outputs_then may c.args.service.now c.reads.service c.answer_all-stop.new.service
-          so.1 ks so.2 out so.4 c.answer_all-stop.ensures.3,
-      omega (arith, more_count so.1 ks, so.9, c.answer_all-stop.ensures.4),
+          so.ms ks so.out out so.outputs c.answer_all-stop.ensures.3,
+      omega (arith, more_count so.ms ks, so.counted, c.answer_all-stop.ensures.4),
       (
-        Appends-trans _ _ _ so.2 out so.8 did.1,
-        inl (more_ended so.1 ks so.0 c.reads.input came.0 _ _ so.3 came.2 did.0),
+        Appends-trans _ _ _ so.out out so.appends did.1,
+        inl (more_ended so.ms ks so.bytes c.reads.input came.0 _ _ so.follows came.2 did.0),
       ),
     )
 
@@ -129,15 +131,18 @@ returns-in-NotWritten-clause-served g c =
     let ks = c.answer_all-stop.ensures.0 in
     let out = c.answer_all-stop.ensures.1 in
     let did = rw c.in-NotWritten.is at c.answer_all-stop.ensures.2 in (
-      so.0 ++ came.0,
+      so.bytes ++ came.0,
       c.answer_all-stop.new.input,
-      so.1 ++ ks,
-      so.2 ++ out,
-      Consumes-trans _ _ _ so.0 came.0 so.7 came.1,
+      so.ms ++ ks,
+      so.out ++ out,
+      Consumes-trans _ _ _ so.bytes came.0 so.consumes came.1,
       outputs_then may c.args.service.now c.reads.service c.answer_all-stop.new.service
-          so.1 ks so.2 out so.4 c.answer_all-stop.ensures.3,
-      omega (arith, more_count so.1 ks, so.9, c.answer_all-stop.ensures.4),
-      inl (more_begun so.1 ks so.0 c.reads.input came.0 _ _ so.3 came.2 did.0, breaks _ _ _ so.2 out so.8 did.1),
+          so.ms ks so.out out so.outputs c.answer_all-stop.ensures.3,
+      omega (arith, more_count so.ms ks, so.counted, c.answer_all-stop.ensures.4),
+      inl (
+        more_begun so.ms ks so.bytes c.reads.input came.0 _ _ so.follows came.2 did.0,
+        breaks _ _ _ so.out out so.appends did.1,
+      ),
     )
 
 pub reads-preserved : goal.reads-preserved
@@ -147,23 +152,35 @@ reads-preserved g c =
     let may = g.S.Service.may_answer c.args.context.now in
     let ks = c.answer_all-stop.ensures.0 in
     let out = c.answer_all-stop.ensures.1 in
-    let did = rw c.in-NeedsMore.is at c.answer_all-stop.ensures.2 in (
-      so.0 ++ came.0,
-      so.1 ++ ks,
-      so.2 ++ out,
-      more_follows so.1 ks so.0 c.reads.input came.0 _ _ so.3 came.2 did.0,
-      outputs_then may c.args.service.now c.reads.service c.answer_all-stop.new.service
-          so.1 ks so.2 out so.4 c.answer_all-stop.ensures.3,
-      did.2,
-      did.3,
-      Consumes-trans _ _ _ so.0 came.0 so.7 came.1,
-      Appends-trans _ _ _ so.2 out so.8 did.1,
-      omega (arith, more_count so.1 ks, so.9, c.answer_all-stop.ensures.4),
-      (let some : c.in-Ok.field-0 ≢ 0 = c.in-Ok.field-0-test.1 in
-          omega (arith, length-append so.0 came.0, came.3, so.10, some)),
-    )
+    let did = rw c.in-NeedsMore.is at c.answer_all-stop.ensures.2 in
+    let some : c.in-Ok.field-0 ≢ 0 = c.in-Ok.field-0-test.1 in
+    record {
+      bytes = so.bytes ++ came.0;
+      ms = so.ms ++ ks;
+      out = so.out ++ out;
+      follows = more_follows so.ms ks so.bytes c.reads.input came.0 _ _ so.follows came.2 did.0;
+      outputs = outputs_then may c.args.service.now c.reads.service c.answer_all-stop.new.service
+          so.ms ks so.out out so.outputs c.answer_all-stop.ensures.3;
+      no_message = did.2;
+      short = did.3;
+      consumes = Consumes-trans _ _ _ so.bytes came.0 so.consumes came.1;
+      appends = Appends-trans _ _ _ so.out out so.appends did.1;
+      counted = omega (arith, more_count so.ms ks, so.counted, c.answer_all-stop.ensures.4);
+      done = omega (arith, length-append so.bytes came.0, came.3, so.done, some);
+    }
 
 pub returns-clause-endless : goal.returns-clause-endless
 returns-clause-endless g c =
-    let so = c.reads.invariant in
-    ((so.0, c.reads.input, so.1, so.2, so.7, so.4, so.9, (so.8, so.3, so.5)), (so.0, so.7, omega (arith, so.10)))
+    let so = c.reads.invariant in (
+      (
+        so.bytes,
+        c.reads.input,
+        so.ms,
+        so.out,
+        so.consumes,
+        so.outputs,
+        so.counted,
+        (so.appends, so.follows, so.no_message),
+      ),
+      (so.bytes, so.consumes, omega (arith, so.done)),
+    )
