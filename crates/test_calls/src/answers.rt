@@ -1,32 +1,8 @@
-//! The public calls behind an answer.
+//! The rest of a stream, and commands as they are kept.
 use crate::checks::same;
-use room_wire::{
-    CheckRoute, Message, Take, check_answer, command_text, decode_check, read_command,
-    rest_of_stream, take_message,
-};
+use room_wire::{command_text, read_command, rest_of_stream};
 use std::alloc::Global;
 use std::test::Fail;
-use test_support::QUESTION;
-
-/// The answer to the question of a message.
-fn answer_to(alloc: Global, message: &Message<'_>) -> Result<Vec<u8>, Fail> {
-    let route = CheckRoute::new(alloc)?;
-    let question = decode_check(alloc, message, &route)?;
-    Ok(check_answer(alloc, &question)?)
-}
-
-/// One question by the calls that serving makes.
-#[test]
-fn one_question_by_its_calls(rt: HostRuntime) -> Result<(), Fail> {
-    let Take::Whole(message) = take_message(QUESTION.as_bytes()) else {
-        return Err(Fail::new("no message"));
-    };
-    same(&rt, message.size, QUESTION.len(), "the message's size");
-    let text = answer_to(rt.alloc(), &message)?;
-    let due = br#"{"allowed":0,"bit":1,"code":0}"#.as_slice();
-    same(&rt, text.as_slice(), due, "the answer");
-    Ok(())
-}
 
 /// A question, the last one, and a rest.
 const LAST: &str =
@@ -57,51 +33,26 @@ static KEPT: [&str; 13] = [
     r#"{"cmd":"ACCESS","mask":1179817,"path":"/a"}"#,
 ];
 
-/// A body asks the command whose text is kept so, and that its reply be kept or not.
-fn is_kept_as(alloc: Global, body: &[u8], wanted: &str, wants_reply: bool) -> Result<(), Fail> {
-    let (command, keep) = read_command(alloc, body)?;
+/// A body asks the command whose text is kept so.
+fn is_kept_as(alloc: Global, body: &[u8], wanted: &str) -> Result<(), Fail> {
+    let (command, _) = read_command(alloc, body)?;
     if command_text(alloc, &command)?.as_slice() != wanted.as_bytes() {
         return Err(Fail::new(format_args!("not kept as {wanted}")));
-    }
-    if keep != wants_reply {
-        return Err(Fail::new(format_args!("its reply is kept: {keep}, with {wanted}")));
     }
     Ok(())
 }
 
-/// A text as it is kept, and one with blanks, escapes and another order, which is kept without them.
+/// A text as it is kept, and one with blanks, escapes, `keep` and another order, which is kept without them.
 #[test]
 fn commands_are_kept_as_text(rt: HostRuntime) -> Result<(), Fail> {
     for text in &KEPT {
-        is_kept_as(rt.alloc(), text.as_bytes(), text, true)?;
+        is_kept_as(rt.alloc(), text.as_bytes(), text)?;
     }
-    let body = b" {\"path\" : \"/\\u0061\",\n\t\"data\":\"aGk=\", \"cmd\":\"WRITE\" }\r\n";
+    let body =
+        b" {\"path\" : \"/\\u0061\",\n\t\"data\":\"aGk=\", \"keep\":false, \"cmd\":\"WRITE\" }\r\n";
     is_kept_as(
         rt.alloc(),
         body,
         r#"{"cmd":"WRITE","data":"aGk=","path":"/a"}"#,
-        true,
     )
-}
-
-/// Bodies that ask the same, and whether its reply is to be kept.
-static BODIES: [(&str, bool); 4] = [
-    (r#"{"cmd":"STAT","keep":false,"path":"/"}"#, false),
-    (r#"{"cmd":"STAT","keep":true,"path":"/"}"#, true),
-    (r#"{"keep":false,"path":"/","cmd":"STAT"}"#, false),
-    (r#"{"path":"/","cmd":"STAT","keep":true}"#, true),
-];
-
-/// `keep` is no part of the text, wherever it stands.
-#[test]
-fn keep_is_no_part_of_the_text(rt: HostRuntime) -> Result<(), Fail> {
-    for (body, wants_reply) in &BODIES {
-        is_kept_as(
-            rt.alloc(),
-            body.as_bytes(),
-            r#"{"cmd":"STAT","path":"/"}"#,
-            *wants_reply,
-        )?;
-    }
-    Ok(())
 }

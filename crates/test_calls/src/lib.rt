@@ -1,5 +1,5 @@
-//! Public calls of the crates below the program: each once, their limits, growths that are refused, copies, decisions,
-//! slots, and streams that fail.
+//! Public calls of the crates below that no other test and no program makes, the texts of commands, and streams that
+//! fail.
 #![tactic(auto)]
 
 #[cfg(test)]
@@ -10,15 +10,3 @@ mod checks;
 mod copies;
 #[cfg(test)]
 mod failures;
-#[cfg(test)]
-mod lists;
-#[cfg(test)]
-mod pending;
-#[cfg(test)]
-mod records;
-#[cfg(test)]
-mod serving;
-#[cfg(test)]
-mod slots;
-#[cfg(test)]
-mod starting;
