@@ -1,5 +1,5 @@
-//! What only the program can show: its runs over streams and over a machine in memory, connections that wait, and a
-//! room in files that is asked again.
+//! What only the program can show: its runs over streams, connections that wait, and a room in files that is asked
+//! again.
 #![tactic(auto)]
 
 #[cfg(test)]
@@ -7,10 +7,4 @@ mod instance;
 #[cfg(test)]
 mod listening;
 #[cfg(test)]
-mod machine;
-#[cfg(test)]
-mod played;
-#[cfg(test)]
 mod program;
-#[cfg(test)]
-mod words;

@@ -1,9 +1,8 @@
 //! Runs of the program over streams in memory.
-use crate::words::words_of;
 use room_program::{Host, Unknown, run_program};
 use std::io::{Read, Write};
 use std::test::Fail;
-use test_support::{ANSWER, BAD_HTTP, BoundedWriter, Full, Pieces, QUESTION, must};
+use test_support::{ANSWER, BAD_HTTP, BoundedWriter, Full, Pieces, QUESTION};
 
 /// The status with which the program ends on these words.
 fn ended<R: Read, W: Write, E: Write>(
@@ -13,7 +12,10 @@ fn ended<R: Read, W: Write, E: Write>(
     output: &mut W,
     errors: &mut E,
 ) -> Result<u8, Fail> {
-    let words = words_of(rt.alloc(), texts)?;
+    let mut words = Vec::new(rt.alloc());
+    for text in texts {
+        words.push(String::from_str(rt.alloc(), text)?)?;
+    }
     let mut host = Host::new(rt, Unknown);
     Ok(run_program(
         rt.alloc(),
@@ -74,24 +76,6 @@ fn check_whose_input_fails(rt: HostRuntime) -> Result<(), Fail> {
 }
 
 #[test]
-fn check_whose_output_fails(rt: HostRuntime) -> Result<(), Fail> {
-    let mut output = BoundedWriter::new(rt.alloc(), 10, 10, Full::Fails);
-    let mut errors = Vec::new(rt.alloc());
-    let input = &mut QUESTION.as_bytes();
-    let status = ended(&rt, &["check"], input, &mut output, &mut errors)?;
-    let due = (
-        1,
-        &ANSWER.as_bytes()[..10],
-        "fileroom: write failed\n".as_bytes(),
-    );
-    is_as_due(
-        (status, output.taken.as_slice(), errors.as_slice()),
-        due,
-        "a write fails",
-    )
-}
-
-#[test]
 fn check_whose_two_outputs_fail(rt: HostRuntime) -> Result<(), Fail> {
     let mut output = BoundedWriter::new(rt.alloc(), 0, 1, Full::TakesNone);
     let mut errors = BoundedWriter::new(rt.alloc(), 5, 1, Full::Fails);
@@ -141,24 +125,4 @@ fn other_words(rt: HostRuntime) -> Result<(), Fail> {
         tells_usage(&rt, texts, status, usage)?;
     }
     Ok(())
-}
-
-#[test]
-fn help_that_cannot_be_written(rt: HostRuntime) -> Result<(), Fail> {
-    let alloc = rt.alloc();
-    let mut output = BoundedWriter::new(alloc, 10, 3, Full::Fails);
-    let mut errors = Vec::new(alloc);
-    let input = &mut "".as_bytes();
-    let status = ended(&rt, &["--help"], input, &mut output, &mut errors)?;
-    must(output.taken.len() == 10, "the part that is written")?;
-    let due = (
-        1,
-        output.taken.as_slice(),
-        "fileroom: write failed\n".as_bytes(),
-    );
-    is_as_due(
-        (status, output.taken.as_slice(), errors.as_slice()),
-        due,
-        "help fails",
-    )
 }
