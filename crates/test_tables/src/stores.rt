@@ -6,5 +6,5 @@ mod version_1;
 
 pub use files::{Held, file_of};
 pub use rooms::{adopt, in_tables, init, made, taken};
-pub use rows::{contents, shown};
+pub use rows::shown;
 pub use version_1::make_version_1;

@@ -1,5 +1,4 @@
-//! Worked examples of the tables of a room, over memory: rooms that are made, taken and refused, commits of which
-//! nothing stays or all, and how many rows a decision fetches.
-mod databases;
+//! Worked examples of the tables of a room, over memory: a commit that the tables refuse, and how many rows a decision
+//! fetches.
 mod deciding;
-mod rooms;
+mod refusing;

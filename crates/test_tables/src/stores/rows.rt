@@ -4,18 +4,6 @@ use std::alloc::Global;
 use std::fmt::Write;
 use std::test::Fail;
 
-/// What shows a database whole, whichever of the tables of both versions it has.
-const ALL: [&str; 8] = [
-    "SELECT type, name, tbl_name, sql FROM sqlite_schema",
-    "SELECT * FROM room",
-    "SELECT * FROM node",
-    "SELECT * FROM entry",
-    "SELECT * FROM doc",
-    "SELECT * FROM session",
-    "SELECT * FROM slot",
-    "SELECT * FROM kept",
-];
-
 fn push_row(text: &mut String, row: &Row) -> Result<(), Fail> {
     for at in 0..row.column_count() {
         let value = row.get_ref(at)?;
@@ -32,19 +20,6 @@ fn push_rows(text: &mut String, rows: &[Row]) -> Result<(), Fail> {
     Ok(())
 }
 
-/// The rows that a query shows, or why it shows none.
-fn push_found<S: Alter>(
-    text: &mut String,
-    conn: &mut Connection<S>,
-    sql: &str,
-) -> Result<(), Fail> {
-    match conn.query_all(sql, &[]) {
-        Ok(rows) => push_rows(text, rows.as_slice())?,
-        Err(error) => write!(text, "{error}")?,
-    }
-    Ok(text.push_str("\n")?)
-}
-
 /// The rows that these queries show, as text.
 pub fn shown<S: Alter>(
     alloc: Global,
@@ -55,15 +30,6 @@ pub fn shown<S: Alter>(
     for sql in queries {
         push_rows(&mut text, conn.query_all(sql, &[])?.as_slice())?;
         text.push_str("\n")?;
-    }
-    Ok(text)
-}
-
-/// All that is in a database, as text.
-pub fn contents<S: Alter>(alloc: Global, conn: &mut Connection<S>) -> Result<String, Fail> {
-    let mut text = String::new(alloc);
-    for sql in ALL {
-        push_found(&mut text, conn, sql)?;
     }
     Ok(text)
 }
