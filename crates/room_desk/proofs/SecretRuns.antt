@@ -1,11 +1,11 @@
 -- What a caller may not see of a run does not show in the answers of the run to it.
 use Rattle.room_desk.proofs.Common.{◌≡◌, ℕ, ◌+◌, refl, ap, sym, ◌∙◌, arith, inl, inr, Bool, true, false, not, ◌&&◌}
-use Rattle.room_desk.proofs.Common.{cond, List, [], ◌∷◌, length, Result, Ok, Err, suc, IsTrue, bytes_eq, and_right}
-use Rattle.room_desk.proofs.Common.{SubjectModel, Room, IsRoom, WireFault, AskModel, Check, Event, ask_of, EventModel}
+use Rattle.room_desk.proofs.Common.{cond, List, [], ◌∷◌, length, Result, Ok, suc, IsTrue, bytes_eq, and_right}
+use Rattle.room_desk.proofs.Common.{SubjectModel, Room, IsRoom, WireFault, AskModel, Event, ask_of, EventModel}
 use Rattle.room_desk.proofs.Common.{MessageModel, InTurn, Writes, AnswerModel, History, answer_to, AnswersOrDelays}
-use Rattle.room_desk.proofs.Common.{AnswersMessage, IsRun, Run, Step, is_delay, AlikePasts, Begin, Both, First, Second}
-use Rattle.room_desk.proofs.Common.{Others, caller_of, sid_of, LeavesSessions, is_own, asks_own, told}
-use Rattle.room_desk.proofs.Stops.{never_delay}
+use Rattle.room_desk.proofs.Common.{IsRun, Run, Step, is_delay, AlikePasts, Begin, Both, First, Second, Others}
+use Rattle.room_desk.proofs.Common.{caller_of, sid_of, LeavesSessions, is_own, asks_own, told}
+use Rattle.room_desk.proofs.Stops.{never_delay, as_event}
 use Rattle.room_desk.proofs.Secrets.{answers_alike}
 
 -- a list, the last element first, before another
@@ -101,39 +101,29 @@ module _ (caller : SubjectModel) (is_own_name : List ℕ → Bool) where
   step_adds start past next event answered (inr delay) =
       ap (told_of start) delay.1 ∙ delay_adds_none (own event) answered (told_of start past) (ap is_delay delay.0)
 
-  run_adds : (start : Room) (past next : History) (events : List EventModel) (answers : List AnswerModel)
-      → Run start past events answers next → onto (told own events answers) (told_of start past) ≡ told_of start next
-  run_adds start past next [] [] is = ap (told_of start) (sym is)
-  run_adds start past next [] (answered ∷ answers) none = absurd none
-  run_adds start past next (event ∷ events) [] none = absurd none
-  run_adds start past next (event ∷ events) (answered ∷ answers) (mid, step, run) =
-      added_first (own event) answered (told own events answers) (told_of start past)
-      ∙ ap (onto (told own events answers)) (sym (step_adds start past mid event answered step))
-      ∙ run_adds start mid next events answers run
+  ask_adds : (start : Room) (past next : History) (ask : Result AskModel WireFault) (answered : AnswerModel)
+      → AnswersOrDelays start past ask answered next
+      → told_of start next ≡ added (asks_own caller is_own_name ask) answered (told_of start past)
+  ask_adds start past next (Ok (Event event)) answered step = step_adds start past next event answered step
+  ask_adds start past next ask answered (inl joins) = ap (told_of start) joins.1
+  ask_adds start past next ask answered (inr delay) = ap (told_of start) delay.1
 
-  module _ (users : List SubjectModel) where
-    abbrev own_message : MessageModel → Bool
-    own_message m = asks_own caller is_own_name (ask_of users m)
+  -- what is asked in turn, as events or messages
+  all_add : {X : Type 0} (asks : X → Result AskModel WireFault) (start : Room) (past next : History) (xs : List X)
+      (answers : List AnswerModel)
+      → InTurn (λ (p : History) (x : X) (answered : AnswerModel) (n : History). AnswersOrDelays start p (asks x)
+      answered n) past xs answers next
+      → onto (told (λ x. asks_own caller is_own_name (asks x)) xs answers) (told_of start past) ≡ told_of start next
+  all_add asks start past next [] [] is = ap (told_of start) (sym is)
+  all_add asks start past next (x ∷ xs) (answered ∷ answers) (mid, step, run) =
+      let later = told (λ x. asks_own caller is_own_name (asks x)) xs answers in
+      added_first (asks_own caller is_own_name (asks x)) answered later (told_of start past)
+      ∙ ap (onto later) (sym (ask_adds start past mid (asks x) answered step))
+      ∙ all_add asks start mid next xs answers run
+  all_add asks start past next xs answers none = absurd none
 
-    ask_adds : (start : Room) (past next : History) (ask : Result AskModel WireFault) (answered : AnswerModel)
-        → AnswersOrDelays start past ask answered next
-        → told_of start next ≡ added (asks_own caller is_own_name ask) answered (told_of start past)
-    ask_adds start past next (Ok (Event event)) answered step = step_adds start past next event answered step
-    ask_adds start past next (Ok (Check question)) answered (inl joins) = ap (told_of start) joins.1
-    ask_adds start past next (Ok (Check question)) answered (inr delay) = ap (told_of start) delay.1
-    ask_adds start past next (Err fault) answered (inl joins) = ap (told_of start) joins.1
-    ask_adds start past next (Err fault) answered (inr delay) = ap (told_of start) delay.1
-
-    stream_adds : (start : Room) (past next : History) (ms : List MessageModel) (answers : List AnswerModel)
-        → InTurn (AnswersMessage users start) past ms answers next
-        → onto (told own_message ms answers) (told_of start past) ≡ told_of start next
-    stream_adds start past next [] [] is = ap (told_of start) (sym is)
-    stream_adds start past next [] (answered ∷ answers) none = absurd none
-    stream_adds start past next (m ∷ ms) [] none = absurd none
-    stream_adds start past next (m ∷ ms) (answered ∷ answers) (mid, step, run) =
-        added_first (own_message m) answered (told own_message ms answers) (told_of start past)
-        ∙ ap (onto (told own_message ms answers)) (sym (ask_adds start past mid (ask_of users m) answered step))
-        ∙ stream_adds start mid next ms answers run
+  abbrev own_message : List SubjectModel → MessageModel → Bool
+  own_message users m = asks_own caller is_own_name (ask_of users m)
 
   module _ (a b : Room) (room_a : IsRoom a) (room_b : IsRoom b) (past other next last : History)
       (alike : AlikePasts caller is_own_name a b past other) (later : AlikePasts caller is_own_name a b next last) where
@@ -147,7 +137,8 @@ module _ (caller : SubjectModel) (is_own_name : List ℕ → Bool) where
         → Run a past events answers next → Run b other events' answers' last
         → told own events answers ≡ told own events' answers'
     runs_tell events events' answers answers' run run' =
-        told_same _ _ (run_adds a past next events answers run) (run_adds b other last events' answers' run')
+        told_same _ _ (all_add as_event a past next events answers run)
+        (all_add as_event b other last events' answers' run')
 
     pub streams_tell : (users users' : List SubjectModel) (ms ks : List MessageModel) (out put : List ℕ)
         → IsRun users a past ms out next → IsRun users' b other ks put last
@@ -158,5 +149,6 @@ module _ (caller : SubjectModel) (is_own_name : List ℕ → Bool) where
       answers',
       writes,
       writes',
-      told_same _ _ (stream_adds users a past next ms answers turn) (stream_adds users' b other last ks answers' turn'),
+      told_same _ _ (all_add (ask_of users) a past next ms answers turn)
+          (all_add (ask_of users') b other last ks answers' turn'),
     )

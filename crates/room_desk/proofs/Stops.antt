@@ -1,9 +1,10 @@
 -- What a stop may leave after several events, and an event that is sent again after it.
-use Rattle.room_desk.proofs.Common.{◌≡◌, suc, refl, ap, sym, subst, ◌∙◌, arith, ◌⊎◌, inl, inr, Ok, true, false, List}
-use Rattle.room_desk.proofs.Common.{[], ◌∷◌, both_ways, common_steps, Records, Room, View, LeavesNew, Delay}
-use Rattle.room_desk.proofs.Common.{RetryUncached, Event, EventModel, InTurn, AnswerModel, Refused, History, answer_to}
-use Rattle.room_desk.proofs.Common.{leaves_no_reply, RepresentsHistory, StandsFor, Answered, EventAnswered, Run, Step}
-use Rattle.room_desk.proofs.Common.{is_delay, AreDelayed, in_doubt, doubt_after, StandsInDoubt}
+use Rattle.room_desk.proofs.Common.{◌≡◌, suc, refl, ap, sym, subst, ◌∙◌, arith, ◌⊎◌, inl, inr, Result, Ok, true, false}
+use Rattle.room_desk.proofs.Common.{List, [], ◌∷◌, both_ways, common_steps, Records, Room, View, LeavesNew, Delay}
+use Rattle.room_desk.proofs.Common.{RetryUncached, WireFault, AskModel, Event, EventModel, InTurn, AnswerModel, Refused}
+use Rattle.room_desk.proofs.Common.{History, answer_to, leaves_no_reply, RepresentsHistory, StandsFor, Answered}
+use Rattle.room_desk.proofs.Common.{EventAnswered, Run, Step, is_delay, AreDelayed, in_doubt, doubt_after}
+use Rattle.room_desk.proofs.Common.{StandsInDoubt}
 use Rattle.room_desk.proofs.Repeats.{again_is_idle, same_answer_again, uncached_again}
 use Rattle.room_desk.proofs.Alike.{alike_after_idle, alike_swapped, stand_alike}
 
@@ -30,42 +31,52 @@ module _ {before after : View} {event : EventModel} {answered : AnswerModel}
     | inr (is, stand) ↦ is
   ]
 
-  -- a store that is gone stays as it is
-  pub stays_shut : (before.is_available → ⊥) → (answered ≡ Refused Delay) × StandsFor start past after
-      × ((left : Records) → after.crash_may_leave left → before.crash_may_leave left)
-  stays_shut gone = (
-    is_delayed (λ there. gone (call.frame.was_available there)),
-    λ there. absurd (gone (call.frame.was_available there)),
-    λ left may. elim (call.crash intact start past stands left may) [
-      | inl old ↦ old
-      | inr made ↦ absurd (gone made.0)
-    ],
-  )
+-- what an event asks
+abbrev pub as_event : EventModel → Result AskModel WireFault
+as_event event = Ok (Event event)
 
--- a store that is intact was so before events in turn
-intact_before : {S : Type 0} (view : S → View) (before after : S) (events : List EventModel)
-    (answers : List AnswerModel) → InTurn (EventAnswered view) before events answers after
-    → (view after).is_intact → (view before).is_intact
-intact_before view before after [] [] is intact = rw is at intact
-intact_before view before after [] (a ∷ answers) none intact = absurd none
-intact_before view before after (e ∷ events) [] none intact = absurd none
-intact_before view before after (e ∷ events) (a ∷ answers) (mid, call, run) intact =
-    call.frame.was_intact (intact_before view mid after events answers run intact)
+-- what is asked in turn, as events or messages
+module _ {S X : Type 0} (view : S → View) (asks : X → Result AskModel WireFault) where
+  abbrev AllAnswered : S → List X → List AnswerModel → S → Type 0
+  AllAnswered = InTurn (λ (s : S) (x : X) (answered : AnswerModel) (next : S).
+      Answered (asks x) (view s) answered (view next))
 
--- what a crash leaves stays laid out over events in turn
-pub laid_out_in_turn : {S : Type 0} (view : S → View) (before after : S) (events : List EventModel)
-    (answers : List AnswerModel) (start : Room) (past : History)
-    → InTurn (EventAnswered view) before events answers after → (view after).is_intact
-    → StandsFor start past (view before) → (view before).leaves_laid_out → (view after).leaves_laid_out
-laid_out_in_turn view before after [] [] start past is intact stands laid = rw is laid
-laid_out_in_turn view before after [] (a ∷ answers) start past none intact stands laid = absurd none
-laid_out_in_turn view before after (e ∷ events) [] start past none intact stands laid = absurd none
-laid_out_in_turn view before after (event ∷ events) (answered ∷ answers) start past (mid, call, run) intact stands
-    laid =
-    let was = intact_before view mid after events answers run intact in
-    let (next, step, stand) = call.step was start past stands in
-    laid_out_in_turn view mid after events answers start next run intact stand
-    (call.stays_laid_out was start past stands laid)
+  -- a store that is intact was so before
+  pub intact_before : (before after : S) (xs : List X) (answers : List AnswerModel)
+      → AllAnswered before xs answers after → (view after).is_intact → (view before).is_intact
+  intact_before before after [] [] is intact = rw is at intact
+  intact_before before after (x ∷ xs) (a ∷ answers) (mid, call, run) intact =
+      call.frame.was_intact (intact_before mid after xs answers run intact)
+  intact_before before after xs answers none intact = absurd none
+
+  -- what a crash leaves stays laid out
+  pub laid_out_in_turn : (before after : S) (xs : List X) (answers : List AnswerModel) (start : Room) (past : History)
+      → AllAnswered before xs answers after → (view after).is_intact
+      → StandsFor start past (view before) → (view before).leaves_laid_out → (view after).leaves_laid_out
+  laid_out_in_turn before after [] [] start past is intact stands laid = rw is laid
+  laid_out_in_turn before after (x ∷ xs) (a ∷ answers) start past (mid, call, run) intact stands laid =
+      let was = intact_before mid after xs answers run intact in
+      let (next, step, stand) = call.step was start past stands in
+      laid_out_in_turn mid after xs answers start next run intact stand (call.stays_laid_out was start past stands laid)
+  laid_out_in_turn before after xs answers start past none intact stands laid = absurd none
+
+  -- a store that is gone stays so, and as it is
+  pub after_shut : (before after : S) (xs : List X) (answers : List AnswerModel) (start : Room) (past : History)
+      → ((view before).is_available → ⊥) → AllAnswered before xs answers after → (view after).is_intact
+      → ((view after).is_available → ⊥)
+      × ((left : Records) → (view after).crash_may_leave left → (view before).crash_may_leave left)
+  after_shut before after [] [] start past gone is intact = rw is (gone, λ left may. may)
+  after_shut before after (x ∷ xs) (a ∷ answers) start past gone (mid, call, run) intact =
+      let was = intact_before mid after xs answers run intact in
+      let later = after_shut mid after xs answers start past (λ there. gone (call.frame.was_available there)) run
+      intact in (
+        later.0,
+        λ left may. elim (call.crash was start past (λ h. absurd (gone h)) left (later.1 left may)) [
+          | inl old ↦ old
+          | inr made ↦ absurd (gone made.0)
+        ],
+      )
+  after_shut before after xs answers start past gone none intact = absurd none
 
 module _ {S : Type 0} (view : S → View)
     (settled : (s : S) (left : Records) → (view s).is_available → (view s).crash_may_leave left
@@ -111,14 +122,13 @@ module _ {S : Type 0} (view : S → View)
       → (next : History) × Run start past events answers next × StandsFor start next (view after)
       × LeavesNew (view after) (StandsInDoubt start next (in_doubt doubted events answers))
   left_in_doubt before after [] [] start past doubted is intact stands leaves = (past, refl, rw is stands, rw is leaves)
-  left_in_doubt before after [] (a ∷ answers) start past doubted none intact stands leaves = absurd none
-  left_in_doubt before after (e ∷ events) [] start past doubted none intact stands leaves = absurd none
   left_in_doubt before after (event ∷ events) (answered ∷ answers) start past doubted (mid, call, run)
       intact stands leaves =
-      let (next, step, stand, left) = after_event call (intact_before view mid after events answers run intact)
+      let (next, step, stand, left) = after_event call (intact_before view as_event mid after events answers run intact)
       start past stands doubted leaves in
       let later = left_in_doubt mid after events answers start next _ run intact stand left in
       (later.0, (next, step, later.1), later.2, later.3)
+  left_in_doubt before after events answers start past doubted none intact stands leaves = absurd none
 
   -- and from a store that is there
   pub left_from_there : (before after : S) (events : List EventModel) (answers : List AnswerModel)
@@ -131,21 +141,17 @@ module _ {S : Type 0} (view : S → View)
       (λ left may. inl (at_rest before start past there stands left may))
 
   -- events over a store that is gone
-  after_shut : (before after : S) (events : List EventModel) (answers : List AnswerModel) (start : Room)
+  are_delayed : (before after : S) (events : List EventModel) (answers : List AnswerModel) (start : Room)
       (past : History) → ((view before).is_available → ⊥)
-      → InTurn (EventAnswered view) before events answers after → (view after).is_intact
-      → StandsFor start past (view before)
-      → AreDelayed answers × StandsFor start past (view after)
-      × ((left : Records) → (view after).crash_may_leave left → (view before).crash_may_leave left)
-  after_shut before after [] [] start past gone is intact stands = (tt, rw is stands, rw is (λ left may. may))
-  after_shut before after [] (a ∷ answers) start past gone none intact stands = absurd none
-  after_shut before after (e ∷ events) [] start past gone none intact stands = absurd none
-  after_shut before after (event ∷ events) (answered ∷ answers) start past gone (mid, call, run) intact stands =
-      let (is, stand, left) = stays_shut call (intact_before view mid after events answers run intact)
-      start past stands gone in
-      let later = after_shut mid after events answers start past
-      (λ there. gone (call.frame.was_available there)) run intact stand in
-      ((is, later.0), later.1, λ r may. left r (later.2 r may))
+      → InTurn (EventAnswered view) before events answers after → (view after).is_intact → AreDelayed answers
+  are_delayed before after [] [] start past gone is intact = tt
+  are_delayed before after (event ∷ events) (answered ∷ answers) start past gone (mid, call, run) intact =
+      let away : (view mid).is_available → ⊥ = λ there. gone (call.frame.was_available there) in (
+        is_delayed call (intact_before view as_event mid after events answers run intact) start past
+            (λ there. absurd (gone there)) away,
+        are_delayed mid after events answers start past away run intact,
+      )
+  are_delayed before after events answers start past gone none intact = absurd none
 
   -- the event in which a fault shut the store
   pub left_by_shutting : (before mid after : S) (event : EventModel) (answered : AnswerModel)
@@ -156,11 +162,14 @@ module _ {S : Type 0} (view : S → View)
       → AreDelayed (answered ∷ answers) × StandsFor start past (view after)
       × LeavesNew (view after) (StandsInDoubt start past (event ∷ []))
   left_by_shutting before mid after event answered events answers start past there stands call gone run intact =
-      let was = intact_before view mid after events answers run intact in
+      let was = intact_before view as_event mid after events answers run intact in
       let left = one_more call was start past stands []
       (λ r may. inl (at_rest before start past there stands r may)) in
-      let later = after_shut mid after events answers start past gone run intact (λ h. absurd (gone h)) in
-      ((is_delayed call was start past stands gone, later.0), later.1, λ r may. left r (later.2 r may))
+      let later = after_shut view as_event mid after events answers start past gone run intact in (
+        (is_delayed call was start past stands gone, are_delayed mid after events answers start past gone run intact),
+        λ h. absurd (later.0 h),
+        λ r may. left r (later.1 r may),
+      )
 
 module _ {S : Type 0} (view : S → View) where
   -- an event that is sent again after a stop
@@ -213,8 +222,7 @@ one_step start past m n event answered one other = grind (arith, common_steps, n
 pub one_history : (start : Room) (past a b : History) (events : List EventModel) (answers : List AnswerModel)
     → Run start past events answers a → Run start past events answers b → a ≡ b
 one_history start past a b [] [] one other = one ∙ sym other
-one_history start past a b [] (answered ∷ answers) one other = absurd one
-one_history start past a b (event ∷ events) [] one other = absurd one
 one_history start past a b (event ∷ events) (answered ∷ answers) one other =
     one_history start one.0 a b events answers one.2
     (rw (one_step start past other.0 one.0 event answered other.1 one.1) at other.2)
+one_history start past a b events answers one other = absurd one

@@ -2,10 +2,9 @@
 use Rattle.std.specs.List.{AllByRecursion, Contains}
 use Rattle.std.specs.Bool.{MatchBool}
 use Rattle.room_program.proofs.Common.{◌≡◌, ◌⊎◌, ◌∙◌, inl, inr, ℕ, zero, suc, List, [], Option, refl, sym, subst, ap}
-use Rattle.room_program.proofs.Common.{Result, Ok, Err, ◌∷◌}
-use Rattle.room_program.proofs.Common.{Bool, true, false, SubjectModel, Records, Room, View, LeavesNew, EventModel}
-use Rattle.room_program.proofs.Common.{History, RepresentsHistory, StandsFor, AnswersMessage, IsRun, MayAnswer}
-use Rattle.room_program.proofs.Common.{Exchange, ServesEach, AcceptsEach, GoesOn, GoesOnBy, Carries, ServesSome}
+use Rattle.room_program.proofs.Common.{Result, Ok, Err, ◌∷◌, Bool, true, false, SubjectModel, Records, Room, View}
+use Rattle.room_program.proofs.Common.{LeavesNew, EventModel, History, RepresentsHistory, StandsFor, AnswersMessage}
+use Rattle.room_program.proofs.Common.{IsRun, MayAnswer, Exchange, ServesEach, GoesOn, GoesOnBy, Carries, ServesSome}
 use Rattle.room_program.proofs.Common.{AnswersOrMore, MayAsk, OrMore, Rosters, ServedTo, Visit, rosters_over}
 use Rattle.room_wire.specs.declared.serving.stop.Why.{Why}
 use Rattle.room_wire.specs.declared.serving.stop.Why.TheVariants.{Closed, BadMessage, ReadFailed, WriteFailed, Memory}
@@ -22,9 +21,8 @@ use Rattle.room_desk.proofs.AttemptRuns.{in_none, one_of}
 use Rattle.std.proofs.lemmas.Bool.{cases_Bool}
 use Rattle.room_records.proofs.Shelves.{no_call, calls_then}
 use Rattle.room_desk.proofs.Messages.{goes_on}
-use Rattle.room_desk.proofs.Stops.{at_rest}
-use Rattle.room_desk.proofs.StreamStops.{stream_in_doubt, laid_out_in_stream, by_answers}
-use Rattle.room_desk.proofs.StreamStops.{intact_before}
+use Rattle.room_desk.proofs.Stops.{at_rest, intact_before, laid_out_in_turn}
+use Rattle.room_desk.proofs.StreamStops.{stream_in_doubt, by_answers}
 
 -- what stands at the front of a stream are messages
 follow_lawful : (bytes : List ℕ) (ms : List MessageModel) (rest : List ℕ) → Follows bytes ms rest
@@ -75,13 +73,6 @@ stays users start past =
 pub all_stay : (rosters : Rosters) (start : Room) (past : History) → GoesOnBy rosters start past past
 all_stay [] start past = refl
 all_stay (users ∷ earlier) start past = (past, all_stay earlier start past, stays users start past)
-
--- so many connections were accepted, whatever served them
-pub accepted : {L S : Type 0} (accepts : L → Exchange → L → Type 0) (serves : S → Exchange → S → Type 0) (n : ℕ)
-    (old new : L) (before after : S) → ServesEach accepts serves n old new before after → AcceptsEach accepts n old new
-accepted accepts serves zero old new before after (same, none) = (same, refl)
-accepted accepts serves (suc n) old new before after (last, between, each, (e, took, one)) =
-    (last, tt, accepted accepts serves n old last before between each, (e, took, tt))
 
 -- what went over a connection are messages
 carried : {S : Type 0} (may_answer : S → MessageModel → AnswerModel → S → Type 0) (before after : S) (e : Exchange)
@@ -171,7 +162,7 @@ module _ {S : Type 0} (view : S → View) (settled : (s : S) (left : Records) �
         (
           stand,
           left,
-          laid_out_in_stream view users before after ms out start known.past run intact stands laid,
+          laid_out_in_turn view (ask_of users) before after ms run.0 start known.past run.1 intact stands laid,
           asked_in_stream users earlier start known ms out next lawful answers (λ event at. inr (asked event at)),
         ),
       )
@@ -229,7 +220,7 @@ module _ {S : Type 0} (view : S → View) (settled : (s : S) (left : Records) �
       → AllByRecursion IsMessage ms → Outputs (MayAnswer view users) between ms out after
       → (view after).is_intact → AnswersOrMore view (users ∷ rosters) before after
   connections_answered users after ms out lawful run intact start past stands =
-      let was = intact_before view users between after ms out run intact in
+      let was = intact_before view (ask_of users) between after ms run.0 run.1 intact in
       let known = at_first view settled start before past there stands (leaves_laid_out before there (stands there).0)
       in
       let (mid, goes, left) = each_in_doubt view settled start comes old before n last between each was
