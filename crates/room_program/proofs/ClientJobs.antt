@@ -1,16 +1,16 @@
 -- A run of the program, whatever it is asked: it takes the attempts that it was sent.
-use Rattle.room_program.proofs.Common.{◌≡◌, ℕ, List, [], Result, Ok, Err, ap, sym, subst, inl, inr, string_bytes}
-use Rattle.room_program.proofs.Common.{Comes, Ghosts, Image, FileStore, Held, over_files, SubjectModel, Known, SqlShelf}
-use Rattle.room_program.proofs.Common.{Check, Init}
-use Rattle.room_program.proofs.Common.{Replay, Serve, Report, Selftest, Attempt, Fault, Left, Nothing, Exchange, Call}
-use Rattle.room_program.proofs.Common.{closes, Takes, TakesRoom, TakesRoster, Made, Unmade, HoldsStill, IsLeftBy}
+use Rattle.room_program.proofs.Common.{◌≡◌, ℕ, List, [], Result, Ok, Err, ap, sym, subst, inl, inr, string_bytes, Comes}
+use Rattle.room_program.proofs.Common.{Ghosts, Image, FileStore, Held, over_files, SubjectModel, Known, SqlShelf, Check}
+use Rattle.room_program.proofs.Common.{Init, Replay, Serve, Report, Selftest, Attempt, Fault, Left, Nothing, Exchange}
+use Rattle.room_program.proofs.Common.{Call, closes, Takes, TakesRoom, TakesRoster, Made, Unmade, HoldsStill, IsLeftBy}
 use Rattle.room_program.proofs.Common.{ActsOn, SeesSums, Means, Streams, Runs, means}
 use Rattle.clap.specs.Words.{Text}
 use Rattle.room_program.specs.ClientFiles.{TakesAttempts, sent_to_run}
 use Rattle.room_program.proofs.Found.{roster_left}
 use Rattle.room_program.proofs.Restarts.{took, settled, shelf_view}
 use Rattle.room_program.proofs.Keeps.{as_it_was, untaken_keeps, others_keep}
-use Rattle.room_program.proofs.ClientFiles.{Brings, brings_none, brings_over, close_takes, still_takes}
+use Rattle.room_desk.proofs.ClientStreams.{Brings, brings_none}
+use Rattle.room_program.proofs.ClientFiles.{brings_over, close_takes, still_takes}
 
 module _ {D M : Type 0} (g : Ghosts D) (image : Image) (does : M → Call (Held (FileStore D g)) → M → Type 0)
     (left : M → Left D g) (stays : (file : D) → g.may_leave file (g.seen file))
@@ -66,30 +66,6 @@ module _ {D M : Type 0} (g : Ghosts D) (image : Image) (does : M → Call (Held 
   pub run_takes : (words : List Text) (old new : Streams) (status : ℕ)
       (ran : Runs program before later words old new status)
       → TakesAttempts (sent_to_run program before later words old new status ran) image one
-  run_takes words old new status
-      (Ok (Serve db roster port count), reads, (input, output, (Ok done, inl (why, is, untook), told))) =
-      no_roster (string_bytes roster) why untook
-  run_takes words old new status (
-    Ok (Serve db roster port count),
-    reads,
-    (input, output, (Ok done, inr (first, read, took_roll, inl (why, is, untook)), told)),
-  ) =
-      no_room (string_bytes roster) (string_bytes db) first.users read why
-      (first.text, took_roll.read, took_roll.gives) untook
-  run_takes words old new status (
-    Ok (Serve db roster port count),
-    reads,
-    (
-      input,
-      output,
-      (
-        Ok done,
-        inr (first, read, took_roll, inr (shelf, last, taken, over, room, inl (is, same, unbound), closed)),
-        told,
-      ),
-    ),
-  ) =
-      closed_takes (string_bytes db) read taken over shelf last [] room (brings_same shelf last same) closed
   run_takes words old new status (
     Ok (Serve db roster port count),
     reads,
@@ -106,30 +82,6 @@ module _ {D M : Type 0} (g : Ghosts D) (image : Image) (does : M → Call (Held 
       closed_takes (string_bytes db) read taken over shelf last _ room
       (brings_over (shelf_view g stays) (settled g stays) (Comes does accepts (string_bytes roster)) count
       (bound, first) (over, all.served.0) shelf last all.served.1) closed
-  run_takes words old new status
-      (Ok (Serve db roster port count), reads, (input, output, (Err fault, inl (why, is, untook), told))) =
-      no_roster (string_bytes roster) why untook
-  run_takes words old new status (
-    Ok (Serve db roster port count),
-    reads,
-    (input, output, (Err fault, inr (first, read, took_roll, inl (why, is, untook)), told)),
-  ) =
-      no_room (string_bytes roster) (string_bytes db) first.users read why
-      (first.text, took_roll.read, took_roll.gives) untook
-  run_takes words old new status (
-    Ok (Serve db roster port count),
-    reads,
-    (
-      input,
-      output,
-      (
-        Err fault,
-        inr (first, read, took_roll, inr (shelf, last, taken, over, room, inl (is, same, unbound), closed)),
-        told,
-      ),
-    ),
-  ) =
-      closed_takes (string_bytes db) read taken over shelf last [] room (brings_same shelf last same) closed
   run_takes words old new status (
     Ok (Serve db roster port count),
     reads,
@@ -146,21 +98,33 @@ module _ {D M : Type 0} (g : Ghosts D) (image : Image) (does : M → Call (Held 
       closed_takes (string_bytes db) read taken over shelf last _ room
       (brings_over (shelf_view g stays) (settled g stays) (Comes does accepts (string_bytes roster)) all.fewer.1.0
       (bound, first) all.fewer.1.2 shelf last all.fewer.1.3) closed
-  run_takes words old new status (Ok Check, reads, ran) =
+  run_takes words old new status (
+    Ok (Serve db roster port count),
+    reads,
+    (
+      input,
+      output,
+      (
+        done,
+        inr (first, read, took_roll, inr (shelf, last, taken, over, room, inl (is, same, unbound), closed)),
+        told,
+      ),
+    ),
+  ) =
+      closed_takes (string_bytes db) read taken over shelf last [] room (brings_same shelf last same) closed
+  run_takes words old new status (
+    Ok (Serve db roster port count),
+    reads,
+    (input, output, (done, inr (first, read, took_roll, inl (why, is, untook)), told)),
+  ) =
+      no_room (string_bytes roster) (string_bytes db) first.users read why
+      (first.text, took_roll.read, took_roll.gives) untook
+  run_takes words old new status
+      (Ok (Serve db roster port count), reads, (input, output, (done, inl (why, is, untook), told))) =
+      no_roster (string_bytes roster) why untook
+  run_takes words old new status (Ok job, reads, ran) =
       still (others_keep g image does left stays tells accepts fails accepts_so fails_so before later one none sees at
-      Check old new status ran)
-  run_takes words old new status (Ok (Init db owner group), reads, ran) =
-      still (others_keep g image does left stays tells accepts fails accepts_so fails_so before later one none sees at
-      (Init db owner group) old new status ran)
-  run_takes words old new status (Ok (Report db roster kind), reads, ran) =
-      still (others_keep g image does left stays tells accepts fails accepts_so fails_so before later one none sees at
-      (Report db roster kind) old new status ran)
-  run_takes words old new status (Ok (Replay roster owner group), reads, ran) =
-      still (others_keep g image does left stays tells accepts fails accepts_so fails_so before later one none sees at
-      (Replay roster owner group) old new status ran)
-  run_takes words old new status (Ok Selftest, reads, ran) =
-      still (others_keep g image does left stays tells accepts fails accepts_so fails_so before later one none sees at
-      Selftest old new status ran)
+      job old new status ran)
   run_takes words old new status (Err why, reads, (same, unread, told)) =
       still (as_it_was g image does left stays tells accepts fails accepts_so fails_so before later one none sees at
       (ap left same))

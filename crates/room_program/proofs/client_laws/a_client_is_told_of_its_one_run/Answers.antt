@@ -1,6 +1,7 @@
 use Rattle.room_program.proofs.Common.{inl, refl, image_at, attempts_in}
 use Rattle.room_program.proofs.Restarts.{settled}
-use Rattle.room_program.proofs.ClientFiles.{brings_messages, brings_over, brings_then, told_meanwhile}
+use Rattle.room_desk.proofs.ClientStreams.{brings_messages, brings_then}
+use Rattle.room_program.proofs.ClientFiles.{brings_over, told_meanwhile}
 use Rattle.room_program.proofs.client_laws.a_client_is_told_of_its_one_run.Goals as goal
 
 pub returns : goal.returns

@@ -1,6 +1,7 @@
 use Rattle.room_program.proofs.Common.{attempts_in}
 use Rattle.room_program.proofs.Restarts.{settled}
-use Rattle.room_program.proofs.ClientFiles.{brings_messages, brings_over, brings_then, cut_off_takes}
+use Rattle.room_desk.proofs.ClientStreams.{brings_messages, brings_then}
+use Rattle.room_program.proofs.ClientFiles.{brings_over, cut_off_takes}
 use Rattle.room_program.proofs.client_laws.a_run_cut_off_takes_its_attempts.Goals as goal
 
 pub returns : goal.returns

@@ -1,8 +1,8 @@
 use Rattle.room_program.proofs.Common.{inl, refl, image_at, attempts_in}
 use Rattle.room_program.proofs.Found.{was_sound}
 use Rattle.room_program.proofs.Restarts.{settled}
-use Rattle.room_program.proofs.ClientFiles.{brings_messages, brings_over, brings_then, leads_by, stop_takes}
-use Rattle.room_program.proofs.ClientFiles.{still_takes}
+use Rattle.room_desk.proofs.ClientStreams.{brings_messages, brings_then}
+use Rattle.room_program.proofs.ClientFiles.{brings_over, leads_by, stop_takes, still_takes}
 use Rattle.room_program.proofs.client_laws.a_run_that_stops_takes_its_attempts.Goals as goal
 
 pub returns-clause-stopped : goal.returns-clause-stopped
