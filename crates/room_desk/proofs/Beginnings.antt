@@ -1,8 +1,8 @@
 -- Histories from their beginning: rows with no session, and that a history leaves a room.
 use Rattle.room_desk.proofs.Common.{◌≡◌, ℕ, arith, true, List, [], ◌∷◌, None, inl, inr, ◌&&◌, length, cases_Bool}
 use Rattle.room_desk.proofs.Common.{cond_both, nat_tests, common_steps, bytes_decides, Records, Room, IsRoom}
-use Rattle.room_desk.proofs.Common.{RepresentsRoom, IsLawful, Request, Open, Close, Slot, History, accepts, accepted}
-use Rattle.room_desk.proofs.Common.{is_for, is_accepted, state_after, AcceptsLawful, RepresentsHistory}
+use Rattle.room_desk.proofs.Common.{RepresentsRoom, IsLawful, Request, Slot, History, accepts, accepted, is_for}
+use Rattle.room_desk.proofs.Common.{is_accepted, state_after, AcceptsLawful, RepresentsHistory}
 use Rattle.room_commands.proofs.EffectIsRoom.{effect_is_room}
 
 -- rows of a room with no session and no slot stand for the history without events
@@ -41,5 +41,4 @@ state_is_room start (Slot q ∷ past) room lawful =
     cond_both (is_accepted past q) _ _ IsRoom
     (λ taken. effect_is_room (state_after start past) q.caller q.command
     (accepted_is_lawful past q lawful taken) before) (λ other. before)
-state_is_room start (Open caller sid slots ∷ past) room lawful = state_is_room start past room lawful
-state_is_room start (Close caller sid ∷ past) room lawful = state_is_room start past room lawful
+state_is_room start (event ∷ past) room lawful = state_is_room start past room lawful

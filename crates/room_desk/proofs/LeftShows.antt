@@ -39,14 +39,13 @@ module _ (more : ℕ) (start : Room) where
   pub states : (past : History) → NeverFull start past
       → state_after roomy past ≡ with_more more (state_after start past)
   states [] never = refl
-  states (Open caller sid slots ∷ past) never = states past never
-  states (Close caller sid ∷ past) never = states past never
   states (Slot q ∷ past) never =
       either (is_accepted past q) (effect (state_after roomy past) q.caller q.command).room (state_after roomy past)
       (effect (state_after start past) q.caller q.command).room (state_after start past)
       (λ is. ap (λ s. (effect s q.caller q.command).room) (states past never.1)
       ∙ (go_on (state_after start past) q.caller q.command (never.0 is)).1)
       (states past never.1)
+  states (event ∷ past) never = states past never
 
   -- what a slot keeps is the same
   abbrev ReplySame : History → Request → Type 0
@@ -68,13 +67,12 @@ module _ (more : ℕ) (start : Room) where
 
   replies : (past : History) → NeverFull start past → (sid : List ℕ) (slot : ℕ) → LikeReplies (accepted past sid slot)
   replies [] never sid slot = tt
-  replies (Open caller name slots ∷ past) never sid slot = replies past never sid slot
-  replies (Close caller name ∷ past) never sid slot = replies past never sid slot
   replies (Slot q ∷ past) never sid slot =
       one_more (is_for sid slot q && accepts past (length (accepted past sid slot)) q)
       (record { request = q; before = past }) (accepted past sid slot)
       (λ taken. reply_same past q never.1 (never.0 (taken_is_accepted past q sid slot taken)))
       (replies past never.1 sid slot)
+  replies (event ∷ past) never sid slot = replies past never sid slot
 
   abbrev kept_by : Request → ReplyModel → KeptModel
   kept_by q reply =
@@ -119,12 +117,11 @@ module _ (more : ℕ) (start : Room) where
 
   pub answers : (past : History) (event : EventModel) → NeverFull start (event ∷ past)
       → answer_to roomy past event ≡ answer_to start past event
-  answers past (Open caller sid slots) never = refl
-  answers past (Close caller sid) never = refl
   answers past (Slot q) never =
       ap (λ x. if not (is_open_for q.sid q.caller (session_of past q.sid)) then Refused BadSession
       else (if not (nat_lt q.slot (slots_of (session_of past q.sid))) then Refused BadSlot else x))
       (replied past q (is_accepted past q) never.1 never.0)
+  answers past event never = refl
 
 -- ---- a room that is put anew, with each session ended
 
@@ -151,14 +148,12 @@ ended_rows (Slot q ∷ past) sid = ended_rows past sid ∙ ap (option_map closed
 none_accepted : (past : History) (sid : List ℕ) (slot : ℕ) → accepted (ended past) sid slot ≡ []
 none_accepted [] sid slot = refl
 none_accepted (Open caller name slots ∷ past) sid slot = none_accepted past sid slot
-none_accepted (Close caller name ∷ past) sid slot = none_accepted past sid slot
-none_accepted (Slot q ∷ past) sid slot = none_accepted past sid slot
+none_accepted (event ∷ past) sid slot = none_accepted past sid slot
 
 same_state : (start : Room) (past : History) → state_after start (ended past) ≡ start
 same_state start [] = refl
 same_state start (Open caller name slots ∷ past) = same_state start past
-same_state start (Close caller name ∷ past) = same_state start past
-same_state start (Slot q ∷ past) = same_state start past
+same_state start (event ∷ past) = same_state start past
 
 none_either : (t : Bool) → None ≡ (if t then (let none : Option KeptModel = None in none) else None)
 none_either true = refl

@@ -18,9 +18,8 @@ use Rattle.room_desk.proofs.Shorthands.{AskChangesFew}
 few_unasked : (start : Room) (past : History) (ask : Result AskModel WireFault) (r : Records) (answered : AnswerModel)
     → ((event : EventModel) → ask ≡ Ok (Event event) → answered ≡ Refused Delay) → answered ≢ Refused Delay
     → AskChangesFew start past ask r r
-few_unasked start past (Ok (Check question)) r answered delays other = tt
 few_unasked start past (Ok (Event event)) r answered delays other = absurd (other (delays event refl))
-few_unasked start past (Err fault) r answered delays other = tt
+few_unasked start past ask r answered delays other = tt
 
 left_alone : (s : View) → IsLeftAlone s s
 left_alone s = record {
@@ -117,8 +116,7 @@ one_step : (start : Room) (past next : History) (ask : Result AskModel WireFault
     → AnswersOrDelays start past ask answered next → (events : List EventModel) × (next ≡ events ++ past)
 one_step start past next (Ok (Event e)) answered (inl h) = (e ∷ [], h.1)
 one_step start past next ask answered (inr h) = ([], h.1)
-one_step start past next (Ok (Check q)) answered (inl h) = ([], h.1)
-one_step start past next (Err f) answered (inl h) = ([], h.1)
+one_step start past next ask answered (inl h) = ([], h.1)
 
 -- a stream that was served goes on with the history
 pub goes_on : (users : List SubjectModel) (start : Room) (past : History) (ms : List MessageModel)

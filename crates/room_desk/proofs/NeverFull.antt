@@ -3,7 +3,7 @@ use Rattle.room_desk.proofs.Common.{◌≡◌, ◌≤◌, ℕ, ◌+◌, ◌-◌,
 use Rattle.room_desk.proofs.Common.{◌∷◌, map, Option, None, Some, ◌==◌, if◌then◌else◌, AllByRecursion, nat_tests}
 use Rattle.room_desk.proofs.Common.{execute, delete_object, SubjectModel, Path, path_eq, Records, Object, Room, list_of}
 use Rattle.room_desk.proofs.Common.{standing_of, object_at, parent_of, CommandModel, ReplyModel, Refusal, NotDone}
-use Rattle.room_desk.proofs.Common.{effect, effect_by, IsRoomFull, Open, Close, Slot, History, is_accepted, state_after}
+use Rattle.room_desk.proofs.Common.{effect, effect_by, IsRoomFull, Slot, History, is_accepted, state_after}
 use Rattle.room_desk.proofs.Common.{RepresentsHistory}
 use Rattle.room_acl.specs.declared.access.Decision.{Decision}
 use Rattle.room_acl.specs.declared.access.Decision.TheVariants.{Allowed, Denied}
@@ -128,13 +128,12 @@ left_of_either false x y before some = some
 
 never : (start : Room) (past : History) → 1 ≤ (state_after start past).left → NeverFull start past
 never start [] some = tt
-never start (Open caller sid slots ∷ past) some = never start past some
-never start (Close caller sid ∷ past) some = never start past some
 never start (Slot q ∷ past) some =
     let s = state_after start past in
     let before : 1 ≤ s.left = left_of_either (is_accepted past q) (effect s q.caller q.command).room s
     (left_before s q.caller q.command (first_refusal (checks s q.caller q.command))) some in
     (λ accepted. not_full s q.caller q.command before, never start past before)
+never start (event ∷ past) some = never start past some
 
 one_left : (next left : ℕ) → next + left ≡ max_objects + 1 → next ≤ max_objects → 1 ≤ left
 one_left next left all below = omega arith

@@ -1,19 +1,19 @@
 -- The bytes of documents show to reads alone.
-use Rattle.room_desk.proofs.Common.{◌≡◌, ℕ, refl, ap, sym, ◌∙◌, arith, inl, inr, ◌⊎◌, Bool, true, false, not, ◌&&◌}
-use Rattle.room_desk.proofs.Common.{cond, List, [], ◌∷◌, map, length, nat_lt, ◌==◌, ⊤, suc, bytes_eq, bytes_decides}
-use Rattle.room_desk.proofs.Common.{and_from, eqb-true, eq-eqb, common_steps, read_data, SubjectModel, next_number}
-use Rattle.room_desk.proofs.Common.{Path, Room, CommandModel, Read, ReplyModel, Bytes, effect, EventModel, Request}
-use Rattle.room_desk.proofs.Common.{Open, Close, Slot, command_text, reply_text, BadSession, BadSlot, SeqMisordered}
-use Rattle.room_desk.proofs.Common.{SeqFalseRetry, AnswerModel, Reply, Refused, History, Accepted, session_of}
-use Rattle.room_desk.proofs.Common.{is_open_for, slots_of, accepts, is_for, accepted, is_accepted, state_after}
-use Rattle.room_desk.proofs.Common.{original_reply, answer_unaccepted, answer_to, caller_of, then_some}
+use Rattle.room_desk.proofs.Common.{◌≡◌, ℕ, refl, ap, sym, subst, ◌∙◌, arith, inl, inr, ◌⊎◌, Bool, true, false, not}
+use Rattle.room_desk.proofs.Common.{◌&&◌, cond, List, [], ◌∷◌, map, length, nat_lt, ◌==◌, ⊤, suc, bytes_eq}
+use Rattle.room_desk.proofs.Common.{bytes_decides, and_from, eqb-true, eq-eqb, common_steps, read_data, SubjectModel}
+use Rattle.room_desk.proofs.Common.{next_number, Path, Room, CommandModel, Read, ReplyModel, Bytes, effect, EventModel}
+use Rattle.room_desk.proofs.Common.{Request, Open, Close, Slot, command_text, reply_text, BadSession, BadSlot}
+use Rattle.room_desk.proofs.Common.{SeqMisordered, SeqFalseRetry, AnswerModel, Reply, Refused, History, Accepted}
+use Rattle.room_desk.proofs.Common.{session_of, is_open_for, slots_of, accepts, is_for, accepted, is_accepted}
+use Rattle.room_desk.proofs.Common.{state_after, original_reply, answer_unaccepted, answer_to, caller_of, then_some}
 use Rattle.room_commands.specs.Sight.{may}
 use Rattle.room_commands.specs.OtherBytes.{room_with, command_with, reply_with, blank}
 use Rattle.room_commands.proofs.OtherBytes.{same_room, same_reply, read_alone}
 use Rattle.room_desk.specs.OtherBytes.{DifferInBytes, NoEvents, Same, Written, TellsOfRead}
 use Rattle.room_desk.proofs.Idle.{itself, accepted_after_idle}
 use Rattle.room_desk.proofs.OwnRequests.{Owned, own, accepted_are_owned}
-use Rattle.room_desk.proofs.Secrets.{row_in, row_then, row_is_open_for, row_slots, open_by_row, slots_by_row}
+use Rattle.room_desk.proofs.Secrets.{by_same, row_in, row_then, row_is_open_for, row_slots, open_by_row, slots_by_row}
 use Rattle.room_desk.proofs.Secrets.{open_answer, close_answer, open_answered, close_answered}
 use Rattle.room_desk.proofs.Shorthands.{answer_again, replay}
 
@@ -50,17 +50,15 @@ module _ (caller : SubjectModel) (a b : Room) (alike : room_with blank a ≡ roo
   -- requests that were accepted, each after such a past: the caller's own are the same
   abbrev LikeRequests : List Accepted → List Accepted → Type 0
   LikeRequests [] [] = ⊤
-  LikeRequests [] (y ∷ ys) = ⊥
-  LikeRequests (x ∷ xs) [] = ⊥
   LikeRequests (x ∷ xs) (y ∷ ys) =
       ((x.request ≡ y.request) ⊎ (bytes_eq caller.name x.request.caller.name ≡ false))
       × DifferInBytes caller x.before y.before × LikeRequests xs ys
+  LikeRequests xs ys = ⊥
 
   as_many : (xs ys : List Accepted) → LikeRequests xs ys → length xs ≡ length ys
   as_many [] [] like = refl
   as_many (x ∷ xs) (y ∷ ys) like = ap suc (as_many xs ys like.2)
-  as_many [] (y ∷ ys) like = absurd like
-  as_many (x ∷ xs) [] like = absurd like
+  as_many xs ys like = absurd like
 
   accepts_alike : (past other : History) → DifferInBytes caller past other → (q : Request) (command : CommandModel)
       (n m : ℕ) → n ≡ m → accepts past n q ≡ accepts other m (record q { command = command })
@@ -70,10 +68,7 @@ module _ (caller : SubjectModel) (a b : Room) (alike : room_with blank a ≡ roo
 
   joined : (t u : Bool) → t ≡ u → (x y : Accepted) (xs ys : List Accepted) → LikeRequests (x ∷ xs) (y ∷ ys)
       → LikeRequests xs ys → LikeRequests (cond t (x ∷ xs) xs) (cond u (y ∷ ys) ys)
-  joined true true same x y xs ys more like = more
-  joined false false same x y xs ys more like = like
-  joined true false same x y xs ys more like = cc
-  joined false true same x y xs ys more like = cc
+  joined t u same x y xs ys = by_same (λ t u. LikeRequests (cond t (x ∷ xs) xs) (cond u (y ∷ ys) ys)) t u same
 
   with_request : (p o : History) → DifferInBytes caller p o → (q : Request) (command : CommandModel)
       → (q ≡ record q { command = command }) ⊎ (bytes_eq caller.name q.caller.name ≡ false)
@@ -88,10 +83,9 @@ module _ (caller : SubjectModel) (a b : Room) (alike : room_with blank a ≡ roo
   requests_alike : (past other : History) → DifferInBytes caller past other → (sid : List ℕ) (slot : ℕ)
       → LikeRequests (accepted past sid slot) (accepted other sid slot)
   requests_alike past other NoEvents sid slot = tt
-  requests_alike past other (Same p o (Open c name n) like) sid slot = requests_alike p o like sid slot
-  requests_alike past other (Same p o (Close c name) like) sid slot = requests_alike p o like sid slot
   requests_alike past other (Same p o (Slot q) like) sid slot =
       with_request p o like q q.command (inl refl) sid slot (requests_alike p o like sid slot)
+  requests_alike past other (Same p o e like) sid slot = requests_alike p o like sid slot
   requests_alike past other (Written p o q command another same like) sid slot =
       with_request p o like q command (inr another) sid slot (requests_alike p o like sid slot)
 
@@ -109,33 +103,22 @@ module _ (caller : SubjectModel) (a b : Room) (alike : room_with blank a ≡ roo
   ran x y same c f g commands =
       sym (same_room blank x c f) ∙ (λ i. (effect (same i) c (commands i)).room) ∙ same_room blank y c g
 
-  either : (t u : Bool) → t ≡ u → (x x' y y' : Room) → room_with blank x ≡ room_with blank y
-      → room_with blank x' ≡ room_with blank y' → room_with blank (cond t x x') ≡ room_with blank (cond u y y')
-  either t u same x x' y y' one two = by_test t u same
-    where
-      by_test : (t u : Bool) → t ≡ u → room_with blank (cond t x x') ≡ room_with blank (cond u y y')
-      by_test true true same = one
-      by_test false false same = two
-      by_test true false same = cc
-      by_test false true same = cc
-
   requested : (p o : History) → DifferInBytes caller p o
       → room_with blank (state_after a p) ≡ room_with blank (state_after b o)
       → (q : Request) (command : CommandModel) → command_with blank q.command ≡ command_with blank command
       → room_with blank (state_after a (Slot q ∷ p))
       ≡ room_with blank (state_after b (Slot (record q { command = command }) ∷ o))
   requested p o like before q command same =
-      either (is_accepted p q) (is_accepted o (record q { command = command })) (is_accepted_alike p o like q command)
-      (effect (state_after a p) q.caller q.command).room (state_after a p)
-      (effect (state_after b o) q.caller command).room (state_after b o)
+      by_same (λ t u. room_with blank (cond t (effect (state_after a p) q.caller q.command).room (state_after a p))
+      ≡ room_with blank (cond u (effect (state_after b o) q.caller command).room (state_after b o)))
+      (is_accepted p q) (is_accepted o (record q { command = command })) (is_accepted_alike p o like q command)
       (ran (state_after a p) (state_after b o) before q.caller q.command command same) before
 
   states : (past other : History) → DifferInBytes caller past other
       → room_with blank (state_after a past) ≡ room_with blank (state_after b other)
   states past other NoEvents = alike
-  states past other (Same p o (Open c name n) like) = states p o like
-  states past other (Same p o (Close c name) like) = states p o like
   states past other (Same p o (Slot q) like) = requested p o like (states p o like) q q.command refl
+  states past other (Same p o e like) = states p o like
   states past other (Written p o q command another same like) =
       requested p o like (states p o like) q command same
 
@@ -249,8 +232,6 @@ module _ (caller : SubjectModel) (a b : Room) (alike : room_with blank a ≡ roo
         → (xs ys : List Accepted) → accepted past q.sid q.slot ≡ xs → Owned (session_of past q.sid) xs
         → LikeRequests xs ys → Alike (Slot q) (answer_unaccepted a q xs) (answer_unaccepted b q ys)
     by_requests q its usable old [] [] at owned requests = inl refl
-    by_requests q its usable old [] (y ∷ ys) at owned requests = absurd requests
-    by_requests q its usable old (x ∷ xs) [] at owned requests = absurd requests
     by_requests q its usable old (x ∷ xs) (y ∷ ys) at owned requests = elim requests.0 [
       | inl is ↦ elim (unaccepted q x y xs ys is requests.1) [
         | inl one ↦ inl one
@@ -261,6 +242,7 @@ module _ (caller : SubjectModel) (a b : Room) (alike : room_with blank a ≡ roo
           let no : false ≡ true = sym another ∙ ap (bytes_eq caller.name) name
           ∙ its in absurd (let wrong : false ≡ true = no in cc)
     ]
+    by_requests q its usable old xs ys at owned requests = absurd requests
 
     module _ (q : Request) (o t u : Bool) (usable : is_open_for q.sid q.caller (session_of past q.sid) ≡ o)
         (below : nat_lt q.slot (slots_of (session_of past q.sid)) ≡ t) (new : is_accepted past q ≡ u) where
@@ -323,20 +305,8 @@ module _ (caller : SubjectModel) (a b : Room) (alike : room_with blank a ≡ roo
             (accepted_are_owned past q.sid q.slot) (requests_alike past other like q.sid q.slot)) [
               | inl one ↦ inl (first q true true false usable below new ∙ one
                   ∙ sym (second q true true false usable below new))
-              | inr read ↦ inr (
-                read.0,
-                read.1,
-                read.2,
-                read.3,
-                read.4,
-                read.5,
-                read.6,
-                read.7,
-                read.8,
-                read.9,
-                read.10,
-                first q true true false usable below new ∙ read.11,
-              )
+              | inr read ↦
+                  inr (subst (TellsOfRead a past (Slot q)) (sym (first q true true false usable below new)) read)
             ]
 
     pub bytes_show_to_reads : (event : EventModel) → bytes_eq caller.name (caller_of event).name ≡ true

@@ -9,10 +9,9 @@ module _ {S : Type 0} (answers : S → EventModel → AnswerModel → S → Type
       InTurn answers before events told mid → answers mid event answered after
       → InTurn answers before (events ++ event ∷ []) (told ++ answered ∷ []) after
   in_turn_more before mid after [] [] event answered is step = (after, rw is at step, refl)
-  in_turn_more before mid after [] (a ∷ others) event answered none step = absurd none
-  in_turn_more before mid after (e ∷ es) [] event answered none step = absurd none
   in_turn_more before mid after (e ∷ es) (a ∷ others) event answered r step =
       (r.0, r.1, in_turn_more r.0 mid after es others event answered r.2 step)
+  in_turn_more before mid after events told event answered none step = absurd none
 
   -- the same as the loop over the events goes on
   pub in_turn_at : (before mid after : S) (events : List Event) (i : ℕ)

@@ -19,6 +19,11 @@ use Rattle.room_desk.proofs.Idle.{rows_after_idle, accepted_after_idle}
 use Rattle.room_desk.proofs.Numbers.{other_slots_stay}
 use Rattle.room_desk.proofs.Shorthands.{answer_again, replay}
 
+-- what holds of two tests, by the one answer that they have
+pub by_same : (P : Bool → Bool → Type 0) (t u : Bool) → t ≡ u → P true true → P false false → P t u
+by_same P true u same one other = subst (P true) same one
+by_same P false u same one other = subst (P false) same other
+
 -- what is asked of a session, by its row
 abbrev pub row_in : History → List ℕ → Option SessionRow
 row_in past sid = option_map (session_row_of sid) (session_of past sid)
@@ -62,15 +67,13 @@ close_answered sid c (Some session) = refl
 row_of_another : (past : History) (e : EventModel) (sid : List ℕ) → bytes_eq sid (sid_of e) ≡ false
     → row_in (e ∷ past) sid ≡ row_in past sid
 row_of_another past (Open caller name slots) sid other = grind (arith, common_steps)
-row_of_another past (Close caller name) sid other = grind (arith, common_steps)
-row_of_another past (Slot q) sid other = grind (arith, common_steps)
+row_of_another past e sid other = grind (arith, common_steps)
 
 requests_of_another : (past : History) (e : EventModel) (sid : List ℕ) (slot : ℕ) → bytes_eq sid (sid_of e) ≡ false
     → accepted (e ∷ past) sid slot ≡ accepted past sid slot
-requests_of_another past (Open caller name slots) sid slot other = refl
-requests_of_another past (Close caller name) sid slot other = refl
 requests_of_another past (Slot q) sid slot other =
     other_slots_stay past q sid slot (and_left (bytes_eq sid q.sid) _ other)
+requests_of_another past e sid slot other = refl
 
 -- an event in both pasts
 pub row_then : (past other : History) (e : EventModel) (sid : List ℕ) → row_in past sid ≡ row_in other sid
@@ -122,16 +125,14 @@ module _ (caller : SubjectModel) (is_own : List ℕ → Bool) (a b : Room) where
   -- accepted requests of a slot: the same ones, each after pasts that the caller cannot tell apart
   abbrev LikeAccepted : List Accepted → List Accepted → Type 0
   LikeAccepted [] [] = ⊤
-  LikeAccepted [] (y ∷ ys) = ⊥
-  LikeAccepted (x ∷ xs) [] = ⊥
   LikeAccepted (x ∷ xs) (y ∷ ys) = (x.request ≡ y.request) × (x.request.caller ≡ caller)
       × IsLawful x.request.command × AlikePasts caller is_own a b x.before y.before × LikeAccepted xs ys
+  LikeAccepted xs ys = ⊥
 
   length_alike : (xs ys : List Accepted) → LikeAccepted xs ys → length xs ≡ length ys
   length_alike [] [] like = refl
   length_alike (x ∷ xs) (y ∷ ys) like = ap suc (length_alike xs ys like.4)
-  length_alike [] (y ∷ ys) like = absurd like
-  length_alike (x ∷ xs) [] like = absurd like
+  length_alike xs ys like = absurd like
 
   -- whether a request of the caller's is accepted, where so many were
   accepts_alike : (past other : History) → AlikePasts caller is_own a b past other → (q : Request)
@@ -142,24 +143,18 @@ module _ (caller : SubjectModel) (is_own : List ℕ → Bool) (a b : Room) where
 
   joined : (t u : Bool) → t ≡ u → (x y : Accepted) (xs ys : List Accepted) → LikeAccepted (x ∷ xs) (y ∷ ys)
       → LikeAccepted xs ys → LikeAccepted (cond t (x ∷ xs) xs) (cond u (y ∷ ys) ys)
-  joined true true same x y xs ys more like = more
-  joined false false same x y xs ys more like = like
-  joined true false same x y xs ys more like = cc
-  joined false true same x y xs ys more like = cc
+  joined t u same x y xs ys = by_same (λ t u. LikeAccepted (cond t (x ∷ xs) xs) (cond u (y ∷ ys) ys)) t u same
 
   pub accepted_alike : (past other : History) → AlikePasts caller is_own a b past other → (sid : List ℕ) (slot : ℕ)
       → IsTrue (is_own sid) → LikeAccepted (accepted past sid slot) (accepted other sid slot)
   accepted_alike past other (Begin start) sid slot own = tt
-  accepted_alike past other (Both p o (Open c name n) is lawful named alike) sid slot own =
-      accepted_alike p o alike sid slot own
-  accepted_alike past other (Both p o (Close c name) is lawful named alike) sid slot own =
-      accepted_alike p o alike sid slot own
   accepted_alike past other (Both p o (Slot q) is lawful named alike) sid slot own =
       let like = accepted_alike p o alike sid slot own in
       joined _ _ (ap (λ t. is_for sid slot q && t) (accepts_alike p o alike q named (length (accepted p sid slot))
       (length (accepted o sid slot)) (length_alike (accepted p sid slot) (accepted o sid slot) like)))
       (record { request = q; before = p }) (record { request = q; before = o })
       (accepted p sid slot) (accepted o sid slot) (refl, is, lawful, alike, like) like
+  accepted_alike past other (Both p o e is lawful named alike) sid slot own = accepted_alike p o alike sid slot own
   accepted_alike past other (First p o e lawful leaves unseen alike) sid slot own =
       subst (λ xs. LikeAccepted xs (accepted o sid slot)) (sym (left_requests p e leaves sid slot own))
       (accepted_alike p o alike sid slot own)
@@ -184,11 +179,10 @@ module _ (caller : SubjectModel) (is_own : List ℕ → Bool) (a b : Room) where
 
   next_room : (start : Room) (past : History) (e : EventModel) → asks_lawfully e → IsRoom (state_after start past)
       → IsRoom (state_after start (e ∷ past))
-  next_room start past (Open c name n) lawful room = room
-  next_room start past (Close c name) lawful room = room
   next_room start past (Slot q) lawful room = either_room (is_accepted past q)
       (effect (state_after start past) q.caller q.command).room (state_after start past)
       (effect_is_room (state_after start past) q.caller q.command lawful room) room
+  next_room start past e lawful room = room
 
   module _ (room_a : IsRoom a) (room_b : IsRoom b) where
     room_first : (past other : History) → AlikePasts caller is_own a b past other → IsRoom (state_after a past)
@@ -207,13 +201,6 @@ module _ (caller : SubjectModel) (is_own : List ℕ → Bool) (a b : Room) where
     room_second past other (Others p o e f lawful lawful' named named' seen alike) =
         next_room b o f lawful' (room_second p o alike)
 
-    stays_by : (t u : Bool) → t ≡ u → (x x' y y' : Room) → StayAlike caller x y → StayAlike caller x' y'
-        → StayAlike caller (cond t x x') (cond u y y')
-    stays_by true true same x x' y y' one other = one
-    stays_by false false same x x' y y' one other = other
-    stays_by true false same x x' y y' one other = cc
-    stays_by false true same x x' y y' one other = cc
-
     -- a command of the caller's, asked by who it is
     asked : (x y : Room) → IsRoom x → IsRoom y → StayAlike caller x y → (q : Request) → q.caller ≡ caller
         → IsLawful q.command → StayAlike caller (effect x q.caller q.command).room (effect y q.caller q.command).room
@@ -223,15 +210,14 @@ module _ (caller : SubjectModel) (is_own : List ℕ → Bool) (a b : Room) where
     pub states_alike : (past other : History) → AlikePasts caller is_own a b past other
         → StayAlike caller (state_after a past) (state_after b other)
     states_alike past other (Begin start) = start
-    states_alike past other (Both p o (Open c name n) is lawful named alike) = states_alike p o alike
-    states_alike past other (Both p o (Close c name) is lawful named alike) = states_alike p o alike
     states_alike past other (Both p o (Slot q) is lawful named alike) =
         let before = states_alike p o alike in
-        stays_by (is_accepted p q) (is_accepted o q) (is_accepted_alike p o alike q named)
-        (effect (state_after a p) q.caller q.command).room (state_after a p)
-        (effect (state_after b o) q.caller q.command).room (state_after b o)
+        by_same (λ t u. StayAlike caller (cond t (effect (state_after a p) q.caller q.command).room (state_after a p))
+        (cond u (effect (state_after b o) q.caller q.command).room (state_after b o)))
+        (is_accepted p q) (is_accepted o q) (is_accepted_alike p o alike q named)
         (asked (state_after a p) (state_after b o) (room_first p o alike) (room_second p o alike) before q is lawful)
         before
+    states_alike past other (Both p o e is lawful named alike) = states_alike p o alike
     states_alike past other (First p o e lawful named unseen alike) =
         stay_joined (state_after a (e ∷ p)) (state_after a p) (state_after b o) caller
         (stay_turned (state_after a p) (state_after a (e ∷ p)) caller unseen) (states_alike p o alike)
@@ -261,8 +247,7 @@ module _ (caller : SubjectModel) (is_own : List ℕ → Bool) (a b : Room) where
         (λ i. cond (q.seq == (like.0 i).seq)
         (cond (bytes_eq (command_text q.command) (command_text (like.0 i).command)) (again i) (Refused SeqFalseRetry))
         (Refused SeqMisordered))
-    unaccepted_alike q [] (y ∷ ys) like = absurd like
-    unaccepted_alike q (x ∷ xs) [] like = absurd like
+    unaccepted_alike q xs ys like = absurd like
 
     pub answers_alike : (past other : History) → AlikePasts caller is_own a b past other → (e : EventModel)
         → caller_of e ≡ caller → asks_lawfully e → IsTrue (is_own (sid_of e)) → answer_to a past e ≡ answer_to b other e

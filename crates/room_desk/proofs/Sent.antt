@@ -69,8 +69,7 @@ refused_after_read sent W.BadRequest {a} {b} none read there =
     subst (λ wanted. Answered (event_asked (event wanted)) a (Refused BadRequest) b) (sym none)
     (refused_by_body read there)
 refused_after_read sent W.Memory {a} {b} none read there = delayed_by_read (sent_event sent) a b None read
-refused_after_read sent W.BadRoute none read there = absurd none
-refused_after_read sent W.UnknownUser none read there = absurd none
+refused_after_read sent fault none read there = absurd none
 
 -- what is answered by the kept text, after a read of it
 pub answered_by_kept : (sent : SentRequest) {found : Found} {a b : View} {answered : AnswerModel}

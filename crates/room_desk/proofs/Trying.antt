@@ -2,8 +2,8 @@
 use Rattle.room_desk.proofs.Common.{◌≡◌, ◌∙◌, refl, subst, false, true, inl, inr, ◌∷◌, None, Result, Ok, Err, IfOk}
 use Rattle.room_desk.proofs.Common.{OnOk, both_ways, ShelfFault, Store, Records, Room, View, ShelfCall, ShelfRead}
 use Rattle.room_desk.proofs.Common.{fault_in, LeavesOldOrNew, call_then, none_not_store, Answer, Delay, Event}
-use Rattle.room_desk.proofs.Common.{EventModel, Open, Close, Slot, Refused, answer_model, IsTurnedAway, History}
-use Rattle.room_desk.proofs.Common.{answer_to, changes_rows, RepresentsHistory, StandsFor, EventChangesFew, Answered}
+use Rattle.room_desk.proofs.Common.{EventModel, Slot, Refused, answer_model, IsTurnedAway, History, answer_to}
+use Rattle.room_desk.proofs.Common.{changes_rows, RepresentsHistory, StandsFor, EventChangesFew, Answered}
 use Rattle.room_desk.specs.Trying.{EventTried, JoinsHistory}
 use Rattle.room_desk.proofs.Alike.{stand_after_idle}
 use Rattle.room_desk.proofs.Crashes.{leaves_either}
@@ -18,9 +18,8 @@ there_where_ok (Err fault) call there intact = tt
 -- an event that changes nothing is no accepted request, and leaves the same rows
 pub idle_few : (start : Room) (past : History) (event : EventModel) (old new : Records)
     → changes_rows past event ≡ false → new ≡ old → EventChangesFew start past event old new
-idle_few start past (Open caller sid slots) old new idle same = rw same refl
-idle_few start past (Close caller sid) old new idle same = rw same refl
 idle_few start past (Slot q) old new idle same = λ accepted. absurd (both_ways _ idle accepted)
+idle_few start past event old new idle same = rw same refl
 
 -- reads alone: the answer is the history's, to an event that changes nothing
 pub joins_by_reads : {start : Room} {past : History} {event : EventModel} {a b : View} {r : Result Answer ShelfFault}
