@@ -1,21 +1,20 @@
 -- A room that is served over the files that held it, and what the files hold then.
-use Rattle.room_program.proofs.Common.{◌≡◌, ◌∙◌, ℕ, zero, suc, List, [], ◌∷◌, Bool, true, false, Option, None, Some}
-use Rattle.room_program.proofs.Common.{Result, Ok, Err, IsTrue, OnOk, inl, inr, refl, sym, ap, subst, true≢false, ◌⊎◌}
-use Rattle.room_program.proofs.Common.{arith, ∥∥₁_map, ∥∥₁_elim, Ghosts, Trees, Database, IsDatabase, Image, recovers}
-use Rattle.room_program.proofs.Common.{view, opens_again, settled_at, FileStore, HasCleanDisk, IsLive, State, Survives}
-use Rattle.room_program.proofs.Common.{Held, AreDatabases, file_state, over_files, HoldsDatabase, IsClosed}
-use Rattle.room_program.proofs.Common.{SubjectModel, Room, fresh_room, View, Known, cached_view, Layout, Fresh}
-use Rattle.room_program.proofs.Common.{Upgraded, has_room, has_a_table, schema_0, room_schema, first_schema}
-use Rattle.room_program.proofs.Common.{IsRoomOfVersion1, IsRoomOfVersion2, under, records_of, SqlShelf, sql_view}
-use Rattle.room_program.proofs.Common.{MayBeTaken, was_clean, History, state_after, RepresentsHistory, StandsFor}
-use Rattle.room_program.proofs.Common.{stand_at_first, ReportKind, Fault, Left, Nothing, Unopened, Copied, Uncopied}
-use Rattle.room_program.proofs.Common.{Kept, Call, opens, closes, leaves, reads, looks, asks, hears, Exchange}
-use Rattle.room_program.proofs.Common.{AcceptsEach, Adopted, Takes, Untaken, Made, Unmade, TakesRoster, OpensStore}
-use Rattle.room_program.proofs.Common.{TakesRoom, IsUnopened, InitEnds, IsAnswered, SelftestEnds, first_sent}
-use Rattle.room_program.proofs.Common.{second_sent, due_answers, Listens, WritesReport, report_text, IsOpenedOver}
-use Rattle.room_program.proofs.Common.{Holds, HoldsRoom, HoldsNothing, MayBeLeft, IsLeftBy, Closes, LetsGo, ActsOn}
-use Rattle.room_program.proofs.Common.{StayUnopened, IsSparedIn, SparesRoom, IsTakenOut, GoesOnBy, ServesSome}
-use Rattle.room_program.proofs.Common.{Comes, Roll, rosters_in}
+use Rattle.room_program.proofs.Common.{◌≡◌, ◌∙◌, ℕ, zero, suc, List, [], ◌∷◌, Bool, true, false, Option, Some, Result}
+use Rattle.room_program.proofs.Common.{Ok, Err, IsTrue, OnOk, inl, inr, refl, sym, ap, subst, true≢false, ◌⊎◌, arith}
+use Rattle.room_program.proofs.Common.{∥∥₁_map, ∥∥₁_elim, Ghosts, Trees, Database, IsDatabase, Image, recovers, view}
+use Rattle.room_program.proofs.Common.{opens_again, settled_at, FileStore, HasCleanDisk, IsLive, State, Survives, Held}
+use Rattle.room_program.proofs.Common.{AreDatabases, file_state, over_files, HoldsDatabase, IsClosed, SubjectModel}
+use Rattle.room_program.proofs.Common.{Room, fresh_room, View, Known, cached_view, Layout, Fresh, Upgraded, has_room}
+use Rattle.room_program.proofs.Common.{has_a_table, schema_0, room_schema, first_schema, IsRoomOfVersion1}
+use Rattle.room_program.proofs.Common.{IsRoomOfVersion2, under, records_of, SqlShelf, sql_view, MayBeTaken, was_clean}
+use Rattle.room_program.proofs.Common.{History, state_after, RepresentsHistory, StandsFor, stand_at_first, ReportKind}
+use Rattle.room_program.proofs.Common.{Fault, Left, Copied, Uncopied, Kept, Call, opens, closes, leaves, reads, looks}
+use Rattle.room_program.proofs.Common.{asks, hears, Exchange, AcceptsEach, Adopted, Takes, Untaken, Made, Unmade}
+use Rattle.room_program.proofs.Common.{TakesRoster, OpensStore, TakesRoom, IsUnopened, InitEnds, IsAnswered}
+use Rattle.room_program.proofs.Common.{SelftestEnds, first_sent, second_sent, due_answers, Listens, WritesReport}
+use Rattle.room_program.proofs.Common.{report_text, IsOpenedOver, Holds, HoldsRoom, HoldsNothing, MayBeLeft, IsLeftBy}
+use Rattle.room_program.proofs.Common.{Closes, LetsGo, ActsOn, StayUnopened, IsSparedIn, SparesRoom, IsTakenOut}
+use Rattle.room_program.proofs.Common.{GoesOnBy, ServesSome, Comes, Roll, rosters_in}
 use Rattle.std.specs.List.{AllZip}
 use Rattle.sqlite_trees.specs.Objects.{catalog_tree}
 use Rattle.sqlite_trees.specs.Props.{Trees-set}
@@ -88,8 +87,7 @@ done_of_written (Err report.WriteFailed) P h = tt
 
 pub unopened : {Shelf : Type 0} (begun : Option Bool) (taken : Shelf) → IsUnopened begun (Ok taken) → ⊥
 unopened (Some true) taken is = is
-unopened (Some false) taken is = is
-unopened None taken is = is
+unopened begun taken is = is
 
 -- connections were served, or none where the port could not be listened on
 pub served : {M C Shelf : Type 0} (does : M → Call C → M → Type 0) (view : Shelf → View)
@@ -216,9 +214,7 @@ module _ {D : Type 0} (g : Ghosts D) where
       }
   closed_holds stays closed (Uncopied why it) found image (live, kept, fails) is_open rests (clean, left) =
       kept_holds stays closed it image live kept is_open rests left.numbered left.left
-  closed_holds stays closed (Unopened rest) found image none is_open rests at = absurd none
-  closed_holds stays closed (Kept it) found image none is_open rests at = absurd none
-  closed_holds stays closed Nothing found image none is_open rests at = absurd none
+  closed_holds stays closed new found image none is_open rests at = absurd none
 
   -- what is kept of one that was given up
   abbrev pub KeptIn : Held (FileStore D g) → Image → Type 0
@@ -237,9 +233,7 @@ module _ {D : Type 0} (g : Ghosts D) where
   closed_in closed (Uncopied why it) found image (live, kept, fails) (clean, left) =
       let all : KeptIn closed image = (it, (kept, clean), left.numbered, left.left) in
       (was_sure closed image all, inr all)
-  closed_in closed (Unopened rest) found image none at = absurd none
-  closed_in closed (Kept it) found image none at = absurd none
-  closed_in closed Nothing found image none at = absurd none
+  closed_in closed new found image none at = absurd none
 
   -- and where it was let go
   pub left_holds : ((file : D) → g.may_leave file (g.seen file)) → (gone : Held (FileStore D g))
@@ -248,10 +242,7 @@ module _ {D : Type 0} (g : Ghosts D) where
       → Holds image (file_state gone).now
   left_holds stays gone (Kept it) found image (live, kept) is_open rests (clean, left) =
       kept_holds stays gone it image live kept.closed is_open rests (kept.numbered clean) left
-  left_holds stays gone (Unopened rest) found image none is_open rests at = absurd none
-  left_holds stays gone (Copied files) found image none is_open rests at = absurd none
-  left_holds stays gone (Uncopied why it) found image none is_open rests at = absurd none
-  left_holds stays gone Nothing found image none is_open rests at = absurd none
+  left_holds stays gone new found image none is_open rests at = absurd none
 
   pub kept_in : (gone : Held (FileStore D g)) (new : Left D g) (found image : Image) → LetsGo gone new
       → IsLeftBy found new image
@@ -259,10 +250,7 @@ module _ {D : Type 0} (g : Ghosts D) where
   kept_in gone (Kept it) found image (live, kept) (clean, left) =
       let all : KeptIn gone image = (it, (kept.closed, clean), kept.numbered clean, left) in
       (was_sure gone image all, all)
-  kept_in gone (Unopened rest) found image none at = absurd none
-  kept_in gone (Copied files) found image none at = absurd none
-  kept_in gone (Uncopied why it) found image none at = absurd none
-  kept_in gone Nothing found image none at = absurd none
+  kept_in gone new found image none at = absurd none
 
 -- a room that the files held
 module _ {D : Type 0} (g : Ghosts D) (image : Image) (start : Room) (past : History)
@@ -401,16 +389,7 @@ module _ {D M : Type 0} (g : Ghosts D) (image : Image) (does : M → Call (Held 
   unopened_left path old new fault.StoreFailed (inr (opened, begun, did, gone)) =
       inr (inr (begun, spared_at_once path old begun new opened did gone))
   unopened_left path old new fault.Memory did = refused path old new _ did
-  unopened_left path old new fault.BadName none = absurd none
-  unopened_left path old new fault.CannotReadRoster none = absurd none
-  unopened_left path old new fault.BadRoster none = absurd none
-  unopened_left path old new fault.RoomExists none = absurd none
-  unopened_left path old new fault.NotARoom none = absurd none
-  unopened_left path old new fault.NetworkFailed none = absurd none
-  unopened_left path old new fault.BadMessage none = absurd none
-  unopened_left path old new fault.ReadFailed none = absurd none
-  unopened_left path old new fault.WriteFailed none = absurd none
-  unopened_left path old new fault.SelftestFailed none = absurd none
+  unopened_left path old new why none = absurd none
 
   -- a room that was not taken is spared
   pub spares : (path : List ℕ) (old new : M) (why : Fault) → TakesRoom does takes path old new (Err why)
@@ -513,15 +492,7 @@ module _ {D M : Type 0} (g : Ghosts D) (image : Image) (does : M → Call (Held 
   unmade owner group opened let_go begun later fault.Memory is gone (none, (rests, same, survives)) =
       spared opened let_go begun later is gone (λ clean. rests) same _ survives
       (λ start past held was. absurd (has_none g image start past held opened is none was))
-  unmade owner group opened let_go begun later fault.BadName is gone none = absurd none
-  unmade owner group opened let_go begun later fault.CannotReadRoster is gone none = absurd none
-  unmade owner group opened let_go begun later fault.BadRoster is gone none = absurd none
-  unmade owner group opened let_go begun later fault.NotARoom is gone none = absurd none
-  unmade owner group opened let_go begun later fault.NetworkFailed is gone none = absurd none
-  unmade owner group opened let_go begun later fault.BadMessage is gone none = absurd none
-  unmade owner group opened let_go begun later fault.ReadFailed is gone none = absurd none
-  unmade owner group opened let_go begun later fault.WriteFailed is gone none = absurd none
-  unmade owner group opened let_go begun later fault.SelftestFailed is gone none = absurd none
+  unmade owner group opened let_go begun later why is gone none = absurd none
 
   -- then the files are spared
   pub not_made : (db owner group : List ℕ) (before later : M) (why : Fault)

@@ -119,12 +119,7 @@ module _ {D M : Type 0} (g : Ghosts D) (image : Image) (does : M → Call (Held 
   job_keeps : (job : Job) (old new : Streams) (status : ℕ) → RunsJob program before later job old new status → Keeps
   job_keeps (Serve db roster port count) old new status (input, output, (done, ends, told)) =
       serve_keeps (string_bytes db) (string_bytes roster) port count done ends
-  job_keeps Check old new status ran = inl (others_keep Check old new status ran)
-  job_keeps (Init db owner group) old new status ran = inl (others_keep (Init db owner group) old new status ran)
-  job_keeps (Report db roster kind) old new status ran = inl (others_keep (Report db roster kind) old new status ran)
-  job_keeps (Replay roster owner group) old new status ran =
-      inl (others_keep (Replay roster owner group) old new status ran)
-  job_keeps Selftest old new status ran = inl (others_keep Selftest old new status ran)
+  job_keeps job old new status ran = inl (others_keep job old new status ran)
 
   pub run_keeps : (words : List Text) (old new : Streams) (status : ℕ)
       → Runs program before later words old new status → Keeps
