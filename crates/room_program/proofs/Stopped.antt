@@ -1,6 +1,6 @@
 -- What a stop in the middle of an event leaves.
-use Rattle.room_program.proofs.Common.{◌≡◌, ◌∙◌, ◌⊎◌, ℕ, List, [], false, refl, sym, ap, subst, inl, inr, ◌∷◌}
-use Rattle.room_program.proofs.Common.{Option, Result, Ok, Err, ∥∥₁_map, Ghosts, outcomes, state, view, files_in}
+use Rattle.room_program.proofs.Common.{◌≡◌, ◌∙◌, ◌⊎◌, ℕ, List, [], false, refl, sym, ap, subst, inl, inr, ◌∷◌, Option}
+use Rattle.room_program.proofs.Common.{Result, Ok, Err, ∥∥₁_map, Ghosts, Trees, outcomes, recovers, view, files_in}
 use Rattle.room_program.proofs.Common.{settled_at, Database, opens_again, Image, FileStore, HasCleanDisk, Survives}
 use Rattle.room_program.proofs.Common.{Held, file_state, over_files, HoldsDatabase, SubjectModel, Room, fresh_room}
 use Rattle.room_program.proofs.Common.{View, LeavesNew, Known, cached_view, Fresh, has_a_table, under, records_of}
@@ -21,34 +21,148 @@ use Rattle.room_program.proofs.Found.{may_room, was_sound, has_none, found_nothi
 use Rattle.room_program.proofs.Found.{found_database}
 use Rattle.room_program.proofs.Restarts.{open_or_more, keeps_room_or_more, report_still}
 
--- A shelf's store is taken out of its connection and closed, and its files have returned what was written
-module _ {D : Type 0} (g : Ghosts D) (was : SqlShelf (FileStore D g) over_files) (it : FileStore D g)
-    (out : IsTakenOut over_files was.conn it)
-    (files : Files D) (closed : (files.log, files.db) ≡ files_in it) (honest : AreClean g files.log files.db) where
-  sure : AreClean g (files_in it).0 (files_in it).1
-  sure = subst (λ (p : D × D). AreClean g p.0 p.1) closed honest
+-- A store was taken out of its connection and closed, and its files have returned what was written
+module _ {D : Type 0} (g : Ghosts D) (shut : Held (FileStore D g)) (it : FileStore D g)
+    (out : IsTakenOut over_files shut it) (files : Files D) (closed : (files.log, files.db) ≡ files_in it)
+    (honest : AreClean g files.log files.db) where
+  sure_in : AreClean g (files_in it).0 (files_in it).1
+  sure_in = subst (λ (p : D × D). AreClean g p.0 p.1) closed honest
 
-  none : IsClean (view it)
-  none = no_doubt _ (clean_is it.pool ∙ sure)
+  none_in : IsClean (view it)
+  none_in = no_doubt _ (clean_is it.pool ∙ sure_in)
 
   -- so had they before
-  pub was_intact : HasCleanDisk (file_state was.conn)
-  was_intact = was_sound g was.conn it out none
+  pub was_in : HasCleanDisk (file_state shut)
+  was_in = was_sound g shut it out none_in
 
-  -- what a crash may leave of them is what it might leave of the shelf
-  pub left_in_files : (sql_view over_files was).leaves_laid_out → (image : Image) → outcomes g files.log files.db image
-      → HoldsRoomWith image (sql_view over_files was).crash_may_leave
-  left_in_files laid image may =
-      let there : (state it).may_leave image
-      = may_leave_is it.pool image sure (subst (λ (p : D × D). outcomes g p.0 p.1 image) closed may) in
-      ∥∥₁_map (opens_again it (out.numbered none) (out.sound none) image there) (λ found.
-      let before = out.quiet.outcomes found.0 found.1 in
-      let (schema, room) = laid found.0 before in (
-        record { schema = schema; trees = found.0 },
-        record { trees = ∣ found.2 ∣₁; sound = room.sound },
-        room,
-        (was_intact, (found.0, before, refl)),
-      ))
+  left_in : (image : Image) → outcomes g files.log files.db image → MayBeLeft it image
+  left_in image may = may_leave_is it.pool image sure_in (subst (λ (p : D × D). outcomes g p.0 p.1 image) closed may)
+
+  -- in the middle of a call
+  module _ (stays : (file : D) → g.may_leave file (g.seen file)) (found : Image) (opened : Held (FileStore D g))
+      (is : IsOpenedOver found opened) (image : Image) (may : outcomes g files.log files.db image) where
+    abbrev Spares : Held (FileStore D g) → Type 0
+    Spares c = Survives (file_state opened) (file_state c) (MayBeTaken (file_state opened))
+
+    spared_by : (taken : Result (SqlShelf (FileStore D g) over_files × Known) (Fault × Held (FileStore D g)))
+        → Takes over_files opened taken → connection_of taken ≡ shut → Spares shut
+    spared_by (Ok taken) adopted same = subst Spares same adopted.2
+    spared_by (Err (why, let_go)) none same = subst Spares same none.spared.2
+
+    -- which took a room
+    pub take_spared : (taken : Result (SqlShelf (FileStore D g) over_files × Known) (Fault × Held (FileStore D g)))
+        → Takes over_files opened taken → connection_of taken ≡ shut → HoldsStill found image
+    take_spared taken takes same start past held =
+        let survives = spared_by taken takes same in
+        may_room g found start past held stays opened is (was_clean survives was_in) it
+        (λ trees left. survives.crash was_in trees (out.quiet.outcomes trees left)) (out.sound none_in)
+        (out.numbered none_in) image (left_in image may)
+
+    -- which made one, or did not
+    module _ (owner group : List ℕ) (why : Fault)
+        (ended : Made over_files owner group opened shut ⊎ Unmade over_files owner group opened shut why) where
+      -- there was a table, and the store is as it was; or none, and a crash leaves what it left, or what is made
+      abbrev Tried : Type 0
+      Tried = (shut ≡ opened) ⊎ ((has_a_table opened.schema ≡ false)
+          × Survives (file_state opened) (file_state shut) (MayBeMade owner group (file_state opened).now))
+
+      not_made : (why : Fault) → Unmade over_files owner group opened shut why → Tried
+      not_made fault.RoomExists (some, same, rests) = inl same
+      not_made fault.StoreFailed (none, (rests, same, survives)) = inr (none, survives)
+      not_made fault.Memory (none, (rests, same, survives)) = inr (none, survives)
+      not_made why none = absurd none
+
+      tried : Tried
+      tried = elim ended [ inl made ↦ inr (made.0, made.3) | inr unmade ↦ not_made why unmade ]
+
+      was_opened : HasCleanDisk (file_state opened)
+      was_opened = elim tried [
+        | inl same ↦ subst (λ c. HasCleanDisk (file_state c)) same was_in
+        | inr (none, survives) ↦ was_clean survives was_in
+      ]
+
+      -- what is found in it was there, or is what is made
+      left_or_made : (trees : Trees) → recovers it trees → (file_state opened).may_leave trees
+          ⊎ ((has_a_table opened.schema ≡ false) × MayBeMade owner group (file_state opened).now trees)
+      left_or_made trees here = elim tried [
+        | inl same ↦ inl (subst (λ c. (file_state c).may_leave trees) same (out.quiet.outcomes trees here))
+        | inr (none, survives) ↦ elim (survives.crash was_in trees (out.quiet.outcomes trees here)) [
+          | inl old ↦ inl old
+          | inr made ↦ inr (none, made)
+        ]
+      ]
+
+      -- and what was there was shown
+      as_opened : (trees : Trees) → (file_state opened).may_leave trees → trees ≡ (file_state opened).now.trees
+      as_opened trees old =
+          let shown = (is was_opened).0.0 in
+          settled_at opened.store stays trees shown.is_open old ∙ sym (ap (λ (d : Database). d.trees) shown.clean)
+
+      pub init_still : HoldsStill found image
+      init_still start past held = elim tried [
+        | inl same ↦ may_room g found start past held stays opened is was_opened it
+            (λ trees left. inl (subst (λ c. (file_state c).may_leave trees) same (out.quiet.outcomes trees left)))
+            (out.sound none_in) (out.numbered none_in) image (left_in image may)
+        | inr (none, survives) ↦ absurd (has_none g found start past held opened is none was_opened)
+      ]
+
+      pub init_fresh : HoldsNothing found → HoldsFreshOrNone image owner group
+      init_fresh empty =
+          let shown = (is was_opened).0 in
+          let schema = found_nothing g found empty opened is was_opened in
+          ∥∥₁_map (opens_again it (out.numbered none_in) (out.sound none_in) image (left_in image may)) (λ one.
+          let (trees, here, holds) = one in
+          elim (left_or_made trees here) [
+            | inl old ↦ inr (
+              (file_state opened).now,
+              record {
+                trees = ∣ subst (HoldsDatabase image) (as_opened trees old) holds ∣₁;
+                sound = (shown.1 shown.0.is_open).0;
+              },
+              schema,
+            )
+            | inr (none, made) ↦
+                let fresh = made.0 schema in
+                inl (record {
+                  db = under Fresh trees;
+                  held = record { trees = ∣ holds ∣₁; sound = fresh.0.room.sound };
+                  room = inl fresh.0.room;
+                  rows = stand_at_first (fresh_room owner group) _ fresh.1.room fresh.1.sessions fresh.1.slots;
+                })
+          ])
+
+      pub init_beside : (db : Database) → Holds found db → HoldsOldOrBeside image db owner group
+      init_beside db held =
+          let now = found_database g found db held opened is was_opened in
+          ∥∥₁_map (opens_again it (out.numbered none_in) (out.sound none_in) image (left_in image may)) (λ one.
+          let (trees, here, holds) = one in
+          elim (left_or_made trees here) [
+            | inl old ↦
+                let there = as_opened trees old ∙ ap (λ (d : Database). d.trees) now in
+                inl (record { trees = ∣ subst (HoldsDatabase image) there holds ∣₁; sound = held.sound })
+            | inr (none, made) ↦
+                let (schema, beside) = made.1 none in
+                let after : Database = record { schema = schema; trees = trees } in
+                let of_db = subst (λ (d : Database). StandsBeside (IsFresh owner group) d after) now beside in
+                inr (after, record { trees = ∣ holds ∣₁; sound = beside.sound }, of_db)
+          ])
+
+-- what a crash may leave of the files of a shelf is what it might leave of the shelf
+pub left_in_files : {D : Type 0} (g : Ghosts D) (was : SqlShelf (FileStore D g) over_files) (it : FileStore D g)
+    (out : IsTakenOut over_files was.conn it) (files : Files D) (closed : (files.log, files.db) ≡ files_in it)
+    (honest : AreClean g files.log files.db) → (sql_view over_files was).leaves_laid_out → (image : Image)
+    → outcomes g files.log files.db image → HoldsRoomWith image (sql_view over_files was).crash_may_leave
+left_in_files g was it out files closed honest laid image may =
+    let none = none_in g was.conn it out files closed honest in
+    let there = left_in g was.conn it out files closed honest image may in
+    ∥∥₁_map (opens_again it (out.numbered none) (out.sound none) image there) (λ found.
+    let before = out.quiet.outcomes found.0 found.1 in
+    let (schema, room) = laid found.0 before in (
+      record { schema = schema; trees = found.0 },
+      record { trees = ∣ found.2 ∣₁; sound = room.sound },
+      room,
+      (was_in g was.conn it out files closed honest, (found.0, before, refl)),
+    ))
 
 -- what a crash may leave of the shelf of a desk stands for one of two histories
 module _ {D : Type 0} {g : Ghosts D} (shelf : SqlShelf (FileStore D g) over_files × Known) where
@@ -70,148 +184,6 @@ module _ {D : Type 0} {g : Ghosts D} (shelf : SqlShelf (FileStore D g) over_file
         | inr with_it ↦ inr (with_it.0, here (event ∷ past) with_it.1)
       ])
 
--- A take that is cut off
-module _ {D : Type 0} (g : Ghosts D) (stays : (file : D) → g.may_leave file (g.seen file)) (found : Image)
-    (opened shut : Held (FileStore D g)) (is : IsOpenedOver found opened) where
-  abbrev Spares : Held (FileStore D g) → Type 0
-  Spares c = Survives (file_state opened) (file_state c) (MayBeTaken (file_state opened))
-
-  spared_by : (taken : Result (SqlShelf (FileStore D g) over_files × Known) (Fault × Held (FileStore D g)))
-      → Takes over_files opened taken → connection_of taken ≡ shut → Spares shut
-  spared_by (Ok taken) adopted same = subst Spares same adopted.2
-  spared_by (Err (why, let_go)) none same = subst Spares same none.spared.2
-
-  pub take_spared : (taken : Result (SqlShelf (FileStore D g) over_files × Known) (Fault × Held (FileStore D g)))
-      → Takes over_files opened taken → connection_of taken ≡ shut → (it : FileStore D g)
-      → IsTakenOut over_files shut it → (files : Files D) → (files.log, files.db) ≡ files_in it
-      → AreClean g files.log files.db → (image : Image) → outcomes g files.log files.db image → HoldsStill found image
-  take_spared taken takes same it out files closed honest image may start past held =
-      let sure = subst (λ (p : D × D). AreClean g p.0 p.1) closed honest in
-      let none : IsClean (view it) = no_doubt _ (clean_is it.pool ∙ sure) in
-      let there : (state it).may_leave image
-      = may_leave_is it.pool image sure (subst (λ (p : D × D). outcomes g p.0 p.1 image) closed may) in
-      let clean = was_sound g shut it out none in
-      let survives = spared_by taken takes same in
-      may_room g found start past held stays opened is (was_clean survives clean) it
-      (λ trees left. survives.crash clean trees (out.quiet.outcomes trees left)) (out.sound none) (out.numbered none)
-      image there
-
--- A store was taken out of its connection and closed
-module _ {D : Type 0} (g : Ghosts D) (shut : Held (FileStore D g)) (it : FileStore D g)
-    (out : IsTakenOut over_files shut it) (files : Files D) (closed : (files.log, files.db) ≡ files_in it)
-    (honest : AreClean g files.log files.db) (stays : (file : D) → g.may_leave file (g.seen file)) where
-  sure_in : AreClean g (files_in it).0 (files_in it).1
-  sure_in = subst (λ (p : D × D). AreClean g p.0 p.1) closed honest
-
-  none_in : IsClean (view it)
-  none_in = no_doubt _ (clean_is it.pool ∙ sure_in)
-
-  was_in : HasCleanDisk (file_state shut)
-  was_in = was_sound g shut it out none_in
-
-  left_in : (image : Image) → outcomes g files.log files.db image → MayBeLeft it image
-  left_in image may = may_leave_is it.pool image sure_in (subst (λ (p : D × D). outcomes g p.0 p.1 image) closed may)
-
-  -- in the middle of an `init`
-  module _ (found : Image) (opened : Held (FileStore D g)) (is : IsOpenedOver found opened) (owner group : List ℕ)
-      (why : Fault) (image : Image) (may : outcomes g files.log files.db image) where
-    abbrev Ended : Type 0
-    Ended = Made over_files owner group opened shut ⊎ Unmade over_files owner group opened shut why
-
-    -- there was a table, and the store is as it was; or none, and a crash leaves what it left, or what is made
-    abbrev Tried : Type 0
-    Tried = (shut ≡ opened) ⊎ ((has_a_table opened.schema ≡ false)
-        × Survives (file_state opened) (file_state shut) (MayBeMade owner group (file_state opened).now))
-
-    not_made : (why : Fault) → Unmade over_files owner group opened shut why → Tried
-    not_made fault.RoomExists (some, same, rests) = inl same
-    not_made fault.StoreFailed (none, (rests, same, survives)) = inr (none, survives)
-    not_made fault.Memory (none, (rests, same, survives)) = inr (none, survives)
-    not_made fault.BadName none = absurd none
-    not_made fault.CannotReadRoster none = absurd none
-    not_made fault.BadRoster none = absurd none
-    not_made fault.NotARoom none = absurd none
-    not_made fault.NetworkFailed none = absurd none
-    not_made fault.BadMessage none = absurd none
-    not_made fault.ReadFailed none = absurd none
-    not_made fault.WriteFailed none = absurd none
-    not_made fault.SelftestFailed none = absurd none
-
-    tried : Ended → Tried
-    tried (inl made) = inr (made.0, made.3)
-    tried (inr unmade) = not_made why unmade
-
-    pub init_still : Ended → HoldsStill found image
-    init_still ended start past held = elim (tried ended) [
-      | inl same ↦ may_room g found start past held stays opened is
-          (subst (λ c. HasCleanDisk (file_state c)) same was_in) it
-          (λ trees left. inl (subst (λ c. (file_state c).may_leave trees) same (out.quiet.outcomes trees left)))
-          (out.sound none_in) (out.numbered none_in) image (left_in image may)
-      | inr (none, survives) ↦ absurd (has_none g found start past held opened is none (was_clean survives was_in))
-    ]
-
-    pub init_fresh : Ended → HoldsNothing found → HoldsFreshOrNone image owner group
-    init_fresh ended empty =
-        let either = tried ended in
-        let was : HasCleanDisk (file_state opened) = elim either [
-          | inl same ↦ subst (λ c. HasCleanDisk (file_state c)) same was_in
-          | inr (none, survives) ↦ was_clean survives was_in
-        ] in
-        let (shown, finds, plain) = is was in
-        let schema = found_nothing g found empty opened is was in
-        ∥∥₁_map (opens_again it (out.numbered none_in) (out.sound none_in) image (left_in image may)) (λ one.
-        let (trees, here, holds) = one in
-        let may_be : (file_state opened).may_leave trees ⊎ MayBeMade owner group (file_state opened).now trees =
-        elim either [
-          | inl same ↦ inl (subst (λ c. (file_state c).may_leave trees) same (out.quiet.outcomes trees here))
-          | inr (none, survives) ↦ survives.crash was_in trees (out.quiet.outcomes trees here)
-        ] in elim may_be [
-          | inl old ↦
-              let there = settled_at opened.store stays trees shown.0.is_open old
-              ∙ sym (ap (λ (d : Database). d.trees) shown.0.clean) in
-              inr (
-                (file_state opened).now,
-                record { trees = ∣ subst (HoldsDatabase image) there holds ∣₁; sound = (shown.1 shown.0.is_open).0 },
-                schema,
-              )
-          | inr made ↦
-              let fresh = made.0 schema in
-              inl (record {
-                db = under Fresh trees;
-                held = record { trees = ∣ holds ∣₁; sound = fresh.0.room.sound };
-                room = inl fresh.0.room;
-                rows = stand_at_first (fresh_room owner group) _ fresh.1.room fresh.1.sessions fresh.1.slots;
-              })
-        ])
-
-    pub init_beside : Ended → (db : Database) → Holds found db → HoldsOldOrBeside image db owner group
-    init_beside ended db held =
-        let either = tried ended in
-        let was : HasCleanDisk (file_state opened) = elim either [
-          | inl same ↦ subst (λ c. HasCleanDisk (file_state c)) same was_in
-          | inr (none, survives) ↦ was_clean survives was_in
-        ] in
-        let (shown, finds, plain) = is was in
-        let now = found_database g found db held opened is was in
-        ∥∥₁_map (opens_again it (out.numbered none_in) (out.sound none_in) image (left_in image may)) (λ one.
-        let (trees, here, holds) = one in
-        let as_it_was : (file_state opened).may_leave trees → Holds image db = λ old.
-        let there = settled_at opened.store stays trees shown.0.is_open old
-        ∙ sym (ap (λ (d : Database). d.trees) shown.0.clean) ∙ ap (λ (d : Database). d.trees) now in
-        record { trees = ∣ subst (HoldsDatabase image) there holds ∣₁; sound = held.sound } in
-        elim either [
-          | inl same ↦
-              inl (as_it_was (subst (λ c. (file_state c).may_leave trees) same (out.quiet.outcomes trees here)))
-          | inr (none, survives) ↦ elim (survives.crash was_in trees (out.quiet.outcomes trees here)) [
-            | inl old ↦ inl (as_it_was old)
-            | inr made ↦
-                let (schema, beside) = made.1 none in
-                let after : Database = record { schema = schema; trees = trees } in
-                let of_db = subst (λ (d : Database). StandsBeside (IsFresh owner group) d after) now beside in
-                inr (after, record { trees = ∣ holds ∣₁; sound = beside.sound }, of_db)
-          ]
-        ])
-
 -- A report that is cut off
 pub report_cut_off : {D : Type 0} (g : Ghosts D) (last : SqlShelf (FileStore D g) over_files × Known)
     (it : FileStore D g) (out : IsTakenOut over_files last.0.conn it) (files : Files D)
@@ -224,10 +196,10 @@ pub report_cut_off : {D : Type 0} (g : Ghosts D) (last : SqlShelf (FileStore D g
     → (image : Image) → outcomes g files.log files.db image → HoldsStill found image
 report_cut_off g last it out files closed honest stays found opened taken is adopted kind users old new done writes
     image may =
-    let none : IsClean (view it) = none_in g last.0.conn it out files closed honest stays in
     report_still g found image opened taken last is adopted stays kind users old new done writes
-    (was_in g last.0.conn it out files closed honest stays) it out.quiet.outcomes (out.numbered none)
-    (left_in g last.0.conn it out files closed honest stays image may)
+    (was_in g last.0.conn it out files closed honest) it out.quiet.outcomes
+    (out.numbered (none_in g last.0.conn it out files closed honest))
+    (left_in g last.0.conn it out files closed honest image may)
 
 -- A close that is cut off
 module _ {D : Type 0} (g : Ghosts D) (stays : (file : D) → g.may_leave file (g.seen file))
