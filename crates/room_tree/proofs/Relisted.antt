@@ -15,9 +15,9 @@ use Rattle.room_tree.proofs.Changed.{replaced_plans}
 use Rattle.room_tree.proofs.Checking.{there}
 use Rattle.room_tree.proofs.ListsRenewed.{lists_renewed, lists_away, list_above_stays}
 use Rattle.room_tree.proofs.OwnPart.{root_or_below}
-use Rattle.room_tree.proofs.Renewed.{Puts, put, Relists, IsChangeOf, list_then_is, changes_list, puts_relist}
-use Rattle.room_tree.proofs.Renewed.{stored_at, nodes_stay, documents_stay, next_stays, relisted_at, relisted_off}
-use Rattle.room_tree.proofs.Renewed.{relisted_of_objects, relisted_rules, relisted_few}
+use Rattle.room_tree.proofs.Renewed.{Puts, put, Relists, IsChangeOf, list_then_is, changes_list, puts_relist, stored_at}
+use Rattle.room_tree.proofs.Renewed.{only_entries, relisted_at, relisted_off, relisted_of_objects, relisted_rules}
+use Rattle.room_tree.proofs.Renewed.{relisted_few}
 use Rattle.room_tree.proofs.RowsReplaced.{Replaces, changed_at, stood_there}
 use Rattle.room_tree.proofs.StoredLists.{stored_list}
 
@@ -93,7 +93,7 @@ module _ {t : ObjectRecords} {room : Room} (stand : RepresentsRoom t room) {path
       later = apply_all_to_objects (PutNode now ∷ map put puts) t
 
       node_after : (id : ℕ) → later.node id ≡ first.node id
-      node_after id = ap (λ (f : ℕ → Option Node). f id) (nodes_stay puts first)
+      node_after id = ap (λ (f : ℕ → Option Node). f id) (only_entries puts first).0
 
       lists_below : (q : Path) (id : ℕ) → HasPath t q id → later.entries id ≡ list_of after q
       lists_below q id at = by_test (is_at_or_below q path) refl
@@ -119,7 +119,7 @@ module _ {t : ObjectRecords} {room : Room} (stand : RepresentsRoom t room) {path
           let shows = found.is_there.shows in
           record {
             is_there = found.is_there;
-            keeps = λ q. names_by_shape t later (shape_with t first later (nodes_stay puts first)
+            keeps = λ q. names_by_shape t later (shape_with t first later (only_entries puts first).0
                 (shape_put t stand.rules (node_of loaded) now found.is_there.node_stands same_place)) (reverse q);
             rules = rules_after.1;
             stands = node_after loaded.id ∙ if_same loaded.id loaded.id (Some now) (t.node loaded.id) refl;
@@ -130,12 +130,12 @@ module _ {t : ObjectRecords} {room : Room} (stand : RepresentsRoom t room) {path
               aclflag = refl;
               entries = lists_below path loaded.id found.is_there.at;
               bytes = ap (λ (f : ℕ → Option (List ℕ)). unwrap_or (f loaded.id) [])
-                  (documents_stay puts first) ∙ shows.bytes;
+                  (only_entries puts first).1 ∙ shows.bytes;
             };
             nodes_away = λ id other. node_after id ∙ if_other id loaded.id (Some now) (t.node id) other;
             lists_away = λ q id at other. lists_below q id at;
-            documents_away = λ id other. ap (λ (f : ℕ → Option (List ℕ)). f id) (documents_stay puts first);
-            next = ap (λ n. n + room.left) (next_stays puts first) ∙ stand.next;
+            documents_away = λ id other. ap (λ (f : ℕ → Option (List ℕ)). f id) (only_entries puts first).1;
+            next = ap (λ n. n + room.left) (only_entries puts first).2 ∙ stand.next;
             lawful = setlist_is_room room caller flag sent path stand.lawful passed;
             at_path = at_path;
             away = λ q p other there. elsewhere_unchanged room path change q other ∙ there;

@@ -3,13 +3,12 @@ use Rattle.room_tree.proofs.Common.{common_steps, ◌≡◌, ◌≢◌, ℕ, ◌
 use Rattle.room_tree.proofs.Common.{not, cond, eqb, ◌||◌, ◌⊎◌, inl, inr, List, [], ◌∷◌, ◌++◌, map, reverse, append-nil}
 use Rattle.room_tree.proofs.Common.{Option, None, Some, IsTrue, MatchOption, eq-eqb, Vec, is_some, Global}
 use Rattle.room_tree.proofs.Common.{AllByRecursion, list_any, eqb-true, map-append, append_cancel_left, sum_by-cons}
-use Rattle.room_tree.proofs.Common.{or-true, EntryModel, Node, Change, PutNode, DropNode, PutEntries, PutDoc}
-use Rattle.room_tree.proofs.Common.{PutSession, PutSlot, DropSlots, PutNext, Path, ObjectRecords, ObjectRules}
-use Rattle.room_tree.proofs.Common.{apply_to_objects, apply_all_to_objects, IsOfObjects, ObjectRulesHoldAfterEach, Room}
-use Rattle.room_tree.proofs.Common.{list_of, RepresentsRoom, HasPath, reads_one, same_or_other, if_same, if_other}
-use Rattle.room_tree.proofs.Common.{rules_put_entries, is_at_or_below, at_behind, not_both, LoadedObject, IsLoaded}
-use Rattle.room_tree.proofs.Common.{list_below, IsRenewed, IsRenewal, RenewsBelow, PutsList, ChangesFewRows}
-use Rattle.room_tree.proofs.Common.{puts_entries, puts_entries_of}
+use Rattle.room_tree.proofs.Common.{or-true, EntryModel, Node, Change, PutNode, PutEntries, Path, ObjectRecords}
+use Rattle.room_tree.proofs.Common.{ObjectRules, apply_to_objects, apply_all_to_objects, IsOfObjects}
+use Rattle.room_tree.proofs.Common.{ObjectRulesHoldAfterEach, Room, list_of, RepresentsRoom, HasPath, reads_one}
+use Rattle.room_tree.proofs.Common.{same_or_other, if_same, if_other, rules_put_entries, is_at_or_below, at_behind}
+use Rattle.room_tree.proofs.Common.{not_both, LoadedObject, IsLoaded, list_below, IsRenewed, IsRenewal, RenewsBelow}
+use Rattle.room_tree.proofs.Common.{PutsList, ChangesFewRows, puts_entries, puts_entries_of, all_append}
 use Rattle.std.proofs.Common.{count_by}
 use Rattle.std.proofs.lemmas.List.Folds.{list_any-append}
 use Rattle.room_tree.proofs.ListsRenewed.{lists_stay}
@@ -32,23 +31,12 @@ pub each_weaker : (P Q : ℕ → List EntryModel → Type 0)
 each_weaker P Q weaker [] each = tt
 each_weaker P Q weaker (p ∷ puts) each = (weaker p.0 p.1.items each.0, each_weaker P Q weaker puts each.1)
 
-each_append : (P : ℕ → List EntryModel → Type 0) (puts others : Puts)
-    → EachPut P puts → EachPut P others → EachPut P (puts ++ others)
-each_append P [] others each rest = rest
-each_append P (p ∷ puts) others each rest = (each.0, each_append P puts others each.1 rest)
-
 -- they change entries alone
-pub nodes_stay : (puts : Puts) (s : ObjectRecords) → (apply_all_to_objects (map put puts) s).node ≡ s.node
-nodes_stay [] s = refl
-nodes_stay (p ∷ puts) s = nodes_stay puts (apply_to_objects (put p) s)
-
-pub documents_stay : (puts : Puts) (s : ObjectRecords) → (apply_all_to_objects (map put puts) s).document ≡ s.document
-documents_stay [] s = refl
-documents_stay (p ∷ puts) s = documents_stay puts (apply_to_objects (put p) s)
-
-pub next_stays : (puts : Puts) (s : ObjectRecords) → (apply_all_to_objects (map put puts) s).next ≡ s.next
-next_stays [] s = refl
-next_stays (p ∷ puts) s = next_stays puts (apply_to_objects (put p) s)
+pub only_entries : (puts : Puts) (s : ObjectRecords) → ((apply_all_to_objects (map put puts) s).node ≡ s.node)
+    × ((apply_all_to_objects (map put puts) s).document ≡ s.document)
+    × ((apply_all_to_objects (map put puts) s).next ≡ s.next)
+only_entries [] s = (refl, refl, refl)
+only_entries (p ∷ puts) s = only_entries puts (apply_to_objects (put p) s)
 
 pub of_objects : (puts : Puts) → AllByRecursion IsOfObjects (map put puts)
 of_objects [] = tt
@@ -135,13 +123,7 @@ split_renewals t room path list [] each = ([], refl, tt)
 split_renewals t room path list (PutEntries id entries ∷ changes) each =
     let rest = split_renewals t room path list changes each.1 in
     ((id, entries) ∷ rest.0, ap (λ (cs : List Change). PutEntries id entries ∷ cs) rest.1, (each.0, rest.2))
-split_renewals t room path list (PutNode node ∷ changes) each = absurd each.0
-split_renewals t room path list (DropNode id ∷ changes) each = absurd each.0
-split_renewals t room path list (PutDoc id bytes ∷ changes) each = absurd each.0
-split_renewals t room path list (PutSession row ∷ changes) each = absurd each.0
-split_renewals t room path list (PutSlot row ∷ changes) each = absurd each.0
-split_renewals t room path list (DropSlots sid ∷ changes) each = absurd each.0
-split_renewals t room path list (PutNext next ∷ changes) each = absurd each.0
+split_renewals t room path list (change ∷ changes) each = absurd each.0
 
 -- entries put for an object at or below a path: the list that it has from then on, and has not yet
 pub record IsRelisted (t : ObjectRecords) (room : Room) (path : Path)
@@ -244,7 +226,7 @@ module _ {t : ObjectRecords} {room : Room} (stand : RepresentsRoom t room) (path
         let top : IsRelisted t room path list.items id list.items =
         record { rest = []; at = rw (append-nil path) here; is_list = refl; changes = changes } in
         record {
-          each = each_append (IsRelisted t room path list.items) below ((id, list) ∷ []) weaker (top, tt);
+          each = all_append _ below ((id, list) ∷ []) weaker (top, tt);
           every = put_or_kept;
           once = once_in_whole;
         }
@@ -336,7 +318,7 @@ module _ {t : ObjectRecords} {room : Room} (stand : RepresentsRoom t room) {path
         let new = (put_found (IsRelisted t room path list) puts id r.each found).1 in
         let node = node_at_path stand (path ++ new.rest) id new.at in
         let after = there_after id node.0 node.1 in
-        ap is_some (ap (λ (f : ℕ → Option Node). f id) (nodes_stay puts first) ∙ after.1);
+        ap is_some (ap (λ (f : ℕ → Option Node). f id) (only_entries puts first).0 ∙ after.1);
     others =
         let more =
         sum_by-cons (λ (change : Change). cond (not (puts_entries change)) 1 0) (PutNode now) (map put puts) in

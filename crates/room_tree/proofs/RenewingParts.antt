@@ -3,10 +3,9 @@ use Rattle.room_tree.proofs.Common.{◌≡◌, ◌≢◌, ℕ, ◌+◌, ◌≤�
 use Rattle.room_tree.proofs.Common.{eqb, eq-eqb, ◌||◌, ◌⊎◌, inl, inr, List, [], ◌∷◌, ◌++◌, reverse, append_assoc, Vec}
 use Rattle.room_tree.proofs.Common.{IsTrue, AllByRecursion, count_by, list_any, Global, eqb-true, append_cancel_left}
 use Rattle.room_tree.proofs.Common.{sum_by-cons, sum_by-append, count_by-le-length, or-true, EntryModel, Change}
-use Rattle.room_tree.proofs.Common.{PutNode, DropNode, PutEntries, PutDoc, PutSession, PutSlot, DropSlots, PutNext}
-use Rattle.room_tree.proofs.Common.{Name, Path, ObjectRecords, ObjectRules, Room, list_of, HasPath, RepresentsRoom}
-use Rattle.room_tree.proofs.Common.{all_append, reads_one, list_below, IsRenewed, IsRenewal, RenewsBelow}
-use Rattle.room_tree.proofs.Common.{puts_entries_of}
+use Rattle.room_tree.proofs.Common.{PutEntries, Name, Path, ObjectRecords, ObjectRules, Room, list_of, HasPath}
+use Rattle.room_tree.proofs.Common.{RepresentsRoom, all_append, reads_one, list_below, IsRenewed, IsRenewal}
+use Rattle.room_tree.proofs.Common.{RenewsBelow, puts_entries_of}
 use Rattle.std.proofs.lemmas.List.Folds.{list_any-append}
 use Rattle.room_tree.proofs.Renewed.{one_if, split_renewals, put_found}
 use Rattle.room_tree.proofs.ListsRenewed.{lists_stay}
@@ -153,13 +152,7 @@ module _ (t : ObjectRecords) (room : Room) (path : Path) (list : List EntryModel
         → AllByRecursion (IsRenewal t room path list) changes
     all_above [] each = tt
     all_above (PutEntries id entries ∷ changes) each = (renewed_above id entries.items each.0, all_above changes each.1)
-    all_above (PutNode node ∷ changes) each = absurd each.0
-    all_above (DropNode id ∷ changes) each = absurd each.0
-    all_above (PutDoc id bytes ∷ changes) each = absurd each.0
-    all_above (PutSession row ∷ changes) each = absurd each.0
-    all_above (PutSlot row ∷ changes) each = absurd each.0
-    all_above (DropSlots sid ∷ changes) each = absurd each.0
-    all_above (PutNext next ∷ changes) each = absurd each.0
+    all_above (change ∷ changes) each = absurd each.0
 
     renews_further : (changes : List Change) → RenewsBelow t room (path ++ name ∷ []) given changes
         → Renews t room path list (GoesOnFrom name) changes

@@ -10,8 +10,7 @@ use Rattle.room_tree.proofs.Common.{object_at_node, some_is, ends, same_or_other
 use Rattle.room_tree.proofs.Common.{names_by_shape, is_at_or_below, renamed, moved, at_behind, same_or_other_path}
 use Rattle.room_tree.proofs.Common.{rest_below, not_both, at_moved, Stands, Moved, Stayed, stands_after, list_below}
 use Rattle.room_tree.proofs.ListsMoved.{list_of_stayed, lists_of_moved}
-use Rattle.room_tree.proofs.Renewed.{Puts, put, Relists, nodes_stay, documents_stay, next_stays, relisted_at}
-use Rattle.room_tree.proofs.Renewed.{relisted_off, relisted_rules}
+use Rattle.room_tree.proofs.Renewed.{Puts, put, Relists, only_entries, relisted_at, relisted_off, relisted_rules}
 use Rattle.room_tree.proofs.RowsPut.{rules_put_free, no_child}
 use Rattle.room_tree.proofs.RowsReplaced.{path_of_node, Replaces}
 use Rattle.room_tree.proofs.StoredLists.{node_at_path, stored_list}
@@ -216,7 +215,7 @@ module _ {t : ObjectRecords} {room : Room} (stand : RepresentsRoom t room) {path
     rules_after = relisted_rules stand r now rules_moved
 
     row_after : (id : ℕ) → rows.node id ≡ later.node id
-    row_after id = ap (λ (f : ℕ → Option Node). f id) (nodes_stay puts later)
+    row_after id = ap (λ (f : ℕ → Option Node). f id) (only_entries puts later).0
 
     -- each object stands at its new path, and nothing else does
     pub moves : Replaces t rows room (renamed room path to) (moved path to) path o o node now
@@ -224,7 +223,7 @@ module _ {t : ObjectRecords} {room : Room} (stand : RepresentsRoom t room) {path
         let stays = m.is_there.shows in
         record {
           is_there = m.is_there;
-          keeps = λ q id at. names_by_shape later rows (shape_itself later rows (nodes_stay puts later))
+          keeps = λ q id at. names_by_shape later rows (shape_itself later rows (only_entries puts later).0)
               (reverse (moved path to q)) id (keeps_place q id at);
           rules = rules_after.1;
           stands = row_after node.id ∙ here node.id refl;
@@ -234,13 +233,13 @@ module _ {t : ObjectRecords} {room : Room} (stand : RepresentsRoom t room) {path
             group = stays.group;
             aclflag = stays.aclflag;
             entries = lists_after path node.id m.is_there.at;
-            bytes = ap (λ (f : ℕ → Option (List ℕ)). unwrap_or (f node.id) []) (documents_stay puts later)
+            bytes = ap (λ (f : ℕ → Option (List ℕ)). unwrap_or (f node.id) []) (only_entries puts later).1
                 ∙ stays.bytes;
           };
           nodes_away = λ id other. row_after id ∙ away id other;
           lists_away = λ q id at other. lists_after q id at;
-          documents_away = λ id other. ap (λ (f : ℕ → Option (List ℕ)). f id) (documents_stay puts later);
-          next = ap (λ n. n + room.left) (next_stays puts later) ∙ stand.next;
+          documents_away = λ id other. ap (λ (f : ℕ → Option (List ℕ)). f id) (only_entries puts later).1;
+          next = ap (λ n. n + room.left) (only_entries puts later).2 ∙ stand.next;
           lawful = m.lawful;
           at_path = at_new path o m.is_there.object_stands;
           away = λ q p other. at_new q p;
