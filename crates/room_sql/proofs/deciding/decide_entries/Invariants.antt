@@ -9,9 +9,12 @@ abbrev pub invariant-rows : goal.invariant-rows
 invariant-rows g l =
     let old = state g.S.Store l.fn.conn in
     let now = state g.S.Store l.rows.conn.now in
-    (l.rows.conn.ghost_name ≡ l.initial.rows.conn.ghost_name) × Survives old now (λ _. ⊥)
-    × (HasCleanDisk now → IsUnchanged old now)
-    × (l.fn.conn.in_transaction ≡ false → l.rows.conn.now.in_transaction ≡ false)
-    × (HasCleanDisk now → (given : List Row)
-    × HasGiven g.S.Store read_entries_text (Int (pos l.id) ∷ []) l.rows.conn.now given
-    × IsAfter l.subject l.standing l.fn.wanted given l.pending × (length given ≡ l.counter))
+    record {
+      same_reference : l.rows.conn.ghost_name ≡ l.initial.rows.conn.ghost_name;
+      survives : Survives old now (λ _. ⊥);
+      same : HasCleanDisk now → IsUnchanged old now;
+      mode : l.fn.conn.in_transaction ≡ false → l.rows.conn.now.in_transaction ≡ false;
+      given : HasCleanDisk now → (rows : List Row)
+          × HasGiven g.S.Store read_entries_text (Int (pos l.id) ∷ []) l.rows.conn.now rows
+          × IsAfter l.subject l.standing l.fn.wanted rows l.pending × (length rows ≡ l.counter);
+    }
