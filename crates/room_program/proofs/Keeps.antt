@@ -1,17 +1,22 @@
--- A run, whatever it is asked: a room that the files held is in those that it leaves.
-use Rattle.room_program.proofs.Common.{◌≡◌, ◌∙◌, ◌⊎◌, ℕ, List, Option, Result, Ok, Err, ap, inl, inr, string_bytes}
-use Rattle.room_program.proofs.Common.{Ghosts, Image, FileStore, Held, over_files, SubjectModel, View, Known}
-use Rattle.room_program.proofs.Common.{cached_view, SqlShelf, sql_view, Check, Init, Replay, Serve, Report, Selftest}
-use Rattle.room_program.proofs.Common.{ReportKind, Fault, Left, Nothing, Exchange, Call, closes, InitEnds, Takes}
-use Rattle.room_program.proofs.Common.{TakesRoom, TakesRoster, Made, Unmade, Reports, ServesRoom, HoldsStill, IsLeftBy}
-use Rattle.room_program.proofs.Common.{ActsOn, SeesSums, KeepsRoomOrMore, Means, Streams, Runs, RunsJob, means}
-use Rattle.room_program.proofs.Common.{GaveOnce, Rosters, rosters_in}
+-- A run, whatever it is asked: a room that the files held is in those that it leaves, and it takes the attempts that it
+-- was sent.
+use Rattle.room_program.proofs.Common.{◌≡◌, ◌∙◌, ◌⊎◌, ℕ, List, [], sym, subst, Attempt, Comes, Option, Result, Ok, Err}
+use Rattle.room_program.proofs.Common.{ap, inl, inr, string_bytes, Ghosts, Image, FileStore, Held, over_files}
+use Rattle.room_program.proofs.Common.{SubjectModel, View, Known, cached_view, SqlShelf, sql_view, Check, Init, Replay}
+use Rattle.room_program.proofs.Common.{Serve, Report, Selftest, ReportKind, Fault, Left, Nothing, Exchange, Call}
+use Rattle.room_program.proofs.Common.{closes, InitEnds, Takes, TakesRoom, TakesRoster, Made, Unmade, Reports}
+use Rattle.room_program.proofs.Common.{ServesRoom, HoldsStill, IsLeftBy, ActsOn, SeesSums, KeepsRoomOrMore, Means}
+use Rattle.room_program.proofs.Common.{Streams, Runs, RunsJob, means, GaveOnce, Rosters, rosters_in}
 use Rattle.std.specs.List.{AllByRecursion}
 use Rattle.clap.specs.Words.{Text}
 use Rattle.room_words.specs.declared.job.Job.{Job}
+use Rattle.room_program.specs.ClientFiles.{TakesAttempts, sent_to_run}
+use Rattle.room_desk.proofs.ClientStreams.{Brings, brings_none}
+use Rattle.room_program.proofs.ClientFiles.{brings_over, close_takes, still_takes}
 use Rattle.room_program.proofs.Found.{closed_in, made_on, roster_left, replay_left, selftest_left}
 use Rattle.room_program.proofs.Rolls.{gave_all, gave_first}
 use Rattle.room_program.proofs.Restarts.{as_found, unopened_still, served_shut, reported_run, untaken_run, unmade_run}
+use Rattle.room_program.proofs.Restarts.{took, settled, shelf_view}
 
 module _ {D M : Type 0} (g : Ghosts D) (image : Image) (does : M → Call (Held (FileStore D g)) → M → Type 0)
     (left : M → Left D g) (stays : (file : D) → g.may_leave file (g.seen file))
@@ -41,11 +46,11 @@ module _ {D M : Type 0} (g : Ghosts D) (image : Image) (does : M → Call (Held 
   Keeps = HoldsStill image one ⊎ ((roster : List ℕ) × (rosters : Rosters)
       × AllByRecursion (GaveOnce does roster) rosters × KeepsRoomOrMore rosters image one)
 
-  pub as_it_was : left later ≡ left before → HoldsStill image one
+  as_it_was : left later ≡ left before → HoldsStill image one
   as_it_was same = as_found g image does left stays tells one
       (unopened_still g image does left stays tells before later one none same at)
 
-  pub untaken_keeps : (roster db : List ℕ) (users : List SubjectModel) (read : M) (why : Fault)
+  untaken_keeps : (roster db : List ℕ) (users : List SubjectModel) (read : M) (why : Fault)
       → TakesRoster does roster before read (Ok users) → TakesRoom does takes db read later (Err why)
       → HoldsStill image one
   untaken_keeps roster db users read why took untook =
@@ -94,11 +99,11 @@ module _ {D M : Type 0} (g : Ghosts D) (image : Image) (does : M → Call (Held 
       writes gone at
 
   -- of a run of any other job than a `serve`
-  abbrev pub Others : Job → Type 0
+  abbrev Others : Job → Type 0
   Others (Serve db roster port count) = Unit {0}
   Others job = HoldsStill image one
 
-  pub others_keep : (job : Job) (old new : Streams) (status : ℕ) → RunsJob program before later job old new status
+  others_keep : (job : Job) (old new : Streams) (status : ℕ) → RunsJob program before later job old new status
       → Others job
   others_keep (Init db owner group) old new status (input, output, (done, ends, told)) =
       init_keeps (string_bytes db) (string_bytes owner) (string_bytes group) done ends
@@ -125,3 +130,85 @@ module _ {D M : Type 0} (g : Ghosts D) (image : Image) (does : M → Call (Held 
       → Runs program before later words old new status → Keeps
   run_keeps words old new status (Ok job, is, ran) = job_keeps job old new status ran
   run_keeps words old new status (Err why, is, (same, unread, told)) = inl (as_it_was (ap left same))
+
+  -- so it takes the attempts that it was sent
+  still : HoldsStill image one → TakesAttempts [] image one
+  still = still_takes image one
+
+  closed_takes : (db : List ℕ) (read taken over : M) (shelf last : Taken)
+      (sent : List Attempt) → TakesRoom does takes db read taken (Ok shelf)
+      → Brings (shelf_view g stays) shelf last sent → does over (closes last.0.conn) later
+      → TakesAttempts sent image one
+  closed_takes db read taken over shelf last sent room brings closed =
+      let (opened, is, adopted) = took g image does left stays tells db read taken shelf room in
+      close_takes g stays image opened shelf last is adopted sent brings (left later)
+      (tells over later (closes last.0.conn) closed) one at
+
+  -- nothing was served
+  brings_same : (shelf last : Taken) → last ≡ shelf → Brings (shelf_view g stays) shelf last []
+  brings_same shelf last same =
+      subst (λ s. Brings (shelf_view g stays) shelf s []) (sym same) (brings_none (shelf_view g stays) shelf)
+
+  pub run_takes : (words : List Text) (old new : Streams) (status : ℕ)
+      (ran : Runs program before later words old new status)
+      → TakesAttempts (sent_to_run program before later words old new status ran) image one
+  run_takes words old new status (
+    Ok (Serve db roster port count),
+    reads,
+    (
+      input,
+      output,
+      (
+        Ok done,
+        inr (first, read, took_roll, inr (shelf, last, taken, over, room, inr (bound, did, all), closed)),
+        told,
+      ),
+    ),
+  ) =
+      closed_takes (string_bytes db) read taken over shelf last _ room
+      (brings_over (shelf_view g stays) (settled g stays) (Comes does accepts (string_bytes roster)) count
+      (bound, first) (over, all.served.0) shelf last all.served.1) closed
+  run_takes words old new status (
+    Ok (Serve db roster port count),
+    reads,
+    (
+      input,
+      output,
+      (
+        Err fault,
+        inr (first, read, took_roll, inr (shelf, last, taken, over, room, inr (bound, did, all), closed)),
+        told,
+      ),
+    ),
+  ) =
+      closed_takes (string_bytes db) read taken over shelf last _ room
+      (brings_over (shelf_view g stays) (settled g stays) (Comes does accepts (string_bytes roster)) all.fewer.1.0
+      (bound, first) all.fewer.1.2 shelf last all.fewer.1.3) closed
+  run_takes words old new status (
+    Ok (Serve db roster port count),
+    reads,
+    (
+      input,
+      output,
+      (
+        done,
+        inr (first, read, took_roll, inr (shelf, last, taken, over, room, inl (is, same, unbound), closed)),
+        told,
+      ),
+    ),
+  ) =
+      closed_takes (string_bytes db) read taken over shelf last [] room (brings_same shelf last same) closed
+  run_takes words old new status (
+    Ok (Serve db roster port count),
+    reads,
+    (input, output, (done, inr (first, read, took_roll, inl (why, is, untook)), told)),
+  ) =
+      still (untaken_keeps (string_bytes roster) (string_bytes db) first.users read why
+      (first.text, took_roll.read, took_roll.gives) untook)
+  run_takes words old new status
+      (Ok (Serve db roster port count), reads, (input, output, (done, inl (why, is, untook), told))) =
+      still (as_it_was (roster_left g image does left stays tells (string_bytes roster) before later (Err why) untook))
+  run_takes words old new status (Ok job, reads, ran) =
+      still (others_keep job old new status ran)
+  run_takes words old new status (Err why, reads, (same, unread, told)) =
+      still (as_it_was (ap left same))

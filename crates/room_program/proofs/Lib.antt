@@ -6,11 +6,10 @@ mod Stopped
 mod Again
 mod Restarts
 mod Rolls
-mod Keeps
 mod Jobs
 mod Streams
 mod Faults
 mod Texts
 mod ClientFiles
-mod ClientJobs
+mod Keeps
 mod ClientFilesExamples

@@ -1,5 +1,5 @@
 use Rattle.room_program.proofs.Common.{◌≡◌, inl, refl, image_at, IsUnknown, ActsOn}
-use Rattle.room_program.proofs.ClientJobs.{run_takes}
+use Rattle.room_program.proofs.Keeps.{run_takes}
 use Rattle.room_program.proofs.client_laws.a_run_that_ends_takes_its_attempts.Goals as goal
 
 pub returns : goal.returns
