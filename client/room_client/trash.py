@@ -9,6 +9,7 @@ from dataclasses import dataclass
 from . import manifest as form
 from .clearing import file_at, looking_again, remove_all, remove_file
 from .faults import ACCESS, BadWords, Fault, Refused, refused_as
+from .local import is_in
 from .room import Room
 from .words import FOLDER, GROUP, LIST_FLAGS, neat, shown
 
@@ -142,7 +143,7 @@ def put_in_trash(room: Room, path: str, trash: str) -> str:
 def not_taken(fault: Refused, path: str, trash: str) -> Refused:
     """What to do where it is the trash that does not take it."""
     its = fault.reply
-    if refused_as(fault, "FOLDER_FULL", "TOO_DEEP") or its["code"] == ACCESS and its["path"].startswith(TOP):
+    if refused_as(fault, "FOLDER_FULL", "TOO_DEEP") or its["code"] == ACCESS and is_in(its["path"], [TOP]):
         why = f"the trash {shown(trash)} does not take it: room trash empty, or room rm --for-good ({fault})"
         return Refused(its | {"code": its["code"]}, {"path": path}, why)
     return fault
