@@ -1,6 +1,7 @@
 """Where everything lies on a machine, below a root, and how its programs are asked."""
 import json
 import os
+import re
 import subprocess
 import tempfile
 
@@ -12,6 +13,7 @@ FRONT_FILES = {  # of the front's samples: where each goes
     "worker.conf": "etc/nginx/modules-enabled/60-fileroom.conf",
     "logrotate.conf": "etc/logrotate.d/fileroom",
 }
+BACKUP = re.compile(r"[0-9]{4}(-[0-9]{2}){2}T[0-9]{2}(-[0-9]{2}){2}Z")  # as fileroom-backup names one
 WORKERS = "fileroom-front"  # the group of nginx's workers
 LISTEN = "etc/nginx/fileroom/listen.conf"
 LOGINS = "var/log/nginx/fileroom-logins.log"
@@ -108,10 +110,10 @@ class Places:
         return self.at(os.path.join("var/backups/fileroom", room))
 
     def copies(self, room):
-        """The names of a room's backups, the latest last. (What begins with a dot is copied, and was not looked at.)"""
+        """The names of a room's backups, the latest last. (What begins with a dot is copied, and was not looked at; and
+        what has another name is somebody's own.)"""
         folder = self.backups(room)
-        return sorted(it for it in (os.listdir(folder) if os.path.isdir(folder) else [])
-                      if it.endswith("Z") and it[0] != ".")
+        return sorted(filter(BACKUP.fullmatch, os.listdir(folder) if os.path.isdir(folder) else []))
 
     def disks(self):
         """The folders of all rooms and of all backups, and those of a room that are on a disk of their own."""

@@ -2,6 +2,7 @@
 import json
 import os
 import re
+import shutil
 import stat
 import subprocess
 import time
@@ -205,6 +206,15 @@ def test_a_trial(machine, latest):
     assert hidden(machine) == [".tried"]
     assert text_of(machine.at(f"{PLANS}/.tried")) == os.path.basename(latest) + "\n"
     assert float(machine.numbers()['fileroom_restore_age_seconds{room="plans"}']) < HOUR
+
+
+def test_a_folder_of_another_name_is_no_backup(machine, latest):
+    """As one that somebody put aside: it is not the latest, and nothing ends at its name."""
+    shutil.copytree(latest, os.path.join(os.path.dirname(latest), f"old-{os.path.basename(latest)}"))
+    assert tries(machine) == (0, f"{latest}: restored, served, and asked\n", "")
+    assert machine.numbers()['fileroom_backups{room="plans"}'] == "1"
+    assert machine.does("warn") == (0, "", "")
+    assert f"by the backup {os.path.basename(latest)}: " in machine.does("user", "owns", "ann")[1]
 
 
 @each("name, edit", [

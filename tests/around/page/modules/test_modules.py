@@ -49,7 +49,7 @@ def laid(folder):
 
 def written_warnings(folder):
     """The file in which the service has ann's warnings of the room club."""
-    for name, text in {"etc/fileroom/club.env": "", "var/backups/fileroom/club/20260101T000000Z/owner": "ann\n",
+    for name, text in {"etc/fileroom/club.env": "", "var/backups/fileroom/club/2026-01-01T00-00-00Z/owner": "ann\n",
                        **{f"etc/nginx/fileroom/held/{it}": "" for it in ("bob@club", "eve@club", "bob@plans")}}.items():
         path = os.path.join(folder, name)
         os.makedirs(os.path.dirname(path), exist_ok=True)
