@@ -111,6 +111,8 @@ def need_overwrite(asked: Asked) -> None:
 
 
 def copy(gate, visit: Visit, asked: Asked) -> Reply:
+    if asked.depth == "1":
+        raise Answered(400, "a copy has Depth 0 or infinity")
     source, target = two_places(gate, visit, asked, leaves=False)
     its = thing_at(visit, source)
     with gate.changing(asked.room, target):
@@ -198,12 +200,13 @@ def out_of_the_way(gate, visit: Visit, room: str, path: str, source: str):
         with Noted(gate, visit, room, one) as noted:
             trash.put_in_trash(noted, path, bin_)
             yield
-        return
-    if one and one.path == source:
+    elif one and one.path == source:
         raise Answered(412, f"{path} had the name {source} before that was another's, and would be gone for good")
-    with set_aside(gate, visit, room, path) as aside:
-        yield
-        pool.remove(visit, aside)
+    else:
+        with set_aside(gate, visit, room, path) as aside:
+            yield
+            pool.remove(visit, aside)
+    gate.locks.drop([it.token for it in gate.locks.below(room, path)])  # (what was in it is gone)
 
 
 @contextlib.contextmanager

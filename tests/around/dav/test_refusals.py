@@ -342,6 +342,18 @@ def test_what_is_gone_is_locked_no_longer(desk, method, status, to):
     desk.does("bob", "DELETE", "/both/gone", 204)
 
 
+@pytest.mark.parametrize("method", ["MOVE", "COPY"])
+def test_what_was_in_a_replaced_folder_is_locked_no_longer(desk, method):
+    """It is gone, as by DELETE (RFC 4918, 9.8.4)."""
+    top = f"/both/over-{method}"
+    desk.play(f"ann MKCOL {top} 201; ann PUT {top}/it 201 > hers; ann MKCOL /both/comes 201")
+    token = desk.locked("ann", f"{top}/it", Depth="0")
+    desk.does("ann", method, "/both/comes", 204, to=top, If=f"</dav/plans{top}/it> ({token})")
+    desk.does("ann", "PROPFIND", f"{top}/it", 404, Depth="0")
+    desk.does("bob", "PUT", f"{top}/it", 201, b"his")
+    desk.ask("ann", "DELETE", "/both/comes")
+
+
 def test_locks_of_folders(desk):
     desk.does("ann", "MKCOL", "/both/f", 201)
     token = desk.locked("ann", "/both/f", Depth="infinity")

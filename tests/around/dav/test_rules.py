@@ -149,6 +149,13 @@ def test_a_copy_of_a_folder_alone(desk, depth, inside):
     assert desk.names("ann", target) == [f"/dav/plans{target}/", *(f"/dav/plans{target}/{it}" for it in inside)]
 
 
+def test_a_copy_of_a_folder_with_what_is_right_in_it(desk):
+    """No such Depth is for COPY (RFC 4918, 9.8.3), and nothing is copied."""
+    desk.play("ann MKCOL /deep 201")
+    desk.does("ann", "COPY", "/deep", 400, to="/copy-1", Depth="1")
+    desk.does("ann", "PROPFIND", "/copy-1", 404, Depth="0")
+
+
 @pytest.mark.parametrize("method", ["MOVE", "COPY"])
 def test_a_move_to_another_room(desk, method):
     desk.ask("ann", "PUT", "/x", b"x")
