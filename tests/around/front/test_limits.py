@@ -292,3 +292,12 @@ def test_in_the_long_run(fronted, gateway, begin_one):
     assert took >= (many - FEW - 1) / A_SECOND
     assert found.count(200) >= many - FEW
     assert others == ([200], True)
+
+
+def test_a_long_file_where_no_room_has_webdav(front):
+    """It is told what a short one is."""
+    for method in "PUT", "POST", "PROPFIND":
+        told = [front.status("u01", method, "/dav/plans/x", bytes(it)) for it in (1, 131_073, 1 << 24)]
+        assert told == told[:1] * 3
+    assert front.status(None, "PUT", "/dav/plans/x", bytes(131_073)) == 401
+    assert front.status("u01", "PUT", "/dav/plans/x", bytes((1 << 24) + 1)) == 413
