@@ -44,8 +44,8 @@ def test_it_goes_with_its_room(machine):
 
 @pytest.mark.parametrize("word, want", [("remove", [WANTS, TRIES, ROOM_WANTS, OF_GATEWAY]), ("purge", [ROOM_WANTS])])
 def test_the_package_goes(machine, word, want):
-    """Removed, it has the gateway and trials enabled still; by a purge they are not, and nothing of the gateway stays.
-    Rooms stay enabled. (`front`, which an installation calls, enables the others again: dav.txt.)"""
+    """Removed, it has the gateway and trials enabled still; by a purge they are not, and nothing of the gateway is
+    left. Rooms stay enabled. (`front`, which an installation calls, enables the others again: dav.txt.)"""
     for it in WANTS, TRIES, ROOM_WANTS:
         os.makedirs(os.path.dirname(machine.at(it)))
         os.symlink(f"/lib/systemd/system/{os.path.basename(it)}", machine.at(it))
