@@ -172,11 +172,17 @@ class Upload:
         return [[it for it in pieces if it.rpartition("/")[2] not in self.there], [] if self.there else folder]
 
     def share(self, levels: list[list[str]]) -> None:
-        """What was made belongs to whom the file belongs, who may have no rights on what is somebody else's."""
+        """What was made belongs to whom the file belongs, who may have no rights on what is somebody else's. (Where it is
+        gone, another version came, as is looked at next.)"""
         made = [it for paths in levels for it in paths]
         if not made:
             return
-        its, ours = self.whole or self.room.stat(self.path), self.room.stat(made[-1])
+        try:
+            its, ours = self.whole or self.room.stat(self.path), self.room.stat(made[-1])
+        except Refused as fault:
+            if not refused_as(fault, "NOENT"):
+                raise
+            return
         whose = its["owner"], its["group"]
         if whose != (ours["owner"], ours["group"]):
             refusal = give_each(self.room, levels, *whose)

@@ -127,6 +127,7 @@ SPARE = [".room-gone", ".room-pieces"]
     ("came first, of none", None, "put_pieces", writes, OVERTAKEN, THEIRS, SPARE[1:]),
     ("came first", OLD, "put_pieces", writes, OVERTAKEN, THEIRS, SPARE),
     # (neither knows of the other: the later one stands, and is whole)
+    ("came first, and cleared mine", OLD, "share", writes, OVERTAKEN, THEIRS, SPARE),
     ("came right before the manifest", OLD, "put_manifest", writes, None, MINE, None),
     ("came right behind", OLD, "look_after", writes, BEHIND, THEIRS, SPARE),
     # (the folder of a writer who is slow was cleared)
