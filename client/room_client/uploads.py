@@ -172,8 +172,8 @@ class Upload:
         return [[it for it in pieces if it.rpartition("/")[2] not in self.there], [] if self.there else folder]
 
     def share(self, levels: list[list[str]]) -> None:
-        """What was made belongs to whom the file belongs, who may have no rights on what is somebody else's. (Where it is
-        gone, another version came, as is looked at next.)"""
+        """What was made belongs to whom the file belongs, who may have no rights on what is somebody else's. (Where it
+        is gone, another version came, as is looked at next.)"""
         made = [it for paths in levels for it in paths]
         if not made:
             return
