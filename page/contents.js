@@ -153,7 +153,7 @@ export async function showContents(app, place) {
 
 const MOST = 500; // things
 const [MOST_CHANGES, MOST_FOLDERS] = [100, 20]; // that are shown, and asked about
-const kept = new Map(); // by address, until something is changed, or the page looks again
+const kept = new Map(); // by address, until something is changed, or the page looks again elsewhere
 const small = name => clean(name).toLowerCase();
 export const forgetFound = but => kept.forEach((_, it) => it === but || kept.delete(it));
 const entryOf = (path, kind) => [lastName(path), kind, folderOf(path)];
