@@ -56,7 +56,7 @@ impl<S: Shelf> Desk<S> {
     }
 
     /// Answers one event as the history says, or gives up with nothing changed while the store is available.
-    fn answer(&mut self, event: &Event) -> Result<Answer, ShelfFault>
+    fn try_event(&mut self, event: &Event) -> Result<Answer, ShelfFault>
         ensures { EventTried (event_model event.now) (S.view self.old) (S.view self.new) result }
     {
         match event {
@@ -97,7 +97,7 @@ impl<S: Shelf> Desk<S> {
         ensures answered { EventAnswered S.view self.old (event_model event.now) (answer_model result) self.new }
         ensures allowed { (start : Room) (past : History) → WasAllowed start past (event_model event.now) }
     {
-        match self.answer(event) {
+        match self.try_event(event) {
             Ok(answer) => answer,
             Err(_) => Answer::Refused(Code::Delay),
         }

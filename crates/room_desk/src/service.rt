@@ -22,7 +22,8 @@ pub(crate) struct Lookup<'r> {
 }
 
 impl<S: Shelf> Desk<S> {
-    fn serve_question(&mut self, question: &Question) -> Answer
+    /// Answers what asks no room.
+    fn answer_check(&mut self, question: &Question) -> Answer
         ensures { Answered (Ok (A.Check (question_model question.now)))
             (S.view self.old) (answer_model result) (S.view self.new) }
     {
@@ -30,12 +31,12 @@ impl<S: Shelf> Desk<S> {
     }
 
     /// Answers what a message asks.
-    fn serve_message(&mut self, lookup: &Lookup<'_>, message: &Message<'_>) -> Answer
+    fn answer_message(&mut self, lookup: &Lookup<'_>, message: &Message<'_>) -> Answer
         ensures { (m : MessageModel) → Shows message.now m →
             MayAnswer S.view lookup.now.roster.now self.old m (answer_model result) self.new }
     {
         match route(self.alloc, message, lookup.routes, lookup.roster) {
-            Ok(Routed::Ask(Ask::Check(question))) => self.serve_question(&question),
+            Ok(Routed::Ask(Ask::Check(question))) => self.answer_check(&question),
             Ok(Routed::Ask(Ask::Event(event))) => self.handle(&event),
             Ok(Routed::Request(sent)) => answer_sent(self.alloc, &mut self.shelf, &sent),
             Err(fault) => Answer::Refused(fault_code(fault)),
@@ -47,6 +48,6 @@ impl<'r, S: Shelf> Service<Lookup<'r>> for Desk<S> {
     ghost may_answer = { λ lookup. MayAnswer S.view lookup.roster.now };
 
     fn answer(&mut self, lookup: &Lookup<'r>, message: &Message<'_>) -> Answer {
-        self.serve_message(lookup, message)
+        self.answer_message(lookup, message)
     }
 }

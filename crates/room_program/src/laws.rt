@@ -190,7 +190,7 @@ pub fn a_run_that_ends_keeps_the_room<S: Start>()
 
 /// And so does one that stops between two connections, with the shelf `last`, while its store is there: a crash may
 /// leave the image `left` of its files. Each of the `count` connections before was served as `Desk::serve` promises
-/// (`there`: the invariant of `serve_machine`, whose own clause a run that stops never reaches). Once a fault has shut
+/// (`there`: the invariant of `accept_each`, whose own clause a run that stops never reaches). Once a fault has shut
 /// the store, it keeps the room, or the room with one event more (`shut`); of a `report` with its history, whether one
 /// has or not (`report`). The store has returned what was written, also as it is taken out of its connection.
 pub fn a_run_that_stops_keeps_the_room<S: Start>(

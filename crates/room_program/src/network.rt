@@ -115,7 +115,7 @@ pub fn serve_listener<S: Shelf, L: Listener>(
 
 /// Waits for a connection, reads the roster's file at `path` again, and has the connection served to the users that it
 /// gives, or gave before, where it gives none now. Err where no connection can be accepted; then nothing is served.
-fn serve_one<C, S: Shelf, M: Machine<C> + Listener>(
+fn accept_one<C, S: Shelf, M: Machine<C> + Listener>(
     alloc: Global,
     machine: &mut M,
     desk: &mut Desk<S>,
@@ -135,8 +135,8 @@ fn serve_one<C, S: Shelf, M: Machine<C> + Listener>(
     Ok(after)
 }
 
-/// Serves `count` connections so.
-pub(crate) fn serve_machine<C, S: Shelf, M: Machine<C> + Listener>(
+/// Serves `count` connections, one after another, each as `accept_one` does.
+pub(crate) fn accept_each<C, S: Shelf, M: Machine<C> + Listener>(
     alloc: Global,
     machine: &mut M,
     desk: &mut Desk<S>,
@@ -152,7 +152,7 @@ pub(crate) fn serve_machine<C, S: Shelf, M: Machine<C> + Listener>(
 {
     let mut known = first;
     for taken in 0..count {
-        known = serve_one(alloc, machine, desk, path, known)?;
+        known = accept_one(alloc, machine, desk, path, known)?;
     }
     Ok(())
 }

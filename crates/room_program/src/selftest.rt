@@ -60,8 +60,8 @@ fn is_due(answers: &[u8]) -> bool
     answers == ANSWERS.as_bytes()
 }
 
-/// Whether the connection made last was answered so, and no more.
-fn is_answered<C, M: Machine<C> + Listener>(machine: &mut M) -> Result<(), Fault>
+/// Err unless the connection made last got the answers that are due, and no more.
+fn need_due_answers<C, M: Machine<C> + Listener>(machine: &mut M) -> Result<(), Fault>
     ensures { IsAnswered M.does machine.old machine.new result }
 {
     match machine.hear() {
@@ -100,7 +100,7 @@ fn talk<C, M: Machine<C> + Listener>(
         return Err(Fault::SelftestFailed);
     };
     serve_two(machine, desk, roster)?;
-    is_answered(machine)
+    need_due_answers(machine)
 }
 
 /// Asks a fresh room in memory over sockets to itself, one end after the other.

@@ -8,7 +8,7 @@ use crate::fault::Fault;
 use crate::left::connection_under;
 use crate::listening::Listener;
 use crate::machine::Machine;
-use crate::network::serve_machine;
+use crate::network::accept_each;
 use crate::opening::take_room;
 use crate::rosters::{RosterRead, roll_at};
 use room_cache::CachedShelf;
@@ -30,7 +30,7 @@ fn keep_freed_memory(alloc: Global) {
 }
 
 /// Serves `count` connections over a desk.
-fn serve_all<C, R: Shelf, M: Machine<C> + Listener>(
+fn accept_all<C, R: Shelf, M: Machine<C> + Listener>(
     alloc: Global,
     machine: &mut M,
     desk: &mut Desk<R>,
@@ -42,7 +42,7 @@ fn serve_all<C, R: Shelf, M: Machine<C> + Listener>(
         (roll first.roster (option_map string_bytes first.text)) count machine.old machine.new desk.old desk.new
         result }
 {
-    match serve_machine(alloc, machine, desk, roster, first, count) {
+    match accept_each(alloc, machine, desk, roster, first, count) {
         Ok(()) => Ok(()),
         Err(_) => Err(Fault::NetworkFailed),
     }
@@ -63,12 +63,12 @@ fn listen<C, R: Shelf, M: Machine<C> + Listener>(
         port count machine.old machine.new desk.old desk.new result }
 {
     match machine.listen(port) {
-        Ok(()) => serve_all(alloc, machine, desk, roster, first, count),
+        Ok(()) => accept_all(alloc, machine, desk, roster, first, count),
         Err(_) => Err(Fault::NetworkFailed),
     }
 }
 
-/// The same over a desk of this shelf, which is handed back.
+/// Makes a desk over this shelf, listens and serves as `listen` does, and hands the shelf back.
 fn listen_over<C, R: Shelf, M: Machine<C> + Listener>(
     alloc: Global,
     machine: &mut M,

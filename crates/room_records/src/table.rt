@@ -69,13 +69,4 @@ impl<K: Ord + Drop, X: Drop> Table<K, X> {
             None => None,
         }
     }
-
-    /// Gives the space back where no value is.
-    pub(crate) fn clear_room(&mut self, key: &K)
-        ensures { (k : K) → held K.cmp self.new.slots k ≡ held K.cmp self.old.slots k }
-    {
-        if let Some(None) = self.slots.get(key) {
-            let _ = self.slots.remove(key);
-        }
-    }
 }

@@ -29,6 +29,6 @@ returns g c =
       inr (
         c.ask-2.new.self,
         c.in-Ok-ask.ensures.asked,
-        inr (c.serve_two.new.listener, c.in_ok-serve_two.ensures, c.is_answered.ensures),
+        inr (c.serve_two.new.listener, c.in_ok-serve_two.ensures, c.need_due_answers.ensures),
       ),
     )

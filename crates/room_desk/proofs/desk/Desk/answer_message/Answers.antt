@@ -1,7 +1,7 @@
 use Rattle.room_desk.proofs.Common.{sym, subst, ask_of, Refused, Answered}
 use Rattle.room_wire.specs.declared.answers.code.Code.{Code}
 use Rattle.room_desk.proofs.Messages.{refusal_stays}
-use Rattle.room_desk.proofs.desk.Desk.serve_message.Goals as goal
+use Rattle.room_desk.proofs.desk.Desk.answer_message.Goals as goal
 
 pub returns-in-Err : goal.returns-in-Err
 returns-in-Err g c = λ m s.

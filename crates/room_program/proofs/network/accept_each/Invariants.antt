@@ -1,6 +1,6 @@
 use Rattle.std.specs.Prelude.{option_map, string_bytes}
 use Rattle.room_program.proofs.Common.{ServesEach, Comes, ServedTo, roll}
-use Rattle.room_program.proofs.network.serve_machine.Given as goal
+use Rattle.room_program.proofs.network.accept_each.Given as goal
 
 -- so many connections came and were served, each to the users that counted then
 abbrev pub invariant-loop-taken : goal.invariant-loop-taken

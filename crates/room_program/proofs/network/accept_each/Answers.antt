@@ -3,7 +3,7 @@ use Rattle.std.specs.Prelude.{option_map}
 use Rattle.room_program.proofs.Common.{◌≡◌, arith, string_bytes, Comes, Misses, Roll, ServedTo, roll}
 use Rattle.room_program.specs.Calls.{ServesFewer}
 use Rattle.room_program.proofs.Faults.{on_fault}
-use Rattle.room_program.proofs.network.serve_machine.Goals as goal
+use Rattle.room_program.proofs.network.accept_each.Goals as goal
 
 pub returns-in_err-known-clause-fewer : goal.returns-in_err-known-clause-fewer
 returns-in_err-known-clause-fewer g c =
@@ -11,7 +11,7 @@ returns-in_err-known-clause-fewer g c =
     let fewer : (last : Roll) × ServesFewer (Comes g.M.Machine.does g.M.Listener.accepts c.args.path.now)
     (Misses g.M.Machine.does g.M.Listener.fails c.args.path.now) (ServedTo g.S.Shelf.view) c.args.count
     (c.args.machine.now, roll c.args.first.roster (option_map string_bytes c.args.first.text))
-    (c.serve_one.new.machine, last) c.args.desk.now c.serve_one.new.desk = (
+    (c.accept_one.new.machine, last) c.args.desk.now c.accept_one.new.desk = (
       end,
       (
         c.loop-taken.taken,

@@ -2,7 +2,7 @@ use Rattle.std.specs.Prelude.{option_map}
 use Rattle.room_program.proofs.Common.{refl, inl, inr, string_bytes, Misses, Roll, roll}
 use Rattle.room_program.specs.Rolls.{visit}
 use Rattle.room_program.proofs.Faults.{on_fault}
-use Rattle.room_program.proofs.network.serve_one.Goals as goal
+use Rattle.room_program.proofs.network.accept_one.Goals as goal
 
 pub returns-in_err-wait_next-clause-missed : goal.returns-in_err-wait_next-clause-missed
 returns-in_err-wait_next-clause-missed g c =

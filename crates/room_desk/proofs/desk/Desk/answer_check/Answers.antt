@@ -1,7 +1,7 @@
 use Rattle.room_wire.specs.Questions.QuestionModel.{question_model}
 use Rattle.room_desk.proofs.Common.{answer_model}
 use Rattle.room_desk.proofs.Messages.{question_stays}
-use Rattle.room_desk.proofs.desk.Desk.serve_question.Goals as goal
+use Rattle.room_desk.proofs.desk.Desk.answer_check.Goals as goal
 
 pub returns : goal.returns
 returns g c =
