@@ -180,6 +180,21 @@ test("a name that is typed goes with Escape, and nothing is asked", async () => 
   assert.deepEqual([await asked, shown("dialog").length], [null, 0]);
 });
 
+test("who goes on typing does so where they typed, however often they pressed Escape", async () => {
+  const [name, text] = [input("a"), area("a")];
+  const asked = ask({ title: "it", does: "Do", fields: [["Name", name], ["Text", text]] });
+  const [dialog] = shown("dialog");
+  for (const [field, times] of [[text, 2], [name, 1]]) {
+    field.focus();
+    field.value += "b";
+    for (let count = 0; count < times; count += 1) dialog.onkeydown(key("Escape"));
+    document.activeElement.click();
+    assert.deepEqual([document.activeElement, name.value, text.value], [field, field === name ? "ab" : "a", "ab"]);
+  }
+  closeAll();
+  assert.equal(await asked, null);
+});
+
 test("a dialog stays until its task is done, and does it once", async () => {
   let [count, faults] = [0, [new Error("refused")]];
   const asked = ask({ title: "it", does: "Do", faultOf: () => (count < 0 ? "wrong" : ""), task: async () => {
