@@ -1,4 +1,6 @@
 """Lists: the matrix of who may do what, the editor of a list, and what is offered to whom."""
+import time
+
 import pytest
 from room_client.words import RIGHTS, SETS
 
@@ -218,3 +220,27 @@ def test_what_a_folder_and_its_rows_offer(club, browser):
     browser.sees("You may not do that with dot.txt.", "#notices")
     browser.act("//main//input[@aria-label='Select dot.txt']", "click")
     browser.until("of several", lambda: browser.script(BAR) == ["Copy", "Download", "Clear selection"])
+
+
+def test_the_bar_offers_what_one_may_do_with_those_that_are_chosen_now(club, browser):
+    """Whatever is told by then of those that were chosen before."""
+    club.lay("/other/kept.txt", "/other/own.txt")
+    club.lets("eve", "/other", VIEW)
+    club.lets("eve", "/other/own.txt", ALL, 0)
+    club.log_in("eve")
+    club.open("/other")
+    tick = lambda name: browser.act(f"//main//input[@aria-label='Select {name}']", "click")
+    some, every = ["Copy", "Download", "Clear selection"], ["Move", "Copy", "Download", "Remove", "Clear selection"]
+    tick("kept.txt")
+    browser.until("of one that is kept", lambda: browser.script(BAR) == some)
+    for before, now, wanted in ("own.txt", "kept.txt", some), ("kept.txt", "own.txt", every):
+        browser.press("Clear selection")
+        club.lossy.hold('"ACCESS"', f"/other/{before}")
+        tick(before)
+        browser.until("it is asked for", lambda: club.lossy.held)
+        tick(before)
+        tick(now)
+        browser.until(f"of {now}", lambda: browser.script(BAR) == wanted)
+        club.lossy.go_on()
+        time.sleep(1)  # (what was asked first comes, and changes nothing)
+        assert browser.script(BAR) == wanted
