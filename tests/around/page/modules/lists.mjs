@@ -176,3 +176,17 @@ test("who can see a thing is told anew, whatever of it changed", async () => {
   put(path, only(), { owner: "bob" });
   assert.equal(await told(), "bob");
 });
+
+test("what one may do oneself is asked anew too, where one may not see the list", async () => {
+  const [shelf, path] = [new Shelf(), "/a.txt"];
+  let may = ALL;
+  shelf.put(path, "text");
+  Object.assign(shelf, { refuses: ({ cmd }) => (cmd === "GETLIST" ? 5 : 0), ACCESS: () => ({ allowed: may }) });
+  const seers = new Seers(answering(shelf, { ann: [] }));
+  const told = [];
+  for (may of [ALL, VIEW, ALL]) {
+    seers.renew();
+    told.push(await seers.questions.allowed(path, "ann", []));
+  }
+  assert.deepEqual(told, [ALL, VIEW, ALL]);
+});
