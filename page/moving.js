@@ -11,8 +11,7 @@ async function copy(room, from, to, transfer) {
   const at = path => inFolder(to, ...namesOf(path).slice(namesOf(from).length));
   if (found.some(({ path }) => namesOf(at(path)).length > MAX_NAMES)) throw new Error(t.refusals[TOO_DEEP]);
   for (const { path } of found.filter(it => it.kind === FOLDER)) await room.step("MKDIR", at(path));
-  const files = found.filter(it => it.kind === FILE);
-  const quiet = transfer.quiet();
+  const [files, quiet] = [found.filter(it => it.kind === FILE), transfer.quiet()];
   transfer.total = transfer.bar.max = files.length;
   await forEach(files, async ({ path }) => {
     await writeFile(room, at(path), await readFile(room, path, quiet), quiet, true);
@@ -52,11 +51,11 @@ async function askWhere(app, paths, { words, does, start = folderOf(paths[0]), c
 }
 
 export function wayBack(app, places, room = app.room) {
-  follow(app, places);
+  follow({ ...app, room }, places);
   return async () => {
     const paths = [...places.keys()];
     await withEach(t.undo, paths, it => room.aside("RENAME", places.get(it), { to: it }));
-    follow(app, new Map(paths.map(it => [places.get(it), it])));
+    follow({ ...app, room }, new Map(paths.map(it => [places.get(it), it])));
     await app.done(t.isBack(named(paths), paths.length), only(paths, { from: places.get(paths[0]), to: paths[0] }));
   };
 }
@@ -69,11 +68,11 @@ async function moveTo(app, paths, goals) {
   if (!done.length) return () => app.done("");
   const where = only(done, to.get(done[0])) ?? folderOf(goals[0]);
   const undo = wayBack(app, new Map(done.map(it => [it, to.get(it)])), room);
-  const moved = only(done, { from: done[0], to: where });
   const seers = new Seers({ ...app, room });
   const seen = await Promise.all(done.map(it => seers.of({ path: to.get(it) })));
   const who = new Set(seen.map(it => (it ? ` ${t.about(t.heads.who, it.words)}.` : "")));
-  return () => app.done(t.isNow(named(done), shown(where), done.length) + [...who].join(""), moved, undo);
+  return () => app.done(t.isNow(named(done), shown(where), done.length) + [...who].join(""),
+    only(done, { from: done[0], to: where }), undo);
 }
 
 export async function move(app, paths) {
@@ -101,24 +100,24 @@ async function needPlaces(room, paths, goals) {
 }
 
 export async function copyTo(app, paths) {
-  const how = { words: `${t.yoursThen} ${t.copyWords}`, does: t.copy };
-  const goals = await askWhere(app, paths, how, to => needPlaces(app.room, paths, to));
+  const goals = await askWhere(app, paths, { words: `${t.yoursThen} ${t.copyWords}`, does: t.copy },
+    to => needPlaces(app.room, paths, to));
   if (goals) await copyAll(app, paths, goals);
 }
 
 export async function copyInto(app, paths, folder) {
+  const { room } = app;
   const goals = await app.attempt(t.doTo(t.copy, named(paths)), async () => {
-    const free = await freePaths(app.room, paths.map(it => inFolder(folder, nameAt(it))));
-    await needPlaces(app.room, paths, free);
+    const free = await freePaths(room, paths.map(it => inFolder(folder, nameAt(it))));
+    await needPlaces(room, paths, free);
     return free;
   });
-  if (goals) await copyAll(app, paths, goals);
+  if (goals) await copyAll(app, paths, goals, room);
 }
 
-async function copyAll(app, paths, goals) {
-  const { room } = app;
-  const how = { total: 1, unit: String, about: `copy ${room.name} ${paths[0]}` };
-  await transferring(app, t.doTo(t.copy, shortNamed(paths)), how, async transfer => {
+async function copyAll(app, paths, goals, room = app.room) {
+  const about = `copy ${room.name} ${paths[0]}`;
+  await transferring(app, t.doTo(t.copy, shortNamed(paths)), { total: 1, unit: String, about }, async transfer => {
     for (const [at, it] of paths.entries()) await copy(room, it, goals[at], transfer);
     return t.isCopied(named(paths), shown(only(paths, goals[0]) ?? folderOf(goals[0])), paths.length);
   });
@@ -140,9 +139,8 @@ export async function remove(app, paths, does = t.doTo(t.remove, shortNamed(path
   const asked = await app.attempt(does, async () => {
     const { path: trash, fault } = isInTrash(paths[0]) ? { fault: "" } : await trashOf(app);
     if (trash) {
-      const toIt = async it => places.set(it, await toTrash(room, it, trash));
-      const gone = await withEach(t.remove, paths, toIt);
-      noteGone(app, [...places].map(it => it.toReversed()));
+      const gone = await withEach(t.remove, paths, async it => places.set(it, await toTrash(room, it, trash)));
+      noteGone({ ...app, room }, [...places].map(it => it.toReversed()));
       return { gone };
     }
     const why = fault === "" ? "" : ` ${t.askTrash(fault ?? t.noTrash)}`;
@@ -151,8 +149,8 @@ export async function remove(app, paths, does = t.doTo(t.remove, shortNamed(path
   if (!asked) return;
   let { words, gone } = asked;
   const task = async () => { gone = await withEach(t.remove, paths, it => removeAll(room, it)); };
-  const how = { title: does, does: inside === paths ? t.remove : does, isFinal: true, words, task };
-  if (words && !await ask(how)) return;
+  if (words && !await ask({ title: does, does: inside === paths ? t.remove : does, isFinal: true, words,
+    task })) return;
   await app.done(gone.length ? (words ? t.isRemoved : t.isInTrash)(named(gone), gone.length) : "",
     only(paths, { from: paths[0], to: folderOf(paths[0]) }), words ? null : wayBack(app, places, room));
 }
@@ -187,10 +185,10 @@ export async function putBack(app, path) {
   if (to) await app.done(t.isBack(shown(to)), { from: path, to });
 }
 
-export async function putAllBack(app, paths) {
+export async function putAllBack(app, paths, its = { ...app }) {
   if (paths.length === 1) return putBack(app, paths[0]);
   const done = await app.attempt(t.putBack, () => withEach(t.putBack, paths, async path => {
-    const why = await whyNotBack(app.room, path, toldBy(path)?.place ?? wasAt(app, path));
+    const why = await whyNotBack(its.room, path, toldBy(path)?.place ?? wasAt(its, path));
     if (why) throw new Error(why);
   }));
   if (done?.length) await app.done(t.isBack(named(done), done.length));

@@ -14,7 +14,7 @@ const { NOBODY, readFile } = await page("reading");
 const { PIECE } = await page("manifest");
 const { takeDrops, useClipboard } = await page("drag");
 const { upload } = await page("uploads");
-const { latest, note } = await page("rail");
+const { latest, note, wasAt } = await page("rail");
 const { FolderTree } = await page("tree");
 const { helpThem, setBack } = await page("questions");
 const { showShared } = await page("contents");
@@ -549,6 +549,11 @@ test("what is begun in a room goes on there, whatever room is shown by then", as
   assert.deepEqual([shelf.names("/d"), shelf.names(TRASH).length], [["a.txt"], 5]);
   await app.undo();
   assert.deepEqual([shelf.names("/d"), shelf.names("/e")], [["a", "a.txt", ...all.slice(1)], []]);
+  await begins(() => copyInto(app, paths, "/e"));
+  assert.deepEqual(shelf.names("/e"), all);
+  await begins(() => remove(app, paths));
+  await begins(() => putAllBack(app, shelf.names(TRASH).map((it) => `${TRASH}/${it}`)));
+  assert.deepEqual([shelf.names("/d"), shelf.names(TRASH)], [["a", "a.txt", ...all.slice(1)], []]);
   await begins(async () => {
     const done = edit(app, "/d/a.txt");
     await comes(t.save);
@@ -568,6 +573,33 @@ test("what is begun in a room goes on there, whatever room is shown by then", as
   assert.equal(shelf.things.get("/d/a.txt").list.aclflag, 2);
   await app.undo();
   assert.deepEqual([shelf.things.get("/d/a.txt").list.aclflag, other.asked], [1, []]);
+});
+
+test("places are followed in the room in which something goes elsewhere, whatever room is shown by then", async () => {
+  kept.clear();
+  const [shelf, other] = [trashed(), trashed()];
+  const app = appOver(shelf);
+  const rooms = [app.room, Object.assign(appOver(other).room, { name: "plans" })];
+  const inEach = (does) => rooms.map((room) => does({ ...app, room }));
+  const places = () => inEach((it) => latest(it).map(([path]) => path));
+  shelf.put("/e");
+  inEach((it) => note(it, "/d/a.txt", false));
+  const goes = async (task) => {
+    [app.room] = rooms;
+    shelf.refuses = () => {
+      [, app.room] = rooms;
+      return 0;
+    };
+    await task();
+    const [[now], others] = places();
+    assert.deepEqual(others, ["/d/a.txt"]);
+    return now;
+  };
+  assert.equal(await goes(() => moveInto(app, ["/d/a.txt"], "/e")), "/e/a.txt");
+  await app.undo();
+  assert.deepEqual(places(), [["/d/a.txt"], ["/d/a.txt"]]);
+  const gone = await goes(() => remove(app, ["/d/a.txt"]));
+  assert.deepEqual(inEach((it) => wasAt(it, gone)), ["/d/a.txt", null]);
 });
 
 test("where both are kept, a name is free that nothing has, nor what is uploaded with it", async () => {
