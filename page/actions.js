@@ -66,18 +66,17 @@ export const textOffers = (app, path, own, bytes, text) => offered([
 const tooLong = ({ length }) => (length > MOST_BYTES ? t.tooLong(length, MOST_BYTES) : "");
 
 async function makeNew(app, folder, { title, fields = [], faultOf = () => "", does }) {
-  const [name, full] = [nameInput(), faultLine()];
-  const place = placeIn(app.room, folder);
+  const [{ room }, name, full] = [app, nameInput(), faultLine()];
+  const place = placeIn(room, folder);
   place.then(goal => {
     if (goal !== folder) full.textContent = t.isFull(shown(folder), shown(goal));
   }).catch(fault => { full.textContent = fault.message; });
   const task = async () => {
-    if (await place !== folder) await makeLike(app.room, await place, folder);
-    await does(inFolder(await place, clean(name.value)));
+    if (await place !== folder) await makeLike(room, await place, folder);
+    await does(inFolder(await place, clean(name.value)), room);
   };
-  const isDone = await ask({ title, does: t.make, task, fields: [[t.heads.name, name], ...fields],
-    words: [t.yoursThen, full], faultOf });
-  if (!isDone) return;
+  if (!await ask({ title, does: t.make, task, fields: [[t.heads.name, name], ...fields],
+    words: [t.yoursThen, full], faultOf })) return;
   const to = await place;
   await app.done(t.isMade(shown(clean(name.value))), to === folder ? null : { from: folder, to });
 }
@@ -88,11 +87,11 @@ export function makeFolder(app, folder) {
     mine.closest("form").querySelector("p").hidden = isMine = it;
   });
   const own = { aclflag: withFollows(1, false), entries: entriesOf("all", { id: "user", name: app.user }, FOLDER) };
-  return makeNew(app, folder, { title: t.newFolder, fields: [["", mine]], does: async path => {
-    if (!made) await app.room.run("MKDIR", path);
-    else if (made !== path) await app.room.run("RENAME", made, { to: path });
+  return makeNew(app, folder, { title: t.newFolder, fields: [["", mine]], does: async (path, room) => {
+    if (!made) await room.run("MKDIR", path);
+    else if (made !== path) await room.run("RENAME", made, { to: path });
     made = path;
-    if (isMine) await app.room.run("SETLIST", path, own);
+    if (isMine) await room.run("SETLIST", path, own);
   } });
 }
 
@@ -100,7 +99,7 @@ export function makeDocument(app, folder) {
   const text = area();
   return makeNew(app, folder, { title: t.newDocument, fields: [[t.text, text]],
     faultOf: () => tooLong(fromText(text.value)),
-    does: path => app.room.run("CREATE", path, { data: toBase64(fromText(text.value)) }) });
+    does: (path, room) => room.run("CREATE", path, { data: toBase64(fromText(text.value)) }) });
 }
 
 function asLines(text, before) {

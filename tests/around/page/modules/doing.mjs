@@ -602,6 +602,32 @@ test("places are followed in the room in which something goes elsewhere, whateve
   assert.deepEqual(inEach((it) => wasAt(it, gone)), ["/d/a.txt", null]);
 });
 
+test("what is made is made where it was typed, whatever room is shown by then", async () => {
+  const { closeAll } = await page("dialogs");
+  for (const make of [makeFolder, makeDocument]) {
+    const [shelf, other] = [new Shelf(), new Shelf()];
+    const [app, elsewhere, plain, goOn] = [appOver(shelf), appOver(other).room, shelf.askAside.bind(shelf), []];
+    for (const it of [shelf, other]) it.put("/d");
+    shelf.askAside = async (command) => {
+      if (command.cmd === "LIST") await new Promise((tell) => goOn.push(tell)); // (whether the folder is full)
+      return plain(command);
+    };
+    const done = make(app, "/d");
+    await comes(t.make);
+    shown("dialog")[0].querySelector("input").value = "new";
+    shown("form")[0].onsubmit(key("Enter"));
+    await soon();
+    closeAll(); // (by Back)
+    app.room = elsewhere;
+    for (let times = 0; times < 50 && !shelf.names("/d").length; times += 1) {
+      goOn.forEach((it) => it());
+      await soon();
+    }
+    await done;
+    assert.deepEqual([shelf.names("/d"), other.asked], [["new"], []]);
+  }
+});
+
 test("where both are kept, a name is free that nothing has, nor what is uploaded with it", async () => {
   const shelf = trashed();
   const done = uploaded(shelf, "/d", onDisk("a.txt", "new"), onDisk("a (2).txt", "second"), onDisk("b.txt", "b"));
