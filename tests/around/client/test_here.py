@@ -223,6 +223,20 @@ def test_setting_by_a_flag_puts_the_other_kind_of_user_aside(tmp_path):
     assert len({it.state_path for it in (its, *others)}) == 3
 
 
+def test_files_of_settings_in_ones_home(tmp_path):
+    """By a ~, as the help names them: no shell has seen what a file of settings says, nor `--ca-file=~/ca.pem`."""
+    for name, text in {"set": f'url = "{URL}"\nlogin = "ann"\npassword-file = "~/word"\nstate = "~/kept"\n',
+                       "word": "secret\n", "ca.pem": "none"}.items():
+        (tmp_path / name).write_text(text)
+        (tmp_path / name).chmod(0o600)
+    with mock.patch.dict(os.environ, {"HOME": str(tmp_path)}, clear=True):
+        its = find_settings({}, "~/set")
+        its.find_password()
+        assert (its.password, its.state_path) == ("secret", str(tmp_path / "kept"))
+        with pytest.raises(LocalFault, match="has no certificate in it"):
+            Line(replace(its, url="https://127.0.0.1:1", ca_file="~/ca.pem"))
+
+
 ANN = {"url": URL, "room_user": "ann"}
 
 
