@@ -8,11 +8,11 @@ from unittest import mock
 
 import pytest
 from given import each
-from room_client import trees
+from room_client import editing, trees
 from room_client.slots import Slot
 from room_client.words import shown
 
-from .desk import COMMAND, EVERYBODY, Desk
+from .desk import COMMAND, EVERYBODY, Desk, before_first
 
 pytestmark = pytest.mark.front
 
@@ -158,6 +158,24 @@ def test_edit_of_a_new_file(desk):
     with mock.patch.dict(os.environ, EDITOR=f"sh -c '{ADDS}' x"):
         desk.prints("edit", "/new", want="/new: 4 bytes\n")
     desk.prints("get", "/new", want=" two")
+
+
+def test_edit_of_a_name_that_somebody_takes(desk):
+    """Behind the last look: theirs stays, and what was written lies here."""
+    def takes():
+        with desk.room("bob") as bob:
+            bob.create("/new", b"theirs")
+    with desk.room() as room:
+        room.set_list("/", 1, [EVERYBODY])
+    os.mkdir(tmp := desk.path("tmp"))
+    with (mock.patch.object(tempfile, "tempdir", tmp), mock.patch.dict(os.environ, EDITOR=f"sh -c '{ADDS}' x"),
+          before_first(editing.files, "write", takes)):
+        status, out, err = desk.does("edit", "/new")
+    assert (status, out) == (1, "")
+    assert "EXIST (4) at /new" in err
+    folder, = os.listdir(tmp)
+    assert desk.read(f"tmp/{folder}/new") == b" two"
+    desk.prints("get", "/new", want="theirs")
 
 
 @pytest.mark.parametrize("editor", ["none", "'", " "])
