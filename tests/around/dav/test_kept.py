@@ -223,14 +223,20 @@ def test_locks_on_a_full_disk(locked, fault):
 
 @pytest.mark.parametrize("fault", [None, *FULL], ids=["a disk with space", "none of it", "a part"])
 def test_a_lock_whose_file_is_written_anew(locked, fault):
-    """It is there by its own line, whatever comes of the rest."""
-    its, plain = locked.its, os.write
+    """It is there by its own line, whatever comes of the rest, and no other file stays open."""
+    its, plain, opens, opened = locked.its, os.write, os.open, {locked.its.file}
     fails = lambda file, data: plain(file, data) if file == its.file else mock.Mock(side_effect=fault)(file, data)
-    with mock.patch.object(locks, "MOST_OVER", -1), mock.patch.object(os, "write", fails if fault else plain):
+
+    def noted(*how):
+        opened.add(file := opens(*how))
+        return file
+    with (mock.patch.object(locks, "MOST_OVER", -1), mock.patch.object(os, "write", fails if fault else plain),
+          mock.patch.object(os, "open", noted)):
         lock = locked.take("/a")
         for seconds in 60, 70:
             lock = its.refresh(lock, seconds)
             assert locked.path.read_bytes().endswith(locks.line_of([vars(lock)]))
+    assert {it for it in opened if os.path.exists(f"/proc/self/fd/{it}")} == {its.file}
     assert [*locked.anew().held.values()] == [lock]
 
 
