@@ -35,9 +35,15 @@ def memory_of(pid, kind="RssAnon"):
 
 
 def open_files(pid):
-    for it in os.listdir(f"/proc/{pid}/fd"):
+    """(But where it says something, which these tests give it.)"""
+    for it in {*os.listdir(f"/proc/{pid}/fd")} - {"0", "1", "2"}:
         with contextlib.suppress(OSError):
             yield os.readlink(f"/proc/{pid}/fd/{it}")
+
+
+def spools(desk):
+    """Where the gateway's files without a name lie. (The /tmp of a machine may be its memory.)"""
+    return {os.path.dirname(it) for it in open_files(desk.gateway.pid) if it.endswith(" (deleted)")}
 
 
 @pytest.fixture
@@ -90,6 +96,7 @@ def test_what_nobody_reads(desk):
     with contextlib.ExitStack() as lines:
         said = [begins(lines, socket.AF_UNIX, desk.path("gate.sock"), "/small") for _ in range(turns.MOST_UNREAD + 1)]
         assert said == [b"200"] * turns.MOST_UNREAD + [b"503"]
+        assert spools(desk) == {desk.path("state")}
         desk.does("ann", "GET", "/small", 503)
         desk.does("bob", "PROPFIND", "/dav/", 207, raw=True, Depth="0")
     assert until(lambda: desk.ask("ann", "HEAD", "/small").status == 200, pause=0.1)
@@ -114,10 +121,11 @@ def test_what_nobody_reads_is_in_no_memory(desk, mapped):
 
 def test_what_is_sent_is_in_no_memory(desk, mapped):
     """While its pieces go on to the room."""
-    found = []
-    with desk.before(has('"data"', ".room-writing-"), lambda: found.append(mapped())):
+    found, lies = [], []
+    with desk.before(has('"data"', ".room-writing-"), lambda: (found.append(mapped()), lies.append(spools(desk)))):
         desk.does("ann", "PUT", "/sent", 201, os.urandom(LARGE))
     assert [it for it in found if it > LARGE // 2] == [] != found
+    assert lies[0] == {desk.path("state")}
 
 
 def test_threads_for_others(desk):
