@@ -69,6 +69,19 @@ def test_the_same_again_is_the_one_that_was_pending(desk, log):
     assert said == ["finished what was pending: APPEND /log: done", AGAIN]
 
 
+OTHER = {"cmd": "APPEND", "data": "b3RoZXI=", "path": "/log"}
+
+
+@each("does", [("one", lambda room: room.ask(OTHER)), ("some at once", lambda room: room.ask_all([OTHER]))])
+def test_the_same_again_behind_others_is_done(desk, log, does):
+    """What was pending may be the first alone that changes something."""
+    loses(desk, append(b"piece"))
+    with desk.behind() as room:
+        does(room)
+        room.append("/log", b"piece")
+    assert log()[0] == b"pieceotherpiece"
+
+
 def with_trash(desk):
     """Ann's, and what goes there."""
     with desk.room() as room:
