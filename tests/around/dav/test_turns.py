@@ -319,6 +319,14 @@ def test_a_visit_is_not_repeated_after_a_change(tmp_path, has_changed, times):
     assert (len(count), its.taken) == (times, set())
 
 
+def test_a_place_is_free_again_behind_a_fault():
+    pace = visit.UserPace("ann", turns.Floor())
+    for _ in range(visit.AT_ONCE):
+        with pytest.raises(ZeroDivisionError), pace.place():
+            1 / 0
+    assert pace.places.acquire(blocking=False)
+
+
 @pytest.fixture
 def work():
     """What is behind answers, all of which ends at once, or in time."""
