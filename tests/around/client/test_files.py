@@ -15,6 +15,7 @@ from room_client.clearing import remove_all
 from room_client.faults import OtherVersion, Refused
 from room_client.line import Line
 from room_client.manifest import MOST, PIECE
+from room_client.replacing import Replacement
 from room_client.slots import Slot
 from room_client.uploads import Upload
 from served import HANGS
@@ -152,6 +153,18 @@ def test_another_version_of_a_document(desk):
             files.write(room, "/a", MINE)
         assert files.read(room, "/a") == b"theirs"
         assert list(room.children("/")) == ["a"]
+
+
+def test_a_document_whose_large_version_may_not_have_its_name(desk):
+    """Somebody takes the right to add folders away between the two renames: it has its name again."""
+    def shuts():
+        with desk.other() as other:
+            other.set_list("/", 1, [{"flag": 0, "mask": 0x4, "type": 1, "who": "ann"}, EVERYBODY])
+    with desk.behind() as room:
+        room.create("/a", b"old")
+        with before_first(Replacement, "take_name", shuts), pytest.raises(Refused, match="lack the right add-folder"):
+            files.write(room, "/a", MINE)
+        assert files.read(room, "/a") == b"old"
 
 
 # An upload is stopped at each of its steps: before and after each request
