@@ -155,14 +155,24 @@ def test_another_version_of_a_document(desk):
         assert list(room.children("/")) == ["a"]
 
 
+def shuts(desk):
+    """Somebody takes the right to add folders away."""
+    with desk.other() as room:
+        room.set_list("/", 1, [{"flag": 3, "mask": 0x4, "type": 1, "who": "ann"}, EVERYBODY])
+
+
+def test_a_new_file_whose_pieces_are_refused_leaves_nothing(desk):
+    with desk.behind() as room:
+        with before_first(Upload, "put_pieces", lambda: shuts(desk)), pytest.raises(Refused, match="add-folder"):
+            files.write(room, "/a", MINE)
+        assert room.children("/") == {}
+
+
 def test_a_document_whose_large_version_may_not_have_its_name(desk):
-    """Somebody takes the right to add folders away between the two renames: it has its name again."""
-    def shuts():
-        with desk.other() as other:
-            other.set_list("/", 1, [{"flag": 0, "mask": 0x4, "type": 1, "who": "ann"}, EVERYBODY])
+    """It has its name again."""
     with desk.behind() as room:
         room.create("/a", b"old")
-        with before_first(Replacement, "take_name", shuts), pytest.raises(Refused, match="lack the right add-folder"):
+        with before_first(Replacement, "take_name", lambda: shuts(desk)), pytest.raises(Refused, match="add-folder"):
             files.write(room, "/a", MINE)
         assert files.read(room, "/a") == b"old"
 
