@@ -3,8 +3,10 @@ import contextlib
 import os
 import shlex
 import shutil
+import signal
 import subprocess
 import tempfile
+from collections.abc import Iterator
 
 from . import files
 from .documents import need_path, read_all, there
@@ -32,7 +34,7 @@ def edit(asked, settings: Settings) -> None:
     else:
         try:
             put_back(settings, path, before, after)
-        except Fault:
+        except (Fault, KeyboardInterrupt):
             say(f"what you wrote is in {here}")
             raise
     os.remove(here)
@@ -60,13 +62,25 @@ def find_editor() -> list[str]:
 
 def run_editor(editor: list[str], path: str) -> None:
     try:
-        status = subprocess.run([*editor, path]).returncode
+        with keys_are_its_own():
+            status = subprocess.run([*editor, path]).returncode
     except OSError as fault:  # (what was found is no program: nothing was typed)
         os.remove(path)
         os.rmdir(os.path.dirname(path))
         raise LocalFault(f"{shown(editor[0])}: {fault.strerror}: name an editor by VISUAL or EDITOR") from fault
     if status:
         raise LocalFault(f"{shown(editor[0])} ended with status {status}: nothing was put; it is in {path}")
+
+
+@contextlib.contextmanager
+def keys_are_its_own() -> Iterator[None]:
+    """A key that stops what the editor runs, which a terminal gives to all, ends neither it nor the wait for it. (By a
+    handler: a signal that is ignored stays so in a program that is begun.)"""
+    before = signal.signal(signal.SIGINT, lambda *_: None)
+    try:
+        yield
+    finally:
+        signal.signal(signal.SIGINT, before)
 
 
 def put_back(settings: Settings, path: str, before: bytes | None, after: bytes) -> None:

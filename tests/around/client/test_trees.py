@@ -11,6 +11,7 @@ from given import each
 from room_client import editing, trees
 from room_client.slots import Slot
 from room_client.words import shown
+from served import HANGS
 
 from .desk import COMMAND, EVERYBODY, Desk, before_first
 
@@ -176,6 +177,25 @@ def test_edit_of_a_name_that_somebody_takes(desk):
     folder, = os.listdir(tmp)
     assert desk.read(f"tmp/{folder}/new") == b" two"
     desk.prints("get", "/new", want="theirs")
+
+
+def test_edit_whose_editor_is_told_to_stop_something(desk):
+    """A terminal gives the key to all: an editor that runs something goes on behind it, and what is written is put."""
+    does = "kill -INT $PPID; sleep 0.5; printf typed >$1"
+    with mock.patch.dict(os.environ, VISUAL=f"sh -c '{does}' x", TMPDIR=desk.folder):
+        child = desk.start("edit", "/new")
+    assert (child.communicate(timeout=HANGS), child.returncode) == ((b"/new: 5 bytes\n", b""), 0)
+    desk.prints("get", "/new", want="typed")
+
+
+def test_edit_that_is_stopped_tells_where_the_text_is(desk):
+    os.mkdir(tmp := desk.path("tmp"))
+    with (mock.patch.object(tempfile, "tempdir", tmp), mock.patch.dict(os.environ, EDITOR=f"sh -c '{ADDS}' x"),
+          mock.patch.object(editing.files, "write", side_effect=KeyboardInterrupt)):
+        status, out, err = desk.does("edit", "/new")
+    folder, = os.listdir(tmp)
+    assert (status, out, err) == (130, "", f"room: what you wrote is in {tmp}/{folder}/new\n")
+    assert desk.read(f"tmp/{folder}/new") == b" two"
 
 
 @pytest.mark.parametrize("editor", ["none", "'", " "])
