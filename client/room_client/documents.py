@@ -262,8 +262,18 @@ def put(room: Room, asked) -> None:
             return faults.take(it.fault)
         show(asked, {"code": 0, "size": it.size}, f"{shown(it.path)}: {it.size} bytes{it.words()}")
 
-    trees.send_all(room, pairs, told)
+    trees.send_all(room, each_apart(pairs, faults.take), told)
     faults.end(shut)
+
+
+def each_apart(pairs: list[tuple], take) -> list[tuple]:
+    """Of those that would get one name in the room the first alone: another one would take its place."""
+    found = {}
+    for it in pairs:
+        if found.setdefault(it[1], it) is not it:
+            other, path = found[it[1]][:2]
+            take(BadWords(f"{shown(it[0])}: {shown(other)} goes to {shown(path)} too: put this under another name"))
+    return list(found.values())
 
 
 def put_one(room: Room, asked, name: str, path: str) -> None:

@@ -2,6 +2,7 @@
 import glob
 import json
 import os
+import re
 import sys
 import tempfile
 from unittest import mock
@@ -9,6 +10,7 @@ from unittest import mock
 import pytest
 from given import each
 from room_client import editing, trees
+from room_client.room import MOST_BYTES
 from room_client.slots import Slot
 from room_client.words import shown
 from served import HANGS
@@ -124,6 +126,24 @@ def test_names_of_a_twin_take_nobodys_place(desk):
         assert "EXIST (4) at /s/plan" in err
     with desk.room() as room:
         assert {it: room.read(f"/s/{it}") for it in [*names, "new"]} == names | {"new": b"bob's"}
+
+
+@each("words, where", [("of two folders", ["put", "a/x", "b/x", "b/y", "/d/"], "/d"),
+                       ("in two folders of a name", ["put", "-r", "a/d", "b/d", "/"], "/d")])
+def test_put_of_two_that_get_one_name(desk, words, where):
+    """The first alone is put, whichever of them is large; the other ones are."""
+    for top, size in ("a", 3), ("b", MOST_BYTES + 1):
+        for it in "x", "d/x":
+            desk.file(f"{top}/{it}", size * b"x")
+    for it in "b/y", "b/d/y":
+        desk.file(it, b"yy")
+    with desk.room() as room:
+        room.mkdir("/d")
+    up = words[1:-1][-1] if "-r" in words else "b"
+    status, out, err = desk.does(*words)
+    assert (status, sorted(out.splitlines())) == (2, ["/d/x: 3 bytes", "/d/y: 2 bytes"])
+    assert re.fullmatch(f"room: {up}/x: a/(d/)?x goes to /d/x too: put this under another name\n", err)
+    desk.prints("ls", "-l", where, want="3  ann:eng  x\n2  ann:eng  y\n")
 
 
 # What an editor was given lies in a folder of its own, which goes once it was put
