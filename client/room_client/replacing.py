@@ -3,7 +3,7 @@ from . import manifest as form
 from .clearing import clear, clear_beside, file_at, folder_of
 from .faults import Fault, OtherVersion, Refused, overtaken, refused_as
 from .parts import give
-from .words import FILE, INHERITED, TO_FILES, TO_FOLDERS, shown
+from .words import FILE, FOLLOWS, INHERITED, TO_FILES, TO_FOLDERS, is_following, shown
 
 # On a document's list, and what the folder that takes its place has to allow beside it, or to deny.
 ALLOWED_BESIDE = {0x1: 0x20, 0x2: 0x66}
@@ -40,8 +40,8 @@ class Replacement:
         """The document's own entries, handed down to the pieces, with what it takes to get at them."""
         found = self.room.get_list(self.path)
         own = [carried(it) for it in found["entries"] if not it["flag"] & INHERITED]
-        if own or found["aclflag"] != 1:
-            inherited = [] if found["aclflag"] & 3 == 1 else [
+        if own or found["aclflag"] != FOLLOWS:
+            inherited = [] if is_following(found["aclflag"]) else [
                 carried(it) for it in found["entries"] if it["flag"] & INHERITED]
             self.room.set_list(self.new, found["aclflag"], own + inherited)
 

@@ -6,15 +6,15 @@ from collections.abc import Iterable
 from . import manifest as form
 from .faults import Refused, refused
 from .room import Room
-from .words import FILE, INHERITED, TO_FILES
+from .words import FILE, FOLLOWS, INHERITED, NOT_HERE, TO_FILES
 
-READ, EXECUTE, NOT_HERE = 0x1, 0x20, 0x8
+READ, EXECUTE = 0x1, 0x20
 FIRST = "/000"  # emptied last: without bytes it says that the others have none
 
 
 def has_own_list(its: dict) -> bool:
     """Whether a list is another than what was handed down."""
-    return its["aclflag"] != 1 or not all(it["flag"] & INHERITED for it in its["entries"])
+    return its["aclflag"] != FOLLOWS or not all(it["flag"] & INHERITED for it in its["entries"])
 
 
 def looks(path: str, *asked: str) -> list[dict]:

@@ -11,7 +11,7 @@ from .clearing import file_at, looking_again, remove_all, remove_file
 from .faults import ACCESS, BadWords, Fault, Refused, refused_as
 from .local import is_in
 from .room import Room
-from .words import FOLDER, GROUP, LIST_FLAGS, neat, shown
+from .words import FOLDER, GROUP, is_following, neat, shown
 
 TOP = "/trash"
 SEPARATOR, CUT = "~", "…"
@@ -63,9 +63,8 @@ def own_trash(room: Room) -> str | None:
 def is_private(its: dict, user: str) -> bool:
     """Whether a list names its owner and this user alone, and takes over nothing that the folder above may hand down
     later: so `fileroom-admin` makes it."""
-    follows = its["aclflag"] & LIST_FLAGS["auto-inherit"] and not its["aclflag"] & LIST_FLAGS["protected"]
-    return not follows and all(it["who"] == "OWNER@" or it["who"] == user and not it["flag"] & GROUP
-                               for it in its["entries"])
+    return not is_following(its["aclflag"]) and all(
+        it["who"] == "OWNER@" or it["who"] == user and not it["flag"] & GROUP for it in its["entries"])
 
 
 def standing(room: Room, path: str) -> dict | None:

@@ -41,7 +41,8 @@ FLAGS = {  # in the order in which they are shown; the first that fit a flag's b
     "inherited": INHERITED,
 }
 TYPES = ["allow", "deny"]
-LIST_FLAGS = {"auto-inherit": 1, "protected": 2, "defaulted": 4}
+FOLLOWS, PROTECTED, DEFAULTED = 0x1, 0x2, 0x4  # (the first takes over what the folder above hands down)
+LIST_FLAGS = {"auto-inherit": FOLLOWS, "protected": PROTECTED, "defaulted": DEFAULTED}
 
 GRAMMAR = """\
 an entry of a list:  allow|deny WHO RIGHTS [INHERITANCE..]
@@ -169,6 +170,11 @@ def read_entry(line: str) -> dict:
     if not re.fullmatch(r"[A-Za-z0-9._-]{1,32}|(OWNER|GROUP|EVERYONE)@", name):
         raise ValueError(f"'{shown(who)}' is nobody: NAME, group:NAME, OWNER@, GROUP@ or EVERYONE@")
     return {"flag": flag, "mask": read_mask(rights), "type": TYPES.index(kind), "who": name}
+
+
+def is_following(aclflag: int) -> bool:
+    """Whether a list takes over what the folder above hands down."""
+    return aclflag & (FOLLOWS | PROTECTED) == FOLLOWS
 
 
 def list_flag_words(aclflag: int) -> str:

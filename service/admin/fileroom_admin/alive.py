@@ -10,6 +10,8 @@ import secrets
 import shutil
 import time
 
+from room_client.slots import UNCACHED
+
 from . import now, paces
 from .asking import Patience, Session
 from .front import end_of
@@ -17,7 +19,6 @@ from .places import LISTEN, Fault, read, said
 
 FOLDER = "var/lib/fileroom-watch"
 WAIT, SOON = 10, 2  # seconds that a room may take, and where its disk is full, since all rooms are asked in turn
-UNCACHED = 25  # the answer to the last request, where it is sent again
 LITTLE = 1 << 20  # bytes of a disk that is full
 FAILED = "d9b373ed55a64feb8242e02dbe79a49c"  # systemd's message that a unit failed, which says by what
 LATELY = "-5min"
@@ -31,7 +32,7 @@ class Own(Session):
         """The code of its answer. (The last number may have been used by a call that could not write that down.)"""
         if self.opened["code"]:
             return self.opened["code"]
-        code = UNCACHED
+        code = UNCACHED  # (as the last request has it, where it is sent again)
         for _ in range(2):
             if code == UNCACHED:
                 self.number += 1

@@ -5,6 +5,7 @@ import json
 import secrets
 import time
 
+from room_client.faults import ACCESS
 from room_client.line import Answer, Line, Lost, NotSent, TooLong
 from room_client.settings import Settings
 
@@ -15,7 +16,7 @@ from .words import is_entry
 WAIT = 20  # seconds that a room may take for a request, or to start
 IN_ALL = 300  # and for all that it is asked here, while no other change can happen; the next call goes on
 TOLD = 200  # letters of what the room says
-NOENT, ACCESS = 1, 5
+NOENT = 1
 
 
 def is_text(it):

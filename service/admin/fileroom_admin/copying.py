@@ -6,6 +6,8 @@ all of its users.
 import base64
 
 from room_client.manifest import FOLDER
+from room_client.trash import TOP
+from room_client.words import FOLLOWS, INHERITED, PROTECTED
 
 from . import now, owned
 from .asking import Patience, Session, shown
@@ -13,7 +15,7 @@ from .places import Fault
 from .rooms import back_up
 from .sees import ENTRIES, entry_of, way_to
 from .syncing import owner_now
-from .trash import FOLLOWS, PROTECTED, TOP, entries_of
+from .trash import entries_of
 from .warned import owner_of
 from .words import entries
 
@@ -74,6 +76,6 @@ def fill(session, table, things, target, users):
     for node, at, _, owner, group, flags in reversed(things):
         session.need("CHOWN", target + at, owner=owner if owner in users else session.user, group=group)
         rows = table.execute(f"{ENTRIES} WHERE node = ? ORDER BY place", (node,))
-        own = [it for it in map(entry_of, rows) if not it["flag"] & owned.INHERITED]
+        own = [it for it in map(entry_of, rows) if not it["flag"] & INHERITED]
         if own or flags != FOLLOWS:
             session.need("SETLIST", target + at, aclflag=flags, entries=own)

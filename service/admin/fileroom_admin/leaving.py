@@ -5,6 +5,7 @@ through all of it; whose each thing is, the room."""
 import os
 
 from room_client.manifest import FOLDER
+from room_client.who import TRAVERSE
 from room_client.words import FILE, right_words
 
 from . import held, now, owned, people
@@ -12,7 +13,6 @@ from .asking import ACCESS, NOENT, Patience, Session
 from .places import Fault
 from .rooms import back_up
 
-EXECUTE = 0x20  # on a folder: to go through it
 TOLD = 20  # things of a room that are left
 
 
@@ -58,7 +58,7 @@ def why(user, path, reply):
         return "it was moved or removed meanwhile"
     if reply["code"] != ACCESS or type(bit) is not int:
         return f"the room refuses it: {reply.get('error', '')} ({reply['code']})"
-    if bit == EXECUTE and at != path:
+    if bit == TRAVERSE and at != path:
         return f"{at} does not let {user} go through to what is in it"
     return f"its list gives {user} no {'/'.join(right_words(bit, FOLDER, FILE))}"
 

@@ -4,6 +4,8 @@ import collections
 import contextlib
 import datetime
 
+from room_client.words import INHERITED
+
 from . import owned
 from .places import Fault
 from .sees import way_to
@@ -70,7 +72,7 @@ class Lists:
             its = way_to(self.table(name), change.path)[-1]
         except (Fault, OSError):
             return None
-        return entries([it for it in its.entries if not it["flag"] & owned.INHERITED])
+        return entries([it for it in its.entries if not it["flag"] & INHERITED])
 
     def table(self, name):
         """Of one backup at a time."""

@@ -10,10 +10,11 @@ import sys
 import tempfile
 import time
 
+from room_client.words import GROUP, INHERITED
+
 from .places import HERE, Fault
 
 TOLD = 20  # paths at most
-GROUP, INHERITED = 0x40, 0x80  # marks of an entry
 TO_COME = "named for a time to come, and passes for the latest until then"
 # (how many things each owns, with a large file as one)
 WHOLE = """SELECT node.owner, count(*) FROM node LEFT JOIN node AS above ON above.id = node.parent

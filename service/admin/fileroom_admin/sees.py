@@ -8,18 +8,18 @@ import re
 from dataclasses import dataclass
 
 from room_client.manifest import FOLDER, NAME, is_large
+from room_client.trash import TOP
 from room_client.who import TRAVERSE, large_words, of_large
-from room_client.words import ALL, FILE, GROUP, INHERITED, LARGE, NOT_HERE, SETS, entry_words, mask_words
+from room_client.words import ALL, FILE, GROUP, INHERITED, LARGE, NOT_HERE, SETS, entry_words, mask_words, read_mask
 
 from . import now, owned
 from .places import Fault
-from .trash import TOP
 
-OWNERS = 0x60000  # READ_ACL and WRITE_ACL, which an owner always has
+OWNERS = read_mask("read-acl,write-acl")  # which an owner always has
 NEEDED = {FOLDER: 0xF00E7, FILE: 0xF0087, LARGE: 0xF0087}  # the rights that some command asks for
 KINDS = FILE, FOLDER
 FEW = 4  # documents of a folder, alike and other than it, or others' trashes, that have a line each; more share one
-OF_TRASH = re.compile("/trash/@[0-9a-f]/([^/]+)")  # docs/FILES.md
+OF_TRASH = re.compile(f"{TOP}/@[0-9a-f]/([^/]+)")  # docs/FILES.md
 NODES = "SELECT id, parent, name, kind, owner, grp FROM node"
 ENTRIES = "SELECT node, type, flag, mask, who FROM entry"
 

@@ -4,15 +4,13 @@ import contextlib
 import os
 import secrets
 
+from room_client.manifest import FOLDER
+from room_client.trash import TOP, is_private, places_of
+from room_client.words import ALL, PROTECTED, SETS, TO_FILES, TO_FOLDERS
+
 from .asking import ACCESS, NOENT, Patience, Session, shown
 from .places import Fault
 
-TOP = "/trash"
-FOLDER = "folder"
-ALL, VIEW = 0x1F07FF, 0x1200A9  # rights
-FOLLOWS, PROTECTED = 1, 2  # whether a list takes over what the folder above hands down; the second counts
-HANDED_DOWN = 3  # to documents and folders
-GROUP = 0x40  # the name is a group's
 OWNER, EVERYONE = "OWNER@", "EVERYONE@"
 
 
@@ -20,7 +18,7 @@ def entry(who, mask, flag=0):
     return {"type": 0, "flag": flag, "mask": mask, "who": who}
 
 
-FOR_ALL = [entry(OWNER, ALL), entry(EVERYONE, VIEW)]  # of folders in which the trashes are
+FOR_ALL = [entry(OWNER, ALL), entry(EVERYONE, SETS["view"])]  # of folders in which the trashes are
 FOR_OWNER = [entry(OWNER, ALL)]
 # in such a folder: a document of the room's owner, with a line for each user whose trash was found to be theirs alone
 SETTLED = "@settled"  # (no user has that name)
@@ -28,19 +26,12 @@ SETTLED = "@settled"  # (no user has that name)
 
 def entries_of(user):
     """Of the user's own, who alone has a right on it."""
-    return [entry(OWNER, ALL), entry(user, ALL, HANDED_DOWN)]
-
-
-def is_private(its, user):
-    """Whether a list is of the user alone, as page and client take it for a trash."""
-    follows = its["aclflag"] & (FOLLOWS | PROTECTED) == FOLLOWS
-    return not follows and all(it["who"] == OWNER or it["who"] == user and not it["flag"] & GROUP
-                               for it in its["entries"])
+    return [entry(OWNER, ALL), entry(user, ALL, TO_FILES | TO_FOLDERS)]
 
 
 def part_of(user):
-    """(A folder holds 256 things, and a room has up to 1,000 users.)"""
-    return f"{TOP}/@{sum(user.encode()) % 16:x}"
+    """The folder that has the user's trash in it."""
+    return places_of(user)[0].rpartition("/")[0]
 
 
 class Trashes:
@@ -168,7 +159,7 @@ class Trashes:
         return is_new
 
     def make(self, part, user):
-        old, path = f"{TOP}/{user}", f"{part}/{user}"
+        path, old = places_of(user)
         kind = self.children(part).get(user)
         if kind == FOLDER:
             return self.adopt(path, user)
