@@ -5,11 +5,11 @@ import datetime
 import importlib.machinery
 import importlib.util
 import os
-import re
 import sys
 import tempfile
 import time
 
+from room_client.manifest import IN_PATH
 from room_client.words import GROUP, INHERITED
 
 from .places import HERE, Fault
@@ -23,13 +23,11 @@ WHOLE = """SELECT node.owner, count(*) FROM node LEFT JOIN node AS above ON abov
 EMPTY_TRASHES = """SELECT it.id, it.name FROM node AS it JOIN node AS part ON part.id = it.parent
     JOIN node AS top ON top.id = part.parent JOIN node AS root ON root.id = top.parent WHERE root.parent IS NULL
     AND top.name = 'trash' AND part.name GLOB '@?' AND NOT EXISTS (SELECT 1 FROM node WHERE parent = it.id)"""
-# a part of a large file (docs/FILES.md)
-PIECES = re.compile(r"/\.room-(file|(writing|pieces|gone|new)-[0-9a-f]{16})(/|\Z)")
 
 
 def whole(path):
     """The large file that this is a part of, or itself."""
-    part = PIECES.search(path)
+    part = IN_PATH.search(path)
     return path[:part.start()] if part else path
 
 
@@ -90,7 +88,7 @@ def found(places, room, user):
         owns = table.execute("SELECT id FROM node WHERE owner = ?", (user,)).fetchall()
         named = table.execute("SELECT DISTINCT node FROM entry WHERE who = ? AND flag & ? = 0",
                               (user, GROUP | INHERITED)).fetchall()
-        paths = [sorted(path for it, in nodes for path in [path_of(table, it)] if not PIECES.search(path))
+        paths = [sorted(path for it, in nodes for path in [path_of(table, it)] if not IN_PATH.search(path))
                  for nodes in (owns, named)]
     return name, *paths
 
@@ -123,7 +121,7 @@ def left_by(places, room, users):
     try:
         name = latest(places, room)
         with opened(places, room, name) as table:
-            table.create_function("is_part", 1, lambda path: bool(PIECES.search(path)), deterministic=True)
+            table.create_function("is_part", 1, lambda path: bool(IN_PATH.search(path)), deterministic=True)
             things = dict(table.execute(WHOLE))
             lists = dict(table.execute("SELECT who, count(DISTINCT node) FROM entry WHERE flag & ? = 0 GROUP BY who",
                                        (GROUP | INHERITED,)))

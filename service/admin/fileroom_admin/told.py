@@ -9,6 +9,8 @@ import os
 import re
 import zlib
 
+from room_client.manifest import IN_PATH
+
 from .lists import Lists, begins
 from .owned import of_backups
 from .places import CHANGES, Fault
@@ -22,7 +24,7 @@ OF_A_FILE = {"MKDIR", "CREATE", "WRITE", "APPEND", "RENAME", "REMOVE", "CHOWN"}
 BEGIN = b'{"time":"'  # of a line: within one such marks have a backslash
 APART = datetime.timedelta(minutes=10)  # pieces of a large file that come later than this are another upload
 # of a large file (docs/FILES.md)
-PART = re.compile(r"(.+?)/\.room-(?:file|(?:writing|pieces|gone|new)-[0-9a-f]{16})(?:/.*)?")
+PART = re.compile(f"(.+?){IN_PATH.pattern}.*")
 
 
 def files_of(places):
