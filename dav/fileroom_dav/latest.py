@@ -13,6 +13,7 @@ import time
 from dataclasses import dataclass, field
 
 from room_client.manifest import FOLDER, NAME, is_hidden
+from room_client.room import DONE_MOST
 
 from .asked import Asked, Reply
 from .names import above, below, is_below, last
@@ -23,7 +24,6 @@ MOST = 1 << 20  # bytes of the log's end
 SETTLED = 0.3  # seconds until the line of what the room has answered is there
 MOVES = 409  # the front, while a move of the room is under way
 SEES = 0x1 | 0x80  # READ_DATA or LIST_DIRECTORY, and READ_ATTRIBUTES
-DONE_MOST = 24  # bytes of a reply: {"code":0,"size":65536} is the longest of what was done, and refusals are longer
 PUTS, TAKES = ("MKDIR", "CREATE", "RENAME"), ("REMOVE", "RENAME")
 CHANGES = (*PUTS, "WRITE", "APPEND")
 LOGS = "/latest.log", "/latest.log.1"

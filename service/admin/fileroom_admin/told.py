@@ -10,13 +10,13 @@ import re
 import zlib
 
 from room_client.manifest import IN_PATH
+from room_client.room import DONE_MOST
 
 from .lists import Lists, begins
 from .owned import of_backups
 from .places import CHANGES, Fault
 from .words import entries, is_entry
 
-DONE_MOST = 24  # bytes of a reply: {"code":0,"size":65536} is the longest of what was done, and refusals are longer
 ODD_MOST = 200  # letters of one in an odd form
 WAITING = 5000  # changes that may still be sent again, or go on
 MOST_PLACES = 20  # of lines that cannot be read
