@@ -9,12 +9,13 @@ from dataclasses import dataclass
 from room_client import trash
 from room_client.clearing import remove_all
 from room_client.faults import Refused
+from room_client.words import BITS
 
 from .faults import is_refused
 from .names import above, below, is_below, last
 from .visit import Visit
 
-ADD_FILE, ADD_FOLDER = 0x2, 0x4
+ADD_FILE, ADD_FOLDER = BITS["add-file"], BITS["add-folder"]
 
 
 @dataclass(frozen=True)

@@ -14,6 +14,7 @@ from dataclasses import dataclass, field
 
 from room_client.manifest import FOLDER, NAME, is_hidden
 from room_client.room import DONE_MOST
+from room_client.words import read_mask
 
 from .asked import Asked, Reply
 from .names import above, below, is_below, last
@@ -23,7 +24,7 @@ from .visit import Visit
 MOST = 1 << 20  # bytes of the log's end
 SETTLED = 0.3  # seconds until the line of what the room has answered is there
 MOVES = 409  # the front, while a move of the room is under way
-SEES = 0x1 | 0x80  # READ_DATA or LIST_DIRECTORY, and READ_ATTRIBUTES
+SEES = read_mask("read,read-attributes")  # (of a folder that is to list it)
 PUTS, TAKES = ("MKDIR", "CREATE", "RENAME"), ("REMOVE", "RENAME")
 CHANGES = (*PUTS, "WRITE", "APPEND")
 LOGS = "/latest.log", "/latest.log.1"

@@ -2,6 +2,7 @@
 import re
 
 from room_client.faults import Refused
+from room_client.words import BITS, read_mask
 
 from . import locks as form
 from .asked import Asked
@@ -11,10 +12,10 @@ from .names import above, href, is_below, split_destination
 from .tree import Thing, is_there, spelled, thing_at
 from .visit import Visit
 
-WRITE = 0x2  # on a folder: to add a document
-CHANGE = WRITE | 0x4 | 0x10000  # any of these lets change what is there, or remove it
-CHANGE_ABOVE = WRITE | 0x4 | 0x40  # and any of these, on the folder above
-ALL_BELOW = WRITE | 0x4 | 0x40  # on a folder: to add what one likes, and to take away what is in it
+WRITE = BITS["write"]  # on a folder: to add a document
+CHANGE = read_mask("write,append,delete")  # any of these lets change what is there, or remove it
+ALL_BELOW = read_mask("add-file,add-folder,delete-child")  # on a folder: to add what one likes, and to take away
+CHANGE_ABOVE = ALL_BELOW  # and any of these, on the folder above
 TAGS = re.compile(r'(?:W/)?"[^"]*"')
 
 

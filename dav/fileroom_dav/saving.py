@@ -10,12 +10,12 @@ from collections.abc import Callable
 
 from room_client import clearing, files
 from room_client.faults import Fault, Held, NoAnswer, OtherVersion, Refused, SessionLost, overtaken
-from room_client.manifest import NAME, Manifest, are_parts, read_manifest
+from room_client.manifest import FOLDER, NAME, Manifest, are_parts, read_manifest
 from room_client.reading import manifest_in, text_at
 from room_client.room import MOST_BYTES, unheard
 from room_client.spares import has_own_list
 from room_client.trash import is_private
-from room_client.words import ALL, FOLDER, GROUP, INHERITED, LIST_FLAGS, TO_FILES, TO_FOLDERS
+from room_client.words import ALL, DEFAULTED, FOLLOWS, GROUP, INHERITED, PROTECTED, TO_FILES, TO_FOLDERS, is_following
 
 from . import apart, pool
 from .asked import Asked
@@ -26,8 +26,7 @@ from .steps import MINUTES, Aside, Step, of_what
 from .tree import Thing, bytes_of, is_folder, is_there, sum_of, thing_at
 from .visit import Visit
 
-FOLLOWS, PROTECTED = LIST_FLAGS["auto-inherit"], LIST_FLAGS["protected"]
-VEIL = PROTECTED | LIST_FLAGS["defaulted"]  # (nobody sets that by hand: what has it may have its folder's list again)
+VEIL = PROTECTED | DEFAULTED  # (nobody sets that by hand: what has it may have its folder's list again)
 MOST_ENTRIES = 32
 OR_ELSE = f"Save under another name, or wait {MINUTES} minutes"
 
@@ -208,7 +207,7 @@ def bytes_told(visit: Visit, path: str) -> list[str | None]:
 
 def own_entries(told: dict) -> list[dict]:
     """Those that its folder did not hand down."""
-    follows = told["aclflag"] & 3 == FOLLOWS
+    follows = is_following(told["aclflag"])
     return [it for it in told["entries"] if not (follows and it["flag"] & INHERITED)]
 
 
