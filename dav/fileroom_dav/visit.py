@@ -73,9 +73,9 @@ class KeptState(State):
         """One page in its place, which a kill does not cut: a file that is replaced waits for the disk."""
         text = json.dumps(what | {"pending": without_bytes(what["pending"])}).encode().ljust(PAGE)
         if len(text) == PAGE and is_page(path):
-            return put(path, text, os.O_WRONLY)
+            return write_private(path, text, os.O_WRONLY)
         with self.away():
-            put(path + ".new", text, os.O_WRONLY | os.O_CREAT | os.O_TRUNC)
+            write_private(path + ".new", text, os.O_WRONLY | os.O_CREAT | os.O_TRUNC)
             os.replace(path + ".new", path)
 
     @property
@@ -141,7 +141,7 @@ def is_page(path: str) -> bool:
     return False
 
 
-def put(path: str, text: bytes, how: int) -> None:
+def write_private(path: str, text: bytes, how: int) -> None:
     file = os.open(path, how, 0o600)
     try:
         if os.pwrite(file, text, 0) < len(text):

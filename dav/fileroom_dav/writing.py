@@ -93,7 +93,7 @@ def discard(gate, visit: Visit, room: str, path: str) -> None:
     one = gate.asides.is_aside(room, visit.settings.user, path)
     bin_ = None if is_short_lived(path) and not one else trash.trash_of(visit)
     if bin_ and one:
-        trash.put_in_trash(Kept(gate, visit, one), path, bin_)
+        trash.put_in_trash(RecordedRename(gate, visit, one), path, bin_)
     elif bin_ is None or path == trash.TOP or is_below(path, trash.TOP):
         pool.remove(visit, path)
     else:
@@ -107,7 +107,7 @@ def remove_empty(visit: Visit, bin_: str, name: str) -> None:
         visit.remove(below(bin_, name))
 
 
-class Kept:
+class RecordedRename:
     """Renames what was moved aside once more, which is on record before."""
 
     def __init__(self, gate, visit: Visit, one: Aside):

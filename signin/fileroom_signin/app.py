@@ -56,10 +56,10 @@ class Places:
     def __init__(self, at_once: int):
         self.asking, self.all = threading.BoundedSemaphore(at_once), threading.BoundedSemaphore(at_once + BEHIND)
 
-    def one(self):
+    def place(self):
         return held(self.all, 0)
 
-    def one_that_asks(self):
+    def place_to_ask(self):
         return held(self.asking, PATIENCE)
 
 
@@ -103,7 +103,7 @@ class SignIn:
 
     def waits(self, user: str, word: str, mark: bytes) -> bool:
         places = self.places_of_last if self.known.is_last(user, mark) else self.places
-        with places.one():
+        with places.place():
             return self.known.once(mark, lambda: self.is_right_there(user, word, mark, places))
 
     def is_right_there(self, user: str, word: str, mark: bytes, places: Places) -> bool:
@@ -111,7 +111,7 @@ class SignIn:
         if begun is None:
             return False
         try:
-            with places.one_that_asks():
+            with places.place_to_ask():
                 is_right = self.directory.is_right(user, word)
         except Down as fault:
             if not fault.may_count:

@@ -446,7 +446,7 @@ def test_an_answer_on_a_full_disk(tmp_path, how):
         with pytest.raises(faults.Busy):
             spool.filled(9, lambda put: put(0, b"xy"))
         with pytest.raises(OSError):
-            visit.put(str(tmp_path / "it"), b"xy", os.O_WRONLY | os.O_CREAT)
+            visit.write_private(str(tmp_path / "it"), b"xy", os.O_WRONLY | os.O_CREAT)
 
 
 def test_no_file_is_of_two_users(tmp_path):

@@ -17,7 +17,7 @@ from room_client import slots
 from room_client.faults import SessionLost
 from served import WAIT, text_of, until
 
-put = visit.put
+write_private = visit.write_private
 
 
 class Channel:
@@ -201,7 +201,8 @@ def test_hashes_and_the_disk_are_nobodys_turn(tmp_path):
     one = types.SimpleNamespace(pace=visit.UserPace("eve", floor))
     state = visit.KeptState(str(tmp_path / "state"), "http://x", "eve", 1.0)
     with contextlib.closing(state), floor.of("eve"), mock.patch.object(tree, "filled", return_value=b"x"), (
-            mock.patch.object(visit, "put", side_effect=lambda *how: (seen.append(floor.login), put(*how)))):
+            mock.patch.object(visit, "write_private",
+                              side_effect=lambda *how: (seen.append(floor.login), write_private(*how)))):
         assert tree.pieces_of(one, "/a", its, range(1)) == b"x"
         visit.Seat(0, mock.Mock(), None, state, one.pace, None)
         state.save(state.session)
