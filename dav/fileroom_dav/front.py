@@ -75,7 +75,7 @@ def is_silent(sock: socket.socket) -> bool:
 
 
 class FrontLine:
-    """What `room_client.Line` is to a desk: one connection, while it is needed."""
+    """What `room_client.Line` is to the command `room`: one connection, while it is needed."""
 
     context = None  # (of TLS)
     away = contextlib.nullcontext  # (the floor's, once a seat has it)

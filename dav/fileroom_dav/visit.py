@@ -1,8 +1,8 @@
 """One request's way to a room: the caller's own login to the front, over its socket, in a session that is kept.
 
-What `room_client` has is used as it is. Four things differ from a desk: the front is reached by its socket (front.py);
-a file is not flushed, since what a start of the machine ends is not late either, and another session begins then; what
-was left pending is never done late; and a refusal by the front is known by its status.
+What `room_client` has is used as it is. Four things differ from the command `room`: the front is reached by its socket
+(front.py); a file is not flushed, since what a start of the machine ends is not late either, and another session begins
+then; what was left pending is never done late; and a refusal by the front is known by its status.
 """
 import base64
 import contextlib
@@ -43,8 +43,8 @@ def boot_id() -> str:
 
 
 class KeptState(State):
-    """As a desk has it, and no flush: it lasts over a kill of this program, and a start of the machine is seen. Between
-    two visits it is kept, so that its files are read once."""
+    """As the command `room` has it, and no flush: it lasts over a kill of this program, and a start of the machine is
+    seen. Between two visits it is kept, so that its files are read once."""
 
     away = contextlib.nullcontext  # (the floor's, once a seat has it)
     width = WIDTH
@@ -217,7 +217,7 @@ class Visit(Room):
         self.has_changed, self.told = False, []
 
     def _heard(self, text: str) -> None:
-        """(What a desk would print: of uploads that were stopped, and what is left of them.)"""
+        """(What the command `room` prints: of uploads that were stopped, and what is left of them.)"""
         self.told.append(text)
 
     def settle(self) -> None:
