@@ -14,7 +14,7 @@ from .words import is_behind, is_part, shown, whole_of
 
 MOST_BYTES = 65536  # of a document
 # Bytes of a reply: {"code":0,"size":65536} is the longest of what was done, and refusals are longer. (By that the
-# gateway and fileroom-admin read the front's logs; front/fileroom.conf has the number as a pattern.)
+# gateway and fileroom-admin read the front's logs; front/fileroom.conf and service/fail2ban/made.conf have patterns.)
 DONE_MOST = 24
 SAME = "that was this very request, done once: give it again to do it a second time"
 CHANGES = ("APPEND", "CHOWN", "CREATE", "MKDIR", "REMOVE", "RENAME", "SETLIST", "WRITE")
