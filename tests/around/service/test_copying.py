@@ -121,9 +121,11 @@ def test_the_lines_of_running_let_the_others_in(made, club):
     assert club.holds("ann", "SETLIST", "/", aclflag=0, entries=FOR_ALL[:1])["code"] == 0
     assert made.does("group", "add", "club", "club", "bob")[0] == 0
     assert made.does("room", "copy", "plans", "/w", "club", "/club")[0] == 0
-    lines = [it for it in text_of(f"{TOP}/docs/RUNNING.md").splitlines() if it.startswith("    room acl /")]
+    lines = [it for it in text_of(f"{TOP}/docs/RUNNING.md").splitlines() if it.lstrip().startswith("room acl /")]
     asks = ["--url", f"http://127.0.0.1:{club.room.port}", "--room-user", "ann", "--state", made.at("../state")]
-    for it in (shlex.split(line)[1:] for line in lines if "group:club" in line):
+    words = [shlex.split(line)[1:] for line in lines if "group:club" in line]
+    assert len(words) == 2
+    for it in words:
         done = subprocess.run([sys.executable, "-B", f"{TOP}/client/room", *asks, *it], env=made.env, timeout=300)
         assert done.returncode == 0
     assert club.holds("bob", "READ", "/club/doc")["code"] == 0
