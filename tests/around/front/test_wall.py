@@ -30,6 +30,7 @@ NEIGHBOURS = [f"10.99.0.{it}" for it in range(1, 21)]  # addresses of others
 SERVER, SIX = "fd00::1", 8003  # of IPv6
 NEAR, FAR = [f"fd00:0:0:1::{at:x}" for at in range(1, 31)], "fd00:0:0:2::1"
 SITE, SITE_AT_ONCE, SITE_A_SECOND = "fd00:5:5", 400, 60  # a network of many networks (/48), and what it begins
+WALLS_MARK, OTHERS_MARK = 0x40000000, 5  # of connections: the one of fileroom.nft, and of who else has rules
 FEW = 8  # elements of a set that is soon full
 SIX_USERS = [f"u{it:02}" for it in range(1, 11)]  # of whom each may have 16 requests under way at an address
 OPEN, BEYOND = 100, 20  # requests under way of a network, and how many are more
@@ -146,6 +147,17 @@ def test_other_addresses_of_the_loopback(ports, fronted):
     front = fronted(port=FRONT)
     found = [front.status("u01", "GET", "/whoami", source=it) for it in ("127.0.0.2", "127.9.9.9", NEIGHBOURS[0])]
     assert found == [None, None, 200]
+
+
+def test_a_mark_of_another_table_stays(ports):
+    """Beside that of the wall, for which such a connection is counted as any."""
+    told("nft", f"add table ip x; add chain ip x first {{ type filter hook input priority -1; }}; "
+                f"add chain ip x last {{ type filter hook input priority 1; }}; "
+                f"add rule ip x first tcp dport {FRONT} ct state new ct mark set {OTHERS_MARK}; "
+                f"add rule ip x last tcp dport {FRONT} ct mark {OTHERS_MARK | WALLS_MARK} counter")
+    with socket.create_server(("127.0.0.1", FRONT)), socket.create_connection(("127.0.0.1", FRONT)) as line:
+        line.sendall(b"GET")
+        assert "counter packets 0" not in told("nft", "list", "chain", "ip", "x", "last")
 
 
 def sum_of(data):
