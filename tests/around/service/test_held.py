@@ -252,7 +252,7 @@ def test_a_room_that_is_gone(machine):
 
 def holds(machine, user, *at):
     """At which of these bounds somebody is held."""
-    return [it for it in at if machine.does("user", "hold", "plans", user, "--at", it)[1]]
+    return [it for it in at if machine.does("user", "hold", "plans", user, "--at", *it.split())[1]]
 
 
 def test_whose_bound_counts(machine):
@@ -269,6 +269,15 @@ def test_whose_bound_counts(machine):
     assert holds(machine, "kim", "few") == ["few"]
     machine.does("bound", "plans", "none", "--user", "kim")
     assert holds(machine, "kim", "few", "many") == []
+
+
+@pytest.mark.parametrize("used, bound, held_at", [
+    (800_000, "usual", []), (800_001, "usual", ["few --made"]), (800_001, "many", [])])
+def test_where_few_numbers_are_left(machine, used, bound, held_at):
+    """Few objects are too many for who has the usual bound; what is sent uses up no number, and counts as before."""
+    machine.write(f"var/backups/fileroom/plans/{stamp(0)}/numbers", f"{used}\n")
+    machine.does("bound", "plans", bound, "--user", "bob")
+    assert holds(machine, "bob", "few", "few --made") == held_at
 
 
 def test_who_leaves(machine):
