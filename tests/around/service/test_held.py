@@ -217,6 +217,7 @@ def test_check_tells_where_nobody_counts(machine, bound, told):
 def test_who_is_told_of_it(machine):
     """Who runs the machine by check, a monitor, and a room's owner on the page."""
     machine.backed_up()
+    machine.write("etc/nginx/fileroom/held/kim@plans-2", "")  # (in another room)
     for user in "ann", "bob":
         assert machine.does("user", "hold", "plans", user) == (0, f"{user} is held in plans\n", "")
     told = [it for it in machine.does("check")[1].splitlines() if " is held since " in it]
