@@ -40,9 +40,10 @@ def test_each_number_is_what_is_there(machine, latest):
     now, old = time.strftime("%d/%b/%Y:%H:%M:%S %z"), "01/Jan/2020:00:00:00 +0000"
     asked = 'x - ann [{}] "POST /rooms/{}/v1/sessions/0/slots/0/1 HTTP/1.1" {} 9 "-" "-" {}\n'
     machine.write("var/log/nginx/access.log", "".join(asked.format(*it) for it in (
-        (old, "plans", 200, 9.0), (now, "plans", 200, 0.25), (now, "plans", 200, 0.5), (now, "plans", 503, 2.0),
-        (now, "club", 200, 0.125), (now, "made-up", 404, 0.1)))
+        (old, "plans", 200, 9.0), (now, "plans", 200, 0.5), (now, "plans", 503, 2.0), (now, "club", 200, 0.125),
+        (now, "made-up", 404, 0.1)))
         + "no line\n" + 'x - - [' + now + '] "GET / HTTP/1.1" 200 1 "-" "-" 0.1\n')
+    machine.write("var/log/nginx/access.log.1", asked.format(now, "plans", 200, 0.25))  # (it has just been turned over)
     machine.shows("fileroom@plans MemoryMax=123456\n")
     room = Served(machine)
     found = machine.numbers()
