@@ -1,5 +1,5 @@
-"""A room with a standby: what is left where its volume cannot be made, what reaches another host, and how its room
-rests for a backup."""
+"""A room with a standby: what is left where its volume cannot be made, what reaches another host, how its room rests
+for a backup, and what `check` finds, by what the others say."""
 import os
 import re
 import runpy
@@ -119,3 +119,92 @@ def test_at_rest_for_its_backup(folder):
     assert it.does(f"{SERVICE}/fileroom-rest", "--end", "plans") == ""
     assert (it.starts(), os.path.exists(it.ran), "rule" in text_of(it.cib)) == (True, False, False)
     assert text_of(f"{folder}/waited").splitlines() == ["--wait --timeout=60"] * 3  # (until it has stopped, or runs)
+
+
+# What `check` finds
+
+HOSTS = "10.0.0.1", "10.0.0.2", "10.0.0.3"
+VOLUME = ("<c><opRet>0</opRet><volume><statusStr>Started</statusStr><typeStr>Replicate</typeStr><replicaCount>3"
+          "</replicaCount><brickCount>3</brickCount><arbiterCount>0</arbiterCount></volume></c>")
+COPY = "<brick><name>{}:/srv</name><status>Connected</status><numberOfEntries>0</numberOfEntries></brick>"
+CIB = ("<cib><crm_config><nvpair name='no-quorum-policy' value='stop'/></crm_config><group id='plans'>"
+       "<primitive id='plans-room' type='fileroom-standby@plans'/></group></cib>")
+RUNS = ("<p><current_dc with_quorum='true'/><resource id='f' resource_agent='stonith:fence_x' active='true' "
+        "failed='false'/><resource id='plans-room' resource_agent='x' active='true'/></p>")
+
+
+def found_by_check(folder, etc, name, old, new):
+    """With what each of the others says, but for one text of one of them."""
+    told = {line.split()[0]: line.split()[1] for line in text_of(os.path.join(SERVICE, "standby/volume")).splitlines()
+            if line.strip() and line[0] != "#"} | {"auth.allow": ",".join(HOSTS)}
+    says = {"info": VOLUME, "get": "Option Value\n-- --\n" + "".join(f"{it}  {its}\n" for it, its in told.items()),
+            "heal": f"<c><opRet>0</opRet>{''.join(map(COPY.format, HOSTS))}</c>",
+            "list": "UUID Hostname State\n" + "".join(f"a {it} Connected\n" for it in HOSTS),
+            "nft": f"elements = {{ {', '.join(HOSTS)} }}", "cibadmin": CIB, "crm_mon": RUNS}
+    assert name == "all" or says[name].count(old) >= 1
+    for it, text in says.items():
+        put_file(os.path.join(folder, it), text.replace(old, new, 1) if it == name else text)
+    put_file(os.path.join(etc, "fileroom/plans.hosts"), "".join(f"{it}\n" for it in HOSTS))
+    stand_in(folder, "gluster", f'for it in info get heal list; do case " $* " in *" $it "*) its=$it ;; esac; done; '
+                                f'case "$*" in *heal*) its=heal ;; esac; cat {folder}/$its')
+    for it in "nft", "cibadmin", "crm_mon":
+        stand_in(folder, it, f"cat {folder}/{it}")
+    path = ":".join(f"{folder}/stand-in-{it}" for it in ("gluster", "nft", "cibadmin", "crm_mon"))
+    status, lines, faults = said(TOOL, "check", "plans", ETC=etc, PATH=f"{path}:{PATH}")
+    assert faults == ""
+    return status, lines.splitlines()
+
+
+def test_nothing_is_found(folder, etc):
+    assert found_by_check(folder, etc, "all", "", "") == (0, [
+        "plans: all is as it must be; the room is not mounted here: check there too"])
+
+
+@pytest.mark.parametrize("name, old, new, want", [
+    ("info", "Started", "Stopped", "the volume is Stopped"), ("info", "<arbiterCount>0", "<arbiterCount>1", "whole copies"),
+    ("get", "cluster.eager-lock  off", "cluster.eager-lock  on (DEFAULT)", "eager-lock is on and must be off"),
+    ("get", HOSTS[2], "10.0.0.4", "auth.allow is"), ("list", "2 Connected", "2 Disconnected", "10.0.0.2 is Disconnected"),
+    ("heal", "Connected", "Transport endpoint", "the copy 10.0.0.1:/srv is away"),
+    ("heal", "Entries>0", "Entries>7", "10.0.0.1:/srv has 7 files"),
+    ("nft", ", 10.0.0.3", "", "ports are open to everybody"),
+    ("cibadmin", "<nvpair ", "<nvpair name='stonith-enabled' value='False'/><nvpair ", "fencing is off"),
+    ("cibadmin", "'stop'", "'ignore'", "without a quorum"), ("cibadmin", "standby@plans", "standby@club", "no group has"),
+    ("cibadmin", "@plans'/>", "@plans'><meta_attributes><nvpair name='target-role' value='Stopped'/></meta_attributes>"
+                 "</primitive>", "told to rest"),
+    ("crm_mon", "failed='false'", "failed='true'", "no fencing device runs"),
+    ("crm_mon", "active='true' failed", "active='false' failed", "no fencing device runs"),
+    ("crm_mon", "quorum='true'", "quorum='false'", "the cluster has no quorum"),
+    ("crm_mon", "'x' active='true'", "'x' active='false'", "runs the room nowhere")])
+def test_what_is_found(folder, etc, name, old, new, want):
+    """One finding, and a status that says so."""
+    status, lines = found_by_check(folder, etc, name, old, new)
+    assert (status, len(lines), lines[-1].partition(";")[0]) == (1, 2, "plans: 1 findings"), lines
+    assert want in lines[0]
+
+
+@pytest.mark.parametrize("mode, is_told", [(0o700, False), (0o710, True), (0o701, True)])
+def test_who_may_read_the_copy(folder, etc, monkeypatch, mode, is_told):
+    tool = runpy.run_path(TOOL)
+    monkeypatch.setitem(tool["of_walls"].__globals__, "BRICKS", folder)
+    monkeypatch.setitem(tool["of_walls"].__globals__, "hosts_of", lambda _: [])
+    os.chmod(folder, mode)
+    assert [*tool["of_walls"]("plans")] == [f"users of this machine may read the copy: chmod 700 {folder}"] * is_told
+
+
+OPEN = "fd.0.remote_fd = 1\nlock 0: owner = aa\nconnected = 1\n"  # of a copy, with a file that the program has locked
+CLOSED = OPEN.replace("= 1\nl", "= -1\nl")
+
+
+@pytest.mark.parametrize("copies, is_whole, is_left_out", [
+    ([OPEN] * 3, True, False), ([OPEN, OPEN, CLOSED], True, True), ([OPEN, OPEN, "connected = 1\n"], True, True),
+    ([OPEN, OPEN, CLOSED.replace("ted = 1", "ted = 0")], False, False), ([CLOSED] * 3, True, True),
+    (["connected = 1\n"] * 3, True, False), ([OPEN] * 2, False, False)])
+def test_a_copy_that_came_back(folder, copies, is_whole, is_left_out):
+    """The program is started again where all are there, and one has its files not open."""
+    mount = runpy.run_path(TOOL)["Mount"]("plans")
+    mount.folder = folder
+    for at, said_of_it in enumerate(copies):
+        path = os.path.join(folder, f".meta/graphs/active/plans-client-{at}/private")
+        os.makedirs(os.path.dirname(path))
+        put_file(path, said_of_it)
+    assert (mount.is_whole(), mount.has_left_out()) == (is_whole, is_left_out)
