@@ -161,14 +161,17 @@ def test_nothing_is_found(folder, etc):
 
 
 @pytest.mark.parametrize("name, old, new, want", [
-    ("info", "Started", "Stopped", "the volume is Stopped"), ("info", "<arbiterCount>0", "<arbiterCount>1", "whole copies"),
+    ("info", "Started", "Stopped", "the volume is Stopped"),
+    ("info", "<arbiterCount>0", "<arbiterCount>1", "whole copies"),
     ("get", "cluster.eager-lock  off", "cluster.eager-lock  on (DEFAULT)", "eager-lock is on and must be off"),
-    ("get", HOSTS[2], "10.0.0.4", "auth.allow is"), ("list", "2 Connected", "2 Disconnected", "10.0.0.2 is Disconnected"),
+    ("get", HOSTS[2], "10.0.0.4", "auth.allow is"),
+    ("list", "2 Connected", "2 Disconnected", "10.0.0.2 is Disconnected"),
     ("heal", "Connected", "Transport endpoint", "the copy 10.0.0.1:/srv is away"),
     ("heal", "Entries>0", "Entries>7", "10.0.0.1:/srv has 7 files"),
     ("nft", ", 10.0.0.3", "", "ports are open to everybody"),
     ("cibadmin", "<nvpair ", "<nvpair name='stonith-enabled' value='False'/><nvpair ", "fencing is off"),
-    ("cibadmin", "'stop'", "'ignore'", "without a quorum"), ("cibadmin", "standby@plans", "standby@club", "no group has"),
+    ("cibadmin", "'stop'", "'ignore'", "without a quorum"),
+    ("cibadmin", "standby@plans", "standby@club", "no group has"),
     ("cibadmin", "@plans'/>", "@plans'><meta_attributes><nvpair name='target-role' value='Stopped'/></meta_attributes>"
                  "</primitive>", "told to rest"),
     ("crm_mon", "failed='false'", "failed='true'", "no fencing device runs"),
