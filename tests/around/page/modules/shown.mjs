@@ -61,6 +61,21 @@ test("a text of several blanks has each of them in its place, in German too", as
   }
 });
 
+const textsIn = (it, ...keys) => (typeof it === "string" ? [[keys.join("."), it]] :
+  Object.entries(it).flatMap(([key, its]) => textsIn(its, ...keys, key)));
+
+test("German denies what English denies, and nothing else", async () => {
+  // (these German says the other way around)
+  const turned = ["countsForNobody", "levels.shut.0", "nameWanted", "sessionGone", "takeFrom", "wasStopped"];
+  const denied = async (language, denial, others = []) => {
+    const { t: table } = await import(`${process.env.PAGE}/words.${language}.js`);
+    return textsIn(table).filter(([key, it]) => denial.test(it) !== others.includes(key)).map(([key]) => key).sort();
+  };
+  const english = await denied("en", /\b(no|not|nobody|nothing|nowhere|cannot|without)\b|n't/i, turned);
+  const german = await denied("de", /\b(nichts?|kein(e|en|er)?|niemand|nirgends|ohne)\b/i);
+  assert.deepEqual(german, english);
+});
+
 test("an answer that comes late is not drawn over the row on which somebody stands by then", async () => {
   const answers = new Map();
   const row = (called) => ({ path: `/${called}`, called, kindName: "folder", cells: { kind: make("td") },
