@@ -68,6 +68,15 @@ def test_latest_places_are_at_hand(club, browser, plans):
     assert browser.script(TEXTS, "dialog .chooser p button.small") == ["minutes", "New folder"]
 
 
+def test_latest_places_are_five_beside_the_shown_one(club, browser):
+    club.lay(*(f"/{it}/" for it in "abcdef"))
+    for it in "abcdef":
+        club.open(f"/{it}")
+    for path, wanted in ("/f", "edcba"), ("", "fedcb"):
+        club.open(path)
+        browser.until("five are there", lambda: in_rail(browser, "Opened last") == list(wanted))
+
+
 def test_trash_is_no_goal_of_a_move(club, browser, plans):
     club.make_trash()
     club.open("/plans")
