@@ -111,12 +111,16 @@ def test_trash_is_at_hand_everywhere(club, browser, thrown, trashes):
 
 
 def test_who_removes_by_a_key_stands_at_the_next_name(club, browser, trashes):
+    """Behind the last one at that before it."""
     club.lay("/other/a.txt", "/other/b.txt", "/other/c.txt")
     club.open("/other")
     browser.script("document.querySelectorAll('.things tbody a.name')[1].focus()")
     browser.keys("delete")
     browser.sees("/other/b.txt is in the trash.", "#notices")
     browser.until("the focus is there", lambda: browser.script(FOCUSED) == "c.txt")
+    browser.keys("delete")
+    browser.sees("/other/c.txt is in the trash.", "#notices")
+    browser.until("it is at the one that is left", lambda: browser.script(FOCUSED) == "a.txt")
 
 
 def test_who_restores_the_last_thing_stands_at_the_name(club, browser, trashes):
