@@ -172,10 +172,9 @@ class ListView {
       count > MOST_ENTRIES ? t.listFull(count, MOST_ENTRIES) : "";
     if (fault) return tellFault(t.about(about, fault));
     const unknown = this.own.map(it => whomFault(it, this.roster)).filter(Boolean);
-    if (unknown.length && !await ask({ title: `${t.setAllTheSame}?`, does: t.setAllTheSame,
-      words: unknown.map(it => t.countsForNobody(it)) })) return;
     const why = { title: `${t.saveList}?`, words: t.noControl, does: t.saveList };
-    if (!this.keepsControl && !await ask(why)) return false;
+    if (unknown.length && !await ask({ title: `${t.setAllTheSame}?`, does: t.setAllTheSame,
+      words: unknown.map(it => t.countsForNobody(it)) }) || !this.keepsControl && !await ask(why)) return false;
     const now = await this.app.attempt(about, async () => {
       const its = await this.room.run("GETLIST", this.place.path);
       if (isAlike(its, this.list)) await this.set();

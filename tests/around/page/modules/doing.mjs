@@ -14,7 +14,7 @@ const { NOBODY, readFile } = await page("reading");
 const { PIECE } = await page("manifest");
 const { takeDrops, useClipboard } = await page("drag");
 const { upload } = await page("uploads");
-const { latest, note, wasAt } = await page("rail");
+const { isStarred, latest, note, turnStar, wasAt } = await page("rail");
 const { FolderTree } = await page("tree");
 const { helpThem, setBack } = await page("questions");
 const { showShared } = await page("contents");
@@ -62,6 +62,22 @@ test("what is removed goes to the trash, and back by one press", async () => {
   assert.deepEqual([shelf.names("/d"), toldBy(`${TRASH}/${name}`).place], [[], "/d/a.txt"]);
   await app.undo();
   assert.deepEqual([shelf.names(TRASH), shelf.text("/d/a.txt")], [[], "a"]);
+});
+
+test("of several that were moved, those are back that Undo could bring, and no others are said to be", async () => {
+  const shelf = trashed();
+  for (const [it, text] of [["/d/b.txt", "b"], ["/e"]]) shelf.put(it, text);
+  const app = appOver(shelf);
+  await moveInto(app, ["/d/a.txt", "/d/b.txt"], "/e");
+  for (const it of ["/e/a.txt", "/e/b.txt"]) turnStar(app, it, false);
+  shelf.put("/d/a.txt", "somebody else's");
+  await app.undo();
+  assert.deepEqual([app.told, shelf.names("/e")], [t.isBack("/d/b.txt", 1), ["a.txt"]]);
+  assert.deepEqual(["/e/a.txt", "/d/b.txt"].map((it) => isStarred(app, it)), [true, true]);
+  await moveInto(app, ["/d/a.txt", "/d/b.txt"], "/");
+  for (const it of ["/d/a.txt", "/d/b.txt"]) shelf.put(it, "somebody else's");
+  await app.undo();
+  assert.equal(app.told || "", "");
 });
 
 test("what is removed from far below comes back by one press", async () => {
@@ -626,6 +642,24 @@ test("what is made is made where it was typed, whatever room is shown by then", 
     await done;
     assert.deepEqual([shelf.names("/d"), other.asked], [["new"], []]);
   }
+});
+
+test("who cancels a change of Share has changed nothing, and saves nothing of it later", async () => {
+  const shelf = trashed();
+  const entries = [...PRIVATE.entries, ...["zoe", "bob"].map((who) => ({ type: 0, flag: 0, mask: 0x1200a9, who }))];
+  shelf.put("/d/z.txt", "z", { list: { aclflag: 2, entries } });
+  const app = appOver(shelf);
+  app.room.roster = { ann: [], bob: [] }; // (zoe is in it no more)
+  const nodes = await showAccess(app, { view: "access", room: "club", path: "/d/z.txt" });
+  const [panel, list] = ["section", "details"].map((one) => nodes.find((it) => it.matches(one)));
+  panel.querySelectorAll("button").find((it) => it.ariaLabel === t.takeFrom("bob")).click();
+  await press(t.cancel);
+  for (let times = 0; times < 50; times += 1) await soon();
+  assert.equal(list.querySelector("div.typed").isUnsaved(), false);
+  list.querySelectorAll("button").find((it) => it.textContent === t.saveList).click();
+  await press(t.setAllTheSame);
+  for (let times = 0; times < 50; times += 1) await soon();
+  assert.deepEqual(shelf.things.get("/d/z.txt").list.entries, entries);
 });
 
 test("where both are kept, a name is free that nothing has, nor what is uploaded with it", async () => {
