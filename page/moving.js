@@ -53,10 +53,10 @@ async function askWhere(app, paths, { words, does, start = folderOf(paths[0]), c
 export function wayBack(app, places, room = app.room) {
   follow({ ...app, room }, places);
   return async () => {
-    const paths = [...places.keys()];
-    await withEach(t.undo, paths, it => room.aside("RENAME", places.get(it), { to: it }));
+    const paths = await withEach(t.undo, [...places.keys()], it => room.aside("RENAME", places.get(it), { to: it }));
     follow({ ...app, room }, new Map(paths.map(it => [places.get(it), it])));
-    await app.done(t.isBack(named(paths), paths.length), only(paths, { from: places.get(paths[0]), to: paths[0] }));
+    await app.done(paths.length && t.isBack(named(paths), paths.length),
+      only(paths, { from: places.get(paths[0]), to: paths[0] }));
   };
 }
 
