@@ -137,7 +137,7 @@ export async function edit(app, path) {
   if (!found) return;
   let [[{ data: seen }, { path: trash }], told, written] = [found, t.replaced];
   const text = toText(fromBase64(seen));
-  if (text === null) return tellFault(t.about(title, t.theirBytes));
+  if (text === null) return tellFault(t.about(title, t.noText));
   const [field, lineEnd] = [area(text), text.includes("\r\n") ? "\r\n" : "\n"]; // (a text field has \n alone)
   const typed = () => fromText(field.value.replaceAll("\n", lineEnd));
   const [since, key] = [Date.now() / 1000, room.name + path];
@@ -160,7 +160,7 @@ export async function edit(app, path) {
     }
     const its = (await changesIn(app, [folderOf(path)])).get(path);
     const who = its?.when > since ? whenWords(its) : [];
-    const chosen = await settle(who, toText(fromBase64(now)) ?? t.theirBytes, field.value, keep, take);
+    const chosen = await settle(who, toText(fromBase64(now)) ?? t.noText, field.value, keep, take);
     if (chosen === "on") seen = now;
     if (chosen === "on" || !chosen) throw new Error(t.notReplaced);
   };

@@ -119,8 +119,6 @@ export function arrive(address) {
   scrollTo({ top: seen.get(address) ?? 0, behavior: "instant" });
 }
 
-// Pictures of the kinds of things, and what kind a name tells.
-
 const SHEET = "M6 3h8l4 4v14H6zM14 3v4h4";
 const SHAPES = {
   folder: "M3 6h6l2 2h10v11H3z",

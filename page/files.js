@@ -102,7 +102,8 @@ export class Upload {
     this.names = await this.room.list(this.path);
     this.before = await manifestBytes(this.room, this.path);
     const isLeft = form.isUnfinished(this.names);
-    if (!isLeft && !(this.before && form.readManifest(this.before))) throw new Error(t.isFolder(this.called));
+    const isLarge = isLeft || this.before && form.readManifest(this.before);
+    if (!isLarge) throw new Error(t.about(this.called, t.refusals[EXIST]));
     if (isLeft) await this.needOwn();
     this.clears = isLeft || this.names.some(([name]) => form.isLeft(name));
     return false;
@@ -281,6 +282,6 @@ export async function secure(room, path, data, transfer) {
     upload.bytes = await readFile(room, path);
     await upload.writeAnew();
   } catch (fault) {
-    transfer.fail(`${t.mayDamage(shown(path))} ${fault.message}`);
+    transfer.fail(`${t.prepared(shown(path))} ${fault.message}`);
   }
 }

@@ -1,5 +1,5 @@
-/** What a large file is made of, its manifest and spares (docs/FILES.md). What uploads made is removed; whatever else
- * has such a name stays. What is left for later goes on behind an answer, until the file is saved or removed. */
+/** The parts of a large file (docs/FILES.md). Only what uploads made is removed. What is left for later goes on behind
+ * an answer, until the file is saved or removed. */
 import { EXIST, FOLDER, ISDIR, NOENT, NOTDIR, GaveUp, Refusal, folderOf, forEach, fromBase64, fromText, inFolder,
   isRefused, isWithin, lastName, once, orElse, orFault, ownList, part, passersRead, shown, t } from "./common.js";
 import * as form from "./manifest.js";
@@ -73,6 +73,8 @@ async function unfinishedAt(room, path) {
   return found?.[0].length ? null : found;
 }
 
+const removed = (room, path) => orElse(room.step("REMOVE", path), null, NOENT);
+
 /** Takes what an upload made away in one request, and then removes it. What is no such thing is told and left; what
  * `isNeeded` then has its name again. */
 export async function clear(room, at, name, transfer, looks = piecesIn, isNeeded = async () => false) {
@@ -84,7 +86,7 @@ export async function clear(room, at, name, transfer, looks = piecesIn, isNeeded
     if (gone !== path) await room.rename(path, gone);
     if (await isNeeded(name) && await orElse(room.rename(gone, path), null, EXIST)) return;
     for (const level of found) {
-      await forEach(level, it => orElse(room.step("REMOVE", gone + it.slice(path.length)), null, NOENT), room.width);
+      await forEach(level, it => removed(room, gone + it.slice(path.length)), room.width);
     }
   } catch (fault) {
     if (!isRefused(fault, NOENT)) transfer.fail(t.about(t.isLeft(shown(at)), fault.message));
@@ -112,12 +114,11 @@ export async function clearBeside(room, path, transfer) {
 export async function removeAll(room, path) {
   await takeOver(room, path);
   const names = await orElse(room.list(path), [], NOTDIR);
-  const remove = it => orElse(room.step("REMOVE", it), null, NOENT);
-  if (names.some(([name]) => name === form.MANIFEST)) await remove(inFolder(path, form.MANIFEST));
+  if (names.some(([name]) => name === form.MANIFEST)) await removed(room, inFolder(path, form.MANIFEST));
   const documents = names.filter(([name, kind]) => kind !== FOLDER && name !== form.MANIFEST);
-  await forEach(documents, ([name]) => remove(inFolder(path, name)));
+  await forEach(documents, ([name]) => removed(room, inFolder(path, name)));
   for (const [name, kind] of names) if (kind === FOLDER) await removeAll(room, inFolder(path, name));
-  await remove(path);
+  await removed(room, path);
 }
 
 export const piecesAt = (at, { folder, pieces }) =>
@@ -167,7 +168,7 @@ export async function keepManifest(room, path, transfer, data) {
   const [now, name] = [await orFault(makeAnew(room, path, transfer)), shown(path)];
   const isMade = !(now instanceof Refusal);
   transfer.fail(!isMade ? `${t.prepared(name)} ${now.message}` : now === data ? t.madeAnew(name) :
-    `${t.madeAnew(name)} ${t.otherCame}`);
+    `${t.madeAnew(name)} ${t.otherStands(name)}`);
   return isMade;
 }
 
@@ -216,7 +217,7 @@ export async function clearOver(room, paths, most, transfer) {
   await forEach(paths, async it => {
     transfer.check();
     const isEmptied = paths.length <= most && await isDone(room.step("WRITE", it, { data: "" }));
-    if (!isEmptied) await orElse(room.step("REMOVE", it), null, NOENT);
+    if (!isEmptied) await removed(room, it);
   }, room.width);
 }
 

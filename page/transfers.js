@@ -54,7 +54,7 @@ class Transfer {
 
   /** Somebody else wrote a version meanwhile: true to replace it, the path of a copy, or null. */
   async overtaken(path, owner) {
-    const chosen = await ask({ title: t.overtaken(shown(lastName(path))), does: t.replace,
+    const chosen = await ask({ title: t.about(shown(lastName(path)), t.changed), does: t.replace,
       words: owner ? t.newerOf(owner) : [], others: [{ words: t.keepCopy, value: "copy" }] });
     return chosen === "copy" ? besideIt(path, t.copyOf(this.app.user)) : chosen;
   }
@@ -69,7 +69,7 @@ export async function transferring(app, title, how, task) {
     words = await task(it);
     settle(it.about);
   } catch (fault) {
-    if (fault instanceof Cancelled) words = t.cancelled(title);
+    if (fault instanceof Cancelled) words = t.about(title, t.stopped);
     else it.fail(fault.message);
   }
   unwatch();

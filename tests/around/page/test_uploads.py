@@ -158,7 +158,7 @@ def overtaken(club, browser, large):
     theirs = cases.compact(json.loads(club.bytes(f"{large}/{NAME}")) | {"sha256": "0" * 64})
     club.writes(f"{large}/{NAME}", theirs)
     club.lossy.go_on()
-    browser.sees("Somebody else wrote large meanwhile", "dialog")
+    browser.sees("large: Somebody changed this meanwhile", "dialog")
     browser.sees("What is in it belongs to ann.", "dialog")
 
     def choose_(words):
@@ -220,7 +220,7 @@ def test_upload_that_is_cancelled(club, browser, big):
     browser.until("it ends", lambda: browser.press("Cancel", "//section[@id='transfers']") or
                   "ends …" in browser.text_of("#transfers"))
     club.lossy.go_on()
-    browser.sees("Upload cancelled: cancelled.", "#notices")
+    browser.sees("Upload cancelled: Stopped.", "#notices")
     browser.press("Up", "//main")  # (what is typed of another view is still there)
     assert club.names("/big") == []
 

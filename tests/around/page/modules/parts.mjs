@@ -137,8 +137,8 @@ test("what keeps a manifest or pieces from it is told", async () => {
   assert.equal((await other.writes()).code, 0);
   await lets(other.ann, other.path, VIEW);
   const [anew, damaged] = await told((it) => secure(other.ann, other.path, other.data, it));
-  assert.equal(anew, `${t.madeAnew(other.path)} ${t.otherCame}`);
-  assert.ok(damaged.startsWith(t.mayDamage(other.path)), damaged);
+  assert.equal(anew, `${t.madeAnew(other.path)} ${t.otherStands(other.path)}`);
+  assert.ok(damaged.startsWith(t.prepared(other.path)), damaged);
 });
 
 test("a manifest in somebody else's file is theirs again", async () => {
