@@ -29,14 +29,17 @@ export class Refusal extends Error {
   constructor(reply, command = {}, whose = {}) {
     const { code, path, error } = reply;
     super(code === ACCESS ? lackedRight(reply, command, whose) : t.refusals[code] ?? t.refused(code, error));
-    Object.assign(this, { code, path, whom: code === ACCESS ? whomToAsk(whose) : null });
+    const isAsked = code === ACCESS && whose.owner !== whose.user;
+    Object.assign(this, { code, path, whom: isAsked ? whomToAsk(whose) ?? "" : null });
   }
 }
 
-export function closedLine({ message, whom }, place, more = "") {
+/** With a letter, which names nobody where the room tells no owner. */
+export function closedLine({ message, whom = null }, place, more = "") {
+  const words = whom ? t.askFor(displayName(whom) || whom) : t.askForIt;
   const about = t.accessTo(shown(calledIn(place.room, place.path)));
-  return faultLine(message, whom ?
-    [" ", letterLink(t.askFor(displayName(whom) || whom), about, t.pleaseLet, addressOf(place))] : null, " ", more);
+  const letter = whom !== null && [" ", letterLink(words, about, t.pleaseLet, addressOf(place))];
+  return faultLine(message, letter, " ", more);
 }
 
 export const isRefused = (fault, ...codes) => fault instanceof Refusal && codes.includes(fault.code);

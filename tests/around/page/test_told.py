@@ -183,14 +183,16 @@ def test_fault_of_a_closed_door_names_who_owns_what_is_further_above(club, brows
 
 
 def test_fault_of_a_closed_door_knows_nobody(club, browser):
-    """Where the room tells the user no owner, there is nobody to write to."""
+    """Where the room tells the user no owner, the letter names nobody."""
     club.lay("/closed/in.txt")
     club.sets("/", entry("EVERYONE@", PASS, 0), flags=2)
     club.sets("/closed", entry("OWNER@", ALL), flags=2)
     club.log_in("eve")
     club.open("/closed/in.txt")
     browser.sees("You don't have access to /closed/in.txt. Ask its owner.", "main")
-    assert letters(browser, "main") == []
+    link = club.address("#open/club/closed/in.txt")
+    assert letters(browser, "main") == [
+        ("Write to its owner", ["Access to /closed/in.txt"], [f"Please give me access to this:\n\n{link}"])]
 
 
 def test_closed_folder_tells_nothing_else(club, browser):
@@ -201,7 +203,7 @@ def test_closed_folder_tells_nothing_else(club, browser):
     club.log_in("eve")
     club.open("/closed")
     told = [it for it in browser.text_of("main > :not(.head)").split("\n") if it]
-    assert told == ["You don't have access to /closed. Ask its owner."]
+    assert told == ["You don't have access to /closed. Ask its owner. Write to its owner"]
 
 
 def test_folder_to_pass_says_how_to_go_on(club, browser):
@@ -211,7 +213,7 @@ def test_folder_to_pass_says_how_to_go_on(club, browser):
     club.sets("/shared", entry("OWNER@", ALL), entry("eve", VIEW), flags=2)
     club.log_in("eve")
     club.open()
-    browser.sees("You don't have access to club. Ask its owner. "
+    browser.sees("You don't have access to club. Ask its owner. Write to its owner "
                  "What is shared with you there opens by its link.", "main")
     browser.follow("Shared with you")
     browser.sees("You may not look into 1 folder.", "main")
