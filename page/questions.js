@@ -1,7 +1,7 @@
 /** What users may do with objects, as the room says; who can see them; a way for others. */
-import { FOLDER, LARGE, PASS_THROUGH, READ, addressOf, ask, askedOf, byWhom, calledIn, displayName, foldersAbove,
-  forEach, givenHere, inFolder, inOrder, isDeny, joined, letterLink, listOf, make, nameIn, ofLarge, once, ownOf,
-  personText, rightsIn, shown, t, whomOf, whomText, withWhom } from "./common.js";
+import { ACCESS, FOLDER, LARGE, PASS_THROUGH, READ, WRITE_LIST, addressOf, ask, askedOf, byWhom, calledIn, displayName,
+  foldersAbove, forEach, givenHere, inFolder, inOrder, isDeny, joined, letterLink, listOf, make, nameIn, ofLarge, once,
+  ownOf, personText, rightsIn, settle, shown, t, tellFault, whomOf, whomText, withWhom } from "./common.js";
 import { MANIFEST } from "./manifest.js";
 import { lookInto } from "./reading.js";
 
@@ -167,6 +167,7 @@ export async function letAll(app, object, entries, found, changes) {
   for (const [folder, those] of byFolder(found)) changes.push(await letPass(app.room, folder, those));
   const left = await shutOut(app, object, entries);
   if (left.length) throw new Error(t.stillShut(named(left)));
+  settle(t.cannot(named(found)));
 }
 
 /** From which folder each entry that is handed down comes, as far as the user may see. */
@@ -185,6 +186,11 @@ export async function origins(room, path, handed) {
   return found;
 }
 
+/** Whom to ask, of folders whose lists the caller may not change. */
+const refusedAt = async (room, folders) => (await Promise.all(folders.map(async path =>
+  (await room.rights(path) & WRITE_LIST ? [] : (await room.refusal({ code: ACCESS, bit: WRITE_LIST, path })).message))))
+  .flat();
+
 export async function helpThem(app, object, entries, found, changes) {
   const allCan = t.allCan(byWhom(entries).map(([whom]) => whomText(whom)));
   if (!found.length) return entries.length ? allCan : "";
@@ -192,10 +198,14 @@ export async function helpThem(app, object, entries, found, changes) {
   const lacking = found.filter(it => it.lacks);
   const told = [...[...folders].map(([it, those]) => t.shutOutAt(named(those), shown(calledIn(app.room.name, it)))),
     ...lacking.map(it => t.lacksStill(personText(it.user), rightsIn(it.lacks, object.kind)))];
-  const pass = () => letAll(app, object, entries, found, changes);
-  const isDone = await ask({ title: t.notAll, does: folders.size > 0 && t.letPass, task: pass, stays: t.close,
-    words: [t.listSet, listOf(told), folders.size > 0 && make("p.about", t.passWords)] });
-  return folders.size && isDone ? allCan : t.cannot(named(found));
+  const task = () => letAll(app, object, entries, found, changes);
+  const refusals = await refusedAt(app.room, [...folders.keys()]);
+  const mayLet = folders.size > 0 && !refusals.length;
+  const isDone = await ask({ title: t.notAll, does: mayLet && t.letPass, task, stays: t.close,
+    words: [t.listSet, listOf([...told, ...refusals]), mayLet && make("p.about", t.passWords)] });
+  if (mayLet && isDone) return allCan;
+  tellFault(t.cannot(named(found)));
+  return "";
 }
 
 export function letterOf(place) {

@@ -45,8 +45,23 @@ def test_a_saved_list_that_lets_nobody_get_there(club, browser, board):
     browser.sees("Not everyone can get there yet", "dialog")
     browser.sees("bob cannot get through /board.", "dialog")
     browser.press("Close", DIALOG)
-    browser.sees("Sharing updated. These cannot get there, or not do it: bob.", "#notices")
+    browser.sees("Sharing updated.", "#notices .good")
+    browser.sees("These cannot get there, or not do it: bob.", "#notices .fault")
     assert club.own(TOP) == [(0, 3, ALL, "OWNER@")]
+
+
+def test_share_offers_no_passage_that_is_refused(club, browser, board):
+    """To whom may not change the list of the folder in between it says whom to ask."""
+    club.sets(TOP, entry("staff", VIEW, GROUP), entry("OWNER@", ALL), flags=2)
+    club.sets(PATH, entry("bob", ALL), entry("OWNER@", ALL))
+    club.log_in("bob")
+    club.open(PATH, "access")
+    share(browser, "eve", "Can view")
+    browser.sees("eve cannot get through /board.", "dialog")
+    browser.sees("You may not change its list (/board). Ask ann.", "dialog")
+    assert "Allow" not in browser.text_of("dialog")
+    browser.press("Close", DIALOG)
+    browser.sees("These cannot get there, or not do it: eve.", "#notices .fault")
 
 
 def test_share_with_a_group(club, browser, board):

@@ -449,7 +449,31 @@ test("who is let pass stands behind those who are kept out", async () => {
   const [dialog] = shown("dialog");
   assert.ok(dialog.textContent.includes(t.stillShut(["bob"])));
   dialog.querySelectorAll("button").find((it) => it.textContent === t.close).click();
-  assert.equal(await left, t.cannot(["bob"]));
+  assert.equal(await left, "");
+  const isTold = () => shown("div.fault").some((it) => it.textContent.includes(t.cannot(["bob"])));
+  assert.ok(isTold()); // (a warning, and no word of what went well)
+  app.room.allowed = async () => 0x1f07ff;
+  const again = helpThem(app, { path: "/d/x", kind: "file" }, [{ ...denied, type: 0 }], found, []);
+  await press(t.letPass);
+  assert.equal(await again, t.allCan(["the user bob"]));
+  assert.ok(!isTold());
+});
+
+test("who may not change the list above is told whom to ask, and offered no passage", async () => {
+  const shelf = new Shelf();
+  shelf.put("/kims", undefined, { owner: "kim" });
+  const app = appOver(shelf);
+  app.room.rights = async () => 0x1f07ff & ~0x40000;
+  const found = [{ whom: { id: "user", name: "bob" }, user: "bob", folders: ["/kims"], lacks: 0 }];
+  const left = helpThem(app, { path: "/kims/x", kind: "file" }, [{ type: 0, flag: 0, mask: 1, who: "bob" }], found, []);
+  for (let times = 0; times < 1000 && !shown("dialog").length; times += 1) await soon();
+  const [dialog] = shown("dialog");
+  assert.ok(dialog.textContent.includes(`${t.lacksRight("/kims", [t.rights[0x40000][0]])} ${t.askOwner("kim")}`));
+  const buttons = dialog.querySelectorAll("button");
+  const [close, ...others] = buttons.filter((it) => [t.close, t.letPass].includes(it.textContent));
+  assert.deepEqual(others, []);
+  close.click();
+  assert.equal(await left, "");
 });
 
 test("what somebody set meanwhile is not set back, and the top is told by its room", async () => {
