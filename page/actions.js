@@ -83,7 +83,7 @@ async function makeNew(app, folder, { title, fields = [], faultOf = () => "", do
 
 export function makeFolder(app, folder) {
   let [isMine, made] = [false, null]; // (where its list was refused, it stays)
-  const mine = checkbox(t.about(t.heads.who, t.onlyYou), false, it => {
+  const mine = checkbox(t.onlyMe, false, it => {
     mine.closest("form").querySelector("p").hidden = isMine = it;
   });
   const own = { aclflag: withFollows(1, false), entries: entriesOf("all", { id: "user", name: app.user }, FOLDER) };
@@ -162,7 +162,7 @@ export async function edit(app, path) {
     const who = its?.when > since ? whenWords(its) : [];
     const chosen = await settle(who, toText(fromBase64(now)) ?? t.noText, field.value, keep, take);
     if (chosen === "on") seen = now;
-    if (chosen === "on" || !chosen) throw new Error(t.notReplaced);
+    if (chosen === "on" || !chosen) throw new Error(chosen ? t.notReplaced : t.unsaved);
   };
   const undo = async () => {
     if ((await room.run("READ", path)).data !== written) throw new Error(t.changed);

@@ -36,10 +36,9 @@ export class Refusal extends Error {
 
 /** With a letter, which names nobody where the room tells no owner. */
 export function closedLine({ message, whom = null }, place, more = "") {
-  const words = whom ? t.askFor(displayName(whom) || whom) : t.askForIt;
   const about = t.accessTo(shown(calledIn(place.room, place.path)));
-  const letter = whom !== null && [" ", letterLink(words, about, t.pleaseLet, addressOf(place))];
-  return faultLine(message, letter, " ", more);
+  const words = whom ? t.askFor(displayName(whom) || whom) : t.askForIt;
+  return faultLine(message, whom !== null && [" ", letterLink(words, about, t.pleaseLet, addressOf(place))], " ", more);
 }
 
 export const isRefused = (fault, ...codes) => fault instanceof Refusal && codes.includes(fault.code);

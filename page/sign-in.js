@@ -11,10 +11,8 @@ const why = status =>
   ({ 0: t.unreachable, 401: t.wrongLogin, 429: t.manyLogins, 503: t.noDirectory }[status] ?? t.status(status));
 
 /** (What can be no login is not asked about: each wrong one counts as a guess.) */
-async function statusOf(name, word) {
-  if (!NAME.test(name) || new TextEncoder().encode(word).length > MOST) return 401;
-  return logIn(name, word);
-}
+const statusOf = async (name, word) =>
+  (!NAME.test(name) || new TextEncoder().encode(word).length > MOST ? 401 : logIn(name, word));
 
 function goOn() {
   tellLogin();

@@ -39,9 +39,8 @@ function faultOf({ names, file }, folder) {
   const [depth, name] = [namesOf(folder).length + names.length, calledBy({ names })];
   const fault = names.map(clean).map(nameFault).find(Boolean) || (depth > MAX_NAMES ? t.pathLong(MAX_NAMES) :
     file?.size > MOST_BYTES && depth > DEEPEST ? t.tooDeep : "");
-  if (fault) return t.about(name, fault);
   const its = sizeFault(file?.size ?? 0);
-  return its ? `${name} ${its}.` : "";
+  return fault ? t.about(name, fault) : its && `${name} ${its}.`;
 }
 
 function withShorter(chosen) {
@@ -82,10 +81,8 @@ async function fitting(app, folder, chosen) {
 const listed = words => [listOf(words.slice(0, MOST_TOLD)),
   words.length > MOST_TOLD && t.others(words.length - MOST_TOLD)];
 
-function lister(room) {
-  const asked = new Map();
-  return folder => once(asked, folder, async () => new Set((await room.names(folder))?.map(([name]) => name)));
-}
+const lister = (room, asked = new Map()) => folder =>
+  once(asked, folder, async () => new Set((await room.names(folder))?.map(([name]) => name)));
 
 async function freeOf(path, namesIn, taken) {
   const names = await namesIn(folderOf(path));
@@ -177,10 +174,8 @@ async function overfull(wanted, folder, namesIn) {
   return inside.filter(([, names]) => names.size > MOST_THINGS);
 }
 
-function beforeWords(replaced) {
-  const [one] = replaced;
-  return one?.kept ? t.keptUnder(replaced.length, one.trash ? t.trash : shown(lastName(one.kept))) : "";
-}
+const beforeWords = ([one, ...others]) =>
+  (one?.kept ? t.keptUnder(others.length + 1, one.trash ? t.trash : shown(lastName(one.kept))) : "");
 
 async function sendAll(app, room, transfer, wanted, folder) {
   for (const path of foldersOf(wanted, folder)) await orElse(room.step("MKDIR", path), null, EXIST);

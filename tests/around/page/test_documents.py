@@ -34,7 +34,7 @@ def test_a_new_folder_is_private_by_one_tick(club, browser):
     make_new(browser, "New folder")
     browser.fill("Name", "mine")
     browser.sees("Everyone with access to this folder will have access to it.", "dialog")
-    browser.act(f"{DIALOG}//label[normalize-space()='Who can see it: Only you']", "click")
+    browser.act(f"{DIALOG}//label[normalize-space()='Visible to me alone']", "click")
     assert "Everyone" not in browser.text_of("dialog")
     browser.press("Create")
     browser.sees("mine created.")

@@ -134,16 +134,16 @@ def test_conflict_takes_theirs(club, browser, june):
 def test_conflict_goes_on_with_mine(club, browser, june):
     """Whoever saw the other's text puts both together, unless another came since. Who cancels is asked again."""
     meets(club, browser, "mine", "theirs again", "Cancel")
-    browser.sees("Nothing is saved yet.", "dialog")
+    browser.sees("What you typed is not saved.", "dialog")
     browser.press("Save")
     browser.sees("theirs again", "dialog pre")
     browser.press("Go on with mine")
-    browser.sees("Nothing is saved yet.", "dialog")
+    browser.sees("Nothing is saved yet: your next save replaces theirs.", "dialog")
     club.writes(PATH, b"theirs once more")
     browser.press("Save")
     browser.sees("theirs once more", "dialog pre")
     browser.press("Go on with mine")
-    browser.sees("Nothing is saved yet.", "dialog")
+    browser.sees("Nothing is saved yet: your next save replaces theirs.", "dialog")
     assert browser.script(TYPED) == "mine"
     browser.fill("Text", "theirs and mine")
     browser.press("Save")

@@ -301,7 +301,7 @@ def test_upload_over_a_name_keeps_both_first(club, browser):
     choose(browser, "Upload", letter, club.on_disk("cancelled.txt"))
     browser.press("Cancel", DIALOG)  # (then nothing goes up)
     choose(browser, "Upload", letter, club.on_disk("other.txt", b"other"))
-    browser.press("Leave these out", DIALOG)
+    browser.press("Leave out", DIALOG)
     browser.sees("1 file uploaded", "#notices")
     choose(browser, "Upload", letter)
     browser.sees("This is there already", "dialog")
