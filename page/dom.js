@@ -73,8 +73,6 @@ export function pickFiles(words, { isFolder = false, isOne = false }, chosen) {
   return field;
 }
 
-// What was done somewhere leaves the reader there.
-
 const seen = new Map(); // how far each place was scrolled when it was left
 const wordsOf = it => it.title || it.ariaLabel || it.textContent;
 const within = () => [...part("main").querySelectorAll("a, button, input, select, summary")]

@@ -2,8 +2,8 @@
 export const help = `
 Ein Klick auf einen Namen öffnet die Datei oder den Ordner; ⋯ in der Zeile zeigt, was Sie damit tun dürfen.
 **Text hinzufügen** fügt am Ende eines Dokuments Zeilen an, auch wenn das jemand anderes gleichzeitig tut.
-  **Bearbeiten** ersetzt alles und zeigt beide Texte, wenn jemand ihn inzwischen geändert hat; mit Häkchen kommt die
-  alte Fassung in Ihren Papierkorb. **Neue Fassung hochladen** ersetzt alles durch eine Datei.
+  **Bearbeiten** ersetzt alles und zeigt beide Texte, wenn jemand es inzwischen geändert hat; mit Häkchen kommt die
+  alte Fassung in Ihren Papierkorb.
 **Freigeben**: Namen eingeben und anklicken, was die Person darf.
 **Entfernen** legt es in Ihren Papierkorb, wenn Sie einen haben: er steht neben der Liste (in einem schmalen Fenster
   hinter ☰). Ein neues Passwort bekommen Sie von Ihrer IT.

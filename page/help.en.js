@@ -2,8 +2,7 @@
 export const help = `
 A name opens it; ⋯ in its row has what you may do with it.
 **Add text** adds lines at the end of a document, also while somebody else does. **Edit** replaces all of it, and shows
-  both texts if somebody changed it meanwhile; with its tick the old version goes to your trash. **Upload a new
-  version** replaces it by a file.
+  both texts if somebody changed it meanwhile; with its tick the old version goes to your trash.
 **Share**: type a name, and press what they may do.
 **Remove** moves it to your trash, if you have one: it stands beside the list (in a narrow window behind ☰).
 A new password comes from whoever runs the room.

@@ -48,7 +48,7 @@ export async function takeTurn(room) {
 
 const isFolder = async (room, path) => (await room.aside("STAT", path)).kind === FOLDER;
 
-// Each gives what is at a path and below it, in the order in which it can go, or null if that is of another form.
+// Each gives what is at a path, in the order in which it can go, or null if that is of another form.
 
 const documentAt = async (room, path) => (await isFolder(room, path) ? null : [[path]]);
 

@@ -85,7 +85,6 @@ export class Room {
     Object.assign(this, { name, base, session, patience, user, stepKind: true, width: WIDTH });
   }
 
-  /** The same room, for what goes on behind an answer. */
   behind = () => Object.assign(new Room(this.name, this.base, this.session, this.patience, this.user),
     { stepKind: BEHIND, width: WIDTH_BEHIND });
 

@@ -1,4 +1,4 @@
-/** The words of the page in German, in the order of words.en.js. */
+/** The words of the page in German. */
 
 export const t = {
   and: "und", bytes: "{0} {0|Byte|Bytes}", allThings: "{0} {0|Element|Elemente}", ofAll: "{0} von {1}", rooms: "Räume",
