@@ -92,8 +92,10 @@ def add_rooms(words):
     one = add_command(room, "import", moving.room_import, "serves a room from such a file", "FILE")
     one.add_argument("--as", dest="name", metavar="NAME", help="under another name")
     one.add_argument("--certificate", action="store_true", help="and has the front listen by the file's certificate")
-    add_command(room, "copy", copying.room_copy, "what is in a folder, into a new one of another room: with owners, "
-                "groups and lists", "NAME", "PATH", "TO", "NEW", how=AT_ONCE)
+    one = add_command(room, "copy", copying.room_copy, "what is in a folder, into a new one of another room: with "
+                      "owners, groups and lists", "NAME", "PATH", "TO", "NEW", how=AT_ONCE)
+    one.add_argument("--group", action="append", metavar="OLD=NEW", help="what is for the group OLD is for NEW there")
+    one.add_argument("--other-members", action="store_true", help="even where a group has other members in TO")
     add_command(room, "renew", rooms.room_renew,
                 "new numbers for a room's objects: those of what was removed can be used again", "NAME", how=TELLS)
     add_command(room, "remove", moving.room_remove, "removes a room, and keeps it as such a file", "NAME")

@@ -117,18 +117,70 @@ def test_others_change_something_meanwhile(made, club):
 
 
 def test_the_lines_of_running_let_the_others_in(made, club):
-    """Where so far nobody passes the room's top but its owner."""
+    """Where so far nobody passes the room's top but its owner: with the group's members as they were, not with those of
+    that name there, and its new owner reads no more than before."""
     assert club.holds("ann", "SETLIST", "/", aclflag=0, entries=FOR_ALL[:1])["code"] == 0
-    assert made.does("group", "add", "club", "club", "bob")[0] == 0
-    assert made.does("room", "copy", "plans", "/w", "club", "/club")[0] == 0
-    lines = [it for it in text_of(f"{TOP}/docs/RUNNING.md").splitlines() if it.lstrip().startswith("room acl /")]
+    for words in ("user add club mo staff", "user add club lea", "group add club club bob lea",
+                  "group add club club-cast bob", "room copy --group staff=club-cast plans /w club /club"):
+        status, _, faults = made.does(*words.split())
+        assert status == 0, faults
+    lines = [it.strip() for it in text_of(f"{TOP}/docs/RUNNING.md").splitlines() if it.startswith("       room ")]
+    assert [it.split()[1] for it in lines] == ["acl", "acl", "acl", "chown"]
     asks = ["--url", f"http://127.0.0.1:{club.room.port}", "--room-user", "ann", "--state", made.at("../state")]
-    words = [shlex.split(line)[1:] for line in lines if "group:club" in line]
-    assert len(words) == 2
-    for it in words:
+    for it in (shlex.split(line)[1:] for line in lines):
         done = subprocess.run([sys.executable, "-B", f"{TOP}/client/room", *asks, *it], env=made.env, timeout=300)
         assert done.returncode == 0
-    assert club.holds("bob", "READ", "/club/doc")["code"] == 0
+    assert [club.holds("bob", "READ", f"/club/{it}")["code"] for it in ("doc", "team/x")] == [0, 0]
+    assert [club.holds("mo", "READ", "/club/team/x")["code"], club.holds("bob", "LIST", "/")["code"]] == [ACCESS] * 2
+    assert [club.holds("ann", "READ", f"/club/{it}")["code"] for it in ("doc", "secret/in")] == [ACCESS] * 2
+    assert club.holds("lea", "MKDIR", "/club/new")["code"] == 0
+
+
+OTHERS = ("fileroom-admin: these groups have other members in club, so what is copied for them would be {}: have it be "
+          "for another group there, with the same members (--group OLD=NEW), or say that those of club are meant "
+          "(--other-members)\n")
+
+
+@pytest.mark.parametrize("plans, club_has, told", [
+    ({"bob": ["staff"]}, {"bob": [], "mo": ["staff"]}, "staff (gained by mo; lost by bob)"),
+    ({"bob": ["staff"]}, {"bob": []}, "staff (lost by bob)"),  # in club there is none
+    ({"bob": ["staff"], "kim": []}, {"bob": ["staff"], "kim": ["staff"]}, "staff (gained by kim)"),
+    # (no list names eng: it is some things' own)
+    ({"bob": ["staff"]}, {"bob": ["staff", "eng"]}, "eng (gained by bob)"),
+    ({"bob": ["staff"]}, {"bob": ["staff"], **{f"u{it}": ["staff"] for it in range(7)}},
+     "staff (gained by u0, u1, u2, u3, u4 and 2 more)")])
+def test_a_group_that_has_other_members_there_is_refused(made, club, plans, club_has, told):
+    ann = {"ann": ["eng"]}
+    for room, users in ("plans", ann | plans), ("club", ann | club_has):
+        made.write(f"etc/fileroom/{room}.toml", "[users]\n" + "".join(
+            f"{user} = {groups}\n".replace("'", '"') for user, groups in users.items()))
+    assert made.does(*WORDS) == (1, "", OTHERS.format(told))
+    assert club.holds("ann", "LIST", "/")["names"] == []
+    assert made.does(*WORDS, "--other-members")[0] == 0
+
+
+def test_a_group_has_another_name_there(made, club):
+    """With who was in it; who is in the group of the old name there gains nothing."""
+    made.write("etc/fileroom/plans.toml", '[users]\nann = ["eng"]\nbob = ["staff"]\n')
+    made.write("etc/fileroom/club.toml", '[users]\nann = ["eng"]\nbob = ["team"]\nmo = ["staff"]\n')
+    status, said, faults = made.does(*WORDS, "--group", "staff=team")
+    assert (status, faults) == (0, "")
+    assert said.splitlines()[-1].startswith("the list of /w in plans, with the groups' names of club: allow ")
+    assert club.holds("ann", "STAT", "/new/doc")["group"] == "team"
+    pass_all = [ALL | {"who": "ann"}, ALL | {"who": "EVERYONE@", "flag": 0}]
+    assert club.holds("ann", "SETLIST", "/new", aclflag=2, entries=pass_all)["code"] == 0
+    assert [club.holds(it, "READ", "/new/team/x")["code"] for it in ("bob", "mo")] == [0, ACCESS]
+    # the same members are looked for in the group of the new name
+    assert made.does(*WORDS[:-1], "/newer", "--group", "staff=crew")[::2] == (1, OTHERS.format("crew (lost by bob)"))
+
+
+@pytest.mark.parametrize("given, why", [
+    ("staff", "--group wants OLD=NEW: 'staff' is not"),
+    ("stuff=x", "nothing that is copied is for a group 'stuff': eng, staff"),
+    ("staff=", "the group '' is not 1 to 32 letters, digits, '.', '_' or '-'")])
+def test_a_group_that_is_none(made, club, given, why):
+    assert made.does(*WORDS, "--group", given) == (1, "", f"fileroom-admin: {why}\n")
+    assert club.holds("ann", "LIST", "/")["names"] == []
 
 
 def test_of_a_whole_room_the_trashes_stay_behind(made, club):
