@@ -103,7 +103,8 @@ def add_rooms(words):
 
 def add_users(words):
     user = add_words(words, "user", "add, import, groups, name, rename, remove, owns, passwd, list")
-    add_command(user, "add", people.user_add, "a new user of ROOM, in these groups", "ROOM", "USER", many="GROUP")
+    one = add_command(user, "add", people.user_add, "a new user of ROOM, in these groups", "ROOM", "USER", many="GROUP")
+    one.add_argument("--again", action="store_true", help="who had that name there before")
     one = add_command(user, "import", user_import, "adds users from a CSV table: user, groups (blanks between), name")
     one.add_argument("ROOM", nargs="?", help="with --sync the table can name rooms instead, in a column")
     one.add_argument("CSV")

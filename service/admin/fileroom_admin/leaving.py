@@ -71,7 +71,7 @@ def user_remove(call, user, *rooms, to=None):
         now.need_user(places, it, user)
     if to:
         need_none_left(hand_over_all(call, {it: [user] for it in rooms}, to))
-    back = [f"fileroom-admin user add {' '.join([it, user, *now.users(places, it)[user]])}" for it in rooms]
+    back = [f"fileroom-admin user add --again {' '.join([it, user, *now.users(places, it)[user]])}" for it in rooms]
     elsewhere = [it for it in now.rooms_of(places, user) if it not in rooms]
     change = people.change_rosters(places, {it: {user: None} for it in rooms})
     people.leave_bounds(change, {it: [user] for it in rooms})

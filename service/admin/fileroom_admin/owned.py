@@ -116,6 +116,15 @@ def known(places, room, users):
     return name, [it for it in users if it in found]
 
 
+def known_before(places, room, users):
+    """Why each of the users who would be new there is not just taken: the name was somebody's, of whom something is
+    left."""
+    name, its = known(places, room, users) if users and places.copies(room) else ("", ())
+    for it in its:
+        yield (f"{it} is new, and the backup {name} of {room} has things or lists of somebody of that name; if it is "
+               "the same person: --again")
+
+
 def left_by(places, room, users):
     """A line for each of some users who owns something there, or whom a list names."""
     try:

@@ -114,10 +114,12 @@ def put_names(change, names):
 
 # The commands for one user.
 
-def user_add(call, room, user, groups):
+def user_add(call, room, user, groups, again=False):
     rosters.need_name(user, "the user")
     if user in now.users(call.places, room):
         raise Fault(f"{user} is already in the room {room} (to change groups: fileroom-admin user groups)")
+    for it in () if again else owned.known_before(call.places, room, [user]):
+        raise Fault(it)
     change = change_rosters(call.places, {room: {user: groups}})
     drawn = draw(change, user)
     change.happen(lambda: tell_password(call, user, drawn, (
@@ -154,7 +156,7 @@ def user_rename(call, old, new):
     call.say(f"a room keeps by whose name it is who owns a thing, who is named in a list, and whose a session is: "
              f"that stays {old}'s, also what page or client of {old} had not sent yet")
     call.say(f"to have {new} own it: " + "; ".join([
-        *(f"fileroom-admin user add {' '.join([it, old, *groups])}" for it, groups in had.items()),
+        *(f"fileroom-admin user add --again {' '.join([it, old, *groups])}" for it, groups in had.items()),
         f"fileroom-admin user remove --all --to {new} {old}"]))
     for room in rooms:
         trash_for(call, room, new)

@@ -27,4 +27,5 @@ class Step:
             was = "comes" if user in self.new else f"was in {', '.join(self.there[user]) or 'no group'}"
             yield f"{room}: {user}, in {', '.join(groups) or 'no group'} ({was})"
         for user in self.gone:
-            yield f"{room}: {user} goes (back: fileroom-admin user add {' '.join([room, user, *self.there[user]])})"
+            back = " ".join([room, user, *self.there[user]])
+            yield f"{room}: {user} goes (back: fileroom-admin user add --again {back})"

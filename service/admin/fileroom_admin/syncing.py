@@ -89,11 +89,8 @@ def against(places, room, step, given):
                f"systemctl start fileroom-backup@{room}")
     if len(step.gone) > max(FEW, len(step.there) // 5) and not given.many:
         yield f"{len(step.gone)} of {len(step.there)} users of {room} would go; if that is right: --many"
-    if step.new and not given.again and places.copies(room):
-        name, known = owned.known(places, room, step.new)
-        for it in known:
-            yield (f"{it} is new, and the backup {name} of {room} has things or lists of somebody of that name; if "
-                   "it is the same person: --again")
+    if not given.again:
+        yield from owned.known_before(places, room, step.new)
 
 
 def owner_now(places, room, users):

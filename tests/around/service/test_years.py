@@ -87,7 +87,7 @@ def test_what_is_owned_by_who_leaves_is_handed_over(machine, plans, owned):
     groups = json.loads(text_of(machine.at("etc/nginx/fileroom/rooms/plans.users.json")))["bob"]
     status, said, faults = machine.does("user", "remove", "plans", "bob")
     assert (status, [line for line in said.splitlines() if line in owns(owned)]) == (0, owns(owned)), faults
-    assert f"to bring bob back: {' '.join(['fileroom-admin user add plans bob', *groups])}\n" in said
+    assert f"to bring bob back: {' '.join(['fileroom-admin user add --again plans bob', *groups])}\n" in said
     words = ["--url", f"http://127.0.0.1:{plans.room.port}", "--room-user", "ann", "--state", machine.at("../state")]
     line = owns(owned)[-1].partition(": room ")[2].replace("USER:GROUP", "ann:eng").split()
     done = subprocess.run([sys.executable, "-B", CLIENT, *words, *line], capture_output=True, text=True)
@@ -105,9 +105,12 @@ def test_a_sync_keeps_the_owner_and_gives_no_old_name_to_somebody_new(machine, p
         1, "", f"fileroom-admin: ann is not in the table, and owns the room plans\n{refused}")
     assert machine.does("user", "remove", "plans", "bob")[0] == 0
     machine.write("../table.csv", "user,groups\nann,eng\nbob,eng\nkim,eng\n")
-    assert machine.does(*sync) == (
-        1, "", f"fileroom-admin: bob is new, and the backup {owned} of plans has things or lists of somebody of that "
-        f"name; if it is the same person: --again\n{refused}")
+    known = (f"fileroom-admin: bob is new, and the backup {owned} of plans has things or lists of somebody of that "
+             "name; if it is the same person: --again\n")
+    assert machine.does(*sync) == (1, "", known + refused)
+    assert machine.does("user", "add", "plans", "bob", "eng") == (1, "", known)
+    assert machine.does("user", "add", "--again", "plans", "bob", "eng")[0] == 0
+    assert machine.does("user", "remove", "plans", "bob")[0] == 0
     assert machine.does(*sync, "--again")[0] == 0
     assert "bob = " in text_of(machine.at("etc/fileroom/plans.toml"))
 
