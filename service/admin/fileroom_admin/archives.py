@@ -9,15 +9,16 @@ import tarfile
 import tempfile
 import time
 
-from . import rosters
+from . import held, rosters
 from .changes import keep
 from .owned import of_backups
 from .places import Fault
 
 FORM = 1
 ABOUT, DB, LOG, ROSTER, LOGINS, NAMES = "about.json", "room.db", "room.db-wal", "roster.toml", "logins", "names.json"
-CERT, KEY = "tls/cert.pem", "tls/key.pem"
-TEXTS = {ABOUT: 1 << 12, ROSTER: 1 << 20, LOGINS: 1 << 20, NAMES: 1 << 20, CERT: 1 << 16, KEY: 1 << 16}  # their bytes
+BOUNDS, CERT, KEY = "bounds.json", "tls/cert.pem", "tls/key.pem"
+TEXTS = {ABOUT: 1 << 12, ROSTER: 1 << 20, LOGINS: 1 << 20, NAMES: 1 << 20, BOUNDS: 1 << 20, CERT: 1 << 16,
+         KEY: 1 << 16}  # their bytes
 NEEDED = {ABOUT, DB, ROSTER, LOGINS, NAMES}
 PLAIN = tarfile.REGTYPE, tarfile.AREGTYPE
 LONG = re.compile(r"\d\d size=(\d{10,15})\n")  # before a member of 8 GiB or more, whose head has no place for its size
@@ -132,6 +133,15 @@ class Archive:
             if not isinstance(it, str):
                 raise self.fault(f"a name of {NAMES} is no text")
             rosters.need_display_name(it)
+        return found
+
+    def bounds(self):
+        """What a login may ask of the room in a day; nothing where none was set."""
+        found = self.json(BOUNDS) if BOUNDS in self.members else {}
+        if not held.are_bounds(found):
+            raise self.fault(f"{BOUNDS} has something else than bounds")
+        for it in (*found.get("groups", {}), *found.get("users", {})):
+            rosters.need_name(it, f"{BOUNDS}: the name")
         return found
 
     def has_certificate(self):

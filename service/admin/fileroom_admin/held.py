@@ -56,6 +56,12 @@ class Bounds:
     def save(self, change):
         change.put(self.path, json.dumps(self.set, indent=1, sort_keys=True) + "\n")
 
+    def take(self, change, room, its):
+        """Those that came with a room."""
+        if its:
+            self.set[room] = its
+            self.save(change)
+
     def leave(self, change, room, user=None, new=None):
         """A user's own goes with the user, under a new name if there is one; a room's all go with the room."""
         its = self.set.get(room, {}) if user else self.set

@@ -1,5 +1,5 @@
 """A whole room in one tar file, with which it moves to another machine, or is kept once it is not served any more: the
-room's file and log, roster, logins, display names, and the front's certificate."""
+room's file and log, roster, logins, display names, bounds, and the front's certificate."""
 import contextlib
 import json
 import os
@@ -10,7 +10,7 @@ import tarfile
 import time
 
 from . import archives, dav, held, now, owned, people, rosters, signin
-from .archives import ABOUT, CERT, DB, KEY, LOG, LOGINS, NAMES, NEW_HERE, ROSTER, add, add_file, new_file
+from .archives import ABOUT, BOUNDS, CERT, DB, KEY, LOG, LOGINS, NAMES, NEW_HERE, ROSTER, add, add_file, new_file
 from .changes import AS_ROOMS, FOLDER, MOST_SAID, Change, begun, keep, own_folder, put_aside
 from .front import put_front, put_room, tls
 from .places import HERE, LISTEN, SEARCHED, Fault, asked, read, said
@@ -42,6 +42,8 @@ def pack(places, room, file):
     about = {"form": archives.FORM, "room": room, "backup": name, "dav": room in dav.rooms_of(places)}
     texts = {ABOUT: json.dumps(about), ROSTER: read(places.roster(room)),
              LOGINS: "".join(f"{it}\n" for it in logins), NAMES: json.dumps(names)}
+    if room in (bounds := held.Bounds(places).set):
+        texts[BOUNDS] = json.dumps(bounds[room])
     if " ssl" in read(places.at(LISTEN), ""):
         texts |= {it: read(places.front(it)) for it in (CERT, KEY)}
     with tarfile.open(fileobj=file, mode="w", format=tarfile.PAX_FORMAT) as tar:
@@ -121,14 +123,17 @@ def room_import(call, path, name=None, certificate=False):
             raise Fault(f"{path} has no certificate")
         users, had = rosters.users_of(roster, ROSTER), now.logins(places)
         (logins, odd), names = rosters.logins_within(archive.text(LOGINS), users), archive.names()
+        bounds = archive.bounds()
         own_folder(places, places.backups().rstrip("/"))
         with begun(places, room), new_state(places, places.state(room)) as folder:
             need_space(folder, archive)
             unpack(places, archive, folder)
             look_at(places, room, roster, folder)
-            put_in(places, room, roster, logins, names).happen()
+            put_in(places, room, roster, logins, names, bounds).happen()
         call.say(f"the room {room} is served here, with {len(users)} users, and backed up each night")
         tell_logins(call, users, had, odd)
+        if bounds:
+            call.say(f"its bounds came along: fileroom-admin bound {room}")
         take_certificate(call, archive, certificate)
         if archive.had_dav:
             take_dav(call, room)
@@ -164,7 +169,7 @@ def look_at(places, room, roster, folder):
     os.unlink(LOOKED_AT, dir_fd=folder)
 
 
-def put_in(places, room, roster, logins, names):
+def put_in(places, room, roster, logins, names, bounds):
     """(Nobody who is here by now gets a login or a name by it: both are the machine's, and so of all rooms.)"""
     change, users = Change(places), rosters.users_of(roster)
     people.need_no_twins(places, {room: users})
@@ -177,6 +182,7 @@ def put_in(places, room, roster, logins, names):
     put_room(change, room)
     people.put_passwords(change, {user: line for user, line in logins.items() if user not in has})
     people.put_names(change, {user: names[user] for user in users if user in names and user not in named})
+    held.Bounds(places).take(change, room, bounds)
     return change
 
 

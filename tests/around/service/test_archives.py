@@ -97,6 +97,8 @@ BEFORE = {  # bytes before its parts, and the part that it lacks
     "a part twice": (member("roster.toml", b"[users]\n"), None), "a part more": (member("../more", b"x"), None),
     "a name from elsewhere": named(tarfile.XHDTYPE, b"20 path=room.db-wal\n"),
     "a long name": named(tarfile.GNUTYPE_LONGNAME, b"room.db-wal\0"), "a part less": (b"", "names.json"),
+    "bounds that are none": (member("bounds.json", b'{"room":"most"}'), None),
+    "a bound of no name": (member("bounds.json", b'{"users":{"\\u001b[0m":"few"}}'), None),
     "a size below nothing": (head("room.db", 0, at=[(124, b"\xff" * 12)]), "room.db"),
     "a long size below nothing": (head("x", 0, tarfile.XHDTYPE, [(124, b"\xff" * 11 + b"\xfe")]), None),
     "half an archive": (head("room.db", 1 << 40), "room.db"),

@@ -158,8 +158,11 @@ def test_a_service_that_does_not_end(machine, what, asked):
 
 
 def test_removed_and_back(machine):
-    """A room ends in an archive, and comes back out of it."""
+    """A room ends in an archive, and comes back out of it, with its bounds."""
     machine.backed_up()
+    for words in ("few", "--group", "eng"), ("many", "--user", "bob"):
+        assert machine.does("bound", "plans", *words)[0] == 0
+    bounds = machine.does("bound", "plans")
     db = bytes_of(machine.at("var/lib/fileroom/plans/room.db"))
     roster = text_of(machine.at("etc/fileroom/plans.toml"))
     machine.told()
@@ -178,6 +181,7 @@ def test_removed_and_back(machine):
     assert flushed[:3] == [os.path.realpath(machine.at(it)) for it in (
         "var/backups", path, "var/backups/fileroom-removed")]
     assert machine.does("room", "import", path)[0] == 0
+    assert machine.does("bound", "plans") == bounds
     assert machine.does("dav", "list")[1] == "no room has WebDAV\n"
     assert text_of(machine.at("etc/fileroom/plans.toml")) == roster
     assert bytes_of(os.path.join(folder, "room.db")) == db
