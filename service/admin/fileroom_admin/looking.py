@@ -357,13 +357,13 @@ class Findings:
         """Where it is another one than those of rooms and backups."""
         folder = os.path.dirname(self.places.at(CHANGES))
         if os.path.isdir(folder) and not any(paces.is_on(it, os.stat(folder).st_dev) for it in self.places.disks()):
-            self.disk(folder)
+            self.disk(folder, ": while it is full, the log of changes lacks what is done, and no bound counts it")
 
-    def disk(self, folder):
+    def disk(self, folder, more=""):
         if os.path.isdir(folder):
             it = shutil.disk_usage(folder)
             if it.free < min(ROOM_LEFT, it.total / 10):
-                self.add(f"the disk of {folder} has {it.free >> 20} MiB free", "delete what is not needed")
+                self.add(f"the disk of {folder} has {it.free >> 20} MiB free{more}", "delete what is not needed")
             days = paces.of_disk(self.places, folder)
             if days is not None and days < DAYS:
                 self.add(f"the disk of {folder}, at the pace of the last days, has no space for rooms and backups in "
