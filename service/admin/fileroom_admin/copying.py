@@ -99,8 +99,8 @@ def copy(places, room, path, to, target, users, names, need):
             raise Fault(f"{shown(path)} is no folder")
         things = table.execute(BELOW, (its.number, TOP.strip("/"))).fetchall()
         groups = groups_of(table, its, things)
-        for it in sorted({*names} - groups):
-            raise Fault(f"nothing that is copied is for a group {it!r}: {', '.join(map(shown, sorted(groups)))}")
+        for it in sorted({*names} - groups - {group for its in now.users(places, room).values() for group in its}):
+            raise Fault(f"{room} has no group {it!r}")
         if need:
             need(groups, names)
         session = Session(places.socket(to), owner, Patience(LONGEST))

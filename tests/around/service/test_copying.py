@@ -161,9 +161,10 @@ def test_a_group_that_has_other_members_there_is_refused(made, club, plans, club
 
 def test_a_group_has_another_name_there(made, club):
     """With who was in it; who is in the group of the old name there gains nothing."""
-    made.write("etc/fileroom/plans.toml", '[users]\nann = ["eng"]\nbob = ["staff"]\n')
+    made.write("etc/fileroom/plans.toml", '[users]\nann = ["eng", "crew"]\nbob = ["staff"]\n')
     made.write("etc/fileroom/club.toml", '[users]\nann = ["eng"]\nbob = ["team"]\nmo = ["staff"]\n')
-    status, said, faults = made.does(*WORDS, "--group", "staff=team")
+    # (nothing is of crew)
+    status, said, faults = made.does(*WORDS, "--group", "staff=team", "--group", "crew=none")
     assert (status, faults) == (0, "")
     assert said.splitlines()[-1].startswith("the list of /w in plans, with the groups' names of club: allow ")
     assert club.holds("ann", "STAT", "/new/doc")["group"] == "team"
@@ -176,7 +177,7 @@ def test_a_group_has_another_name_there(made, club):
 
 @pytest.mark.parametrize("given, why", [
     ("staff", "--group wants OLD=NEW: 'staff' is not"),
-    ("stuff=x", "nothing that is copied is for a group 'stuff': eng, staff"),
+    ("stuff=x", "plans has no group 'stuff'"),
     ("staff=", "the group '' is not 1 to 32 letters, digits, '.', '_' or '-'")])
 def test_a_group_that_is_none(made, club, given, why):
     assert made.does(*WORDS, "--group", given) == (1, "", f"fileroom-admin: {why}\n")
