@@ -2,12 +2,12 @@
 import { rightsOn } from "./actions.js";
 import { head } from "./heads.js";
 import { SharePanel } from "./share.js";
-import { FOLDER, LARGE, MANIFEST, MOST_ENTRIES, NOBODY, REACH, RIGHTS, ROOT, SETS, WRITE_LIST, Refusal, Seers,
-  addressOf, asOwn, ask, bothWords, button, calledIn, carried, checkbox, deciding, entriesOf, faultLine, folderOf,
-  follows, helpThem, inFolder, input, isAlike, isDeny, isInherited, isNamed, isPrivate, isTrash, letAll, letterOf, link,
-  make, nameText, named, newEntry, orFault, origins, ownOf, ownedWords, rightsIn, secure, select, sentence, setBack,
-  setList, setOf, shown, shutOut, standing, standingAt, t, tellFault, whomFault, whomOf, whomText, withFollows,
-  withWhom } from "./shared.js";
+import { FOLDER, LARGE, MANIFEST, MOST_ENTRIES, NOBODY, REACH, RIGHTS, ROOT, SETS, WRITE_LIST, Questions,
+  Refusal, Seers, addressOf, asOwn, ask, bothWords, button, calledIn, carried, checkbox, deciding, entriesOf,
+  faultLine, folderOf, follows, helpThem, inFolder, input, isAlike, isDeny, isInherited, isNamed, isPrivate,
+  isTrash, letAll, letterOf, link, make, nameText, named, newEntry, orFault, origins, ownOf, ownedWords, rightsIn,
+  secure, select, sentence, setBack, setList, setOf, shown, shutOut, standing, standingAt, t, tellFault, whomFault,
+  whomOf, whomText, withFollows, withWhom } from "./shared.js";
 
 const knownNames = roster => make("datalist", { id: "known-names" },
   [...new Set(Object.entries(roster ?? {}).flat(2))].sort().map(value => make("option", { value })));
@@ -112,8 +112,10 @@ class ListView {
       make("section.handed", { hidden: !rest.length }, make("h2", t.handedTitle),
         make("p", t.handedBehind, this.linkTo(above)), sentences(rest, this.standing, { start: own.length + 1 })),
       mayChange && make("p.actions", button(t.saveList, () => this.save(), "main"),
-        button(t.discard, () => this.app.show(standing())))));
+        button(t.discard, () => this.again()))));
   }
+
+  again = () => this.app.show(standing());
 
   taking() {
     if (this.place.path === ROOT) return null;
@@ -166,7 +168,8 @@ class ListView {
     this.open(to);
   }
 
-  async save(news = this.news()) {
+  /** (A press in Share goes over no list that it did not show.) */
+  async save(news = this.news(), isPress = false) {
     const [about, count] = [this.called, this.own.length];
     const fault = this.own.some(it => it.who === "") ? t.noWhom :
       count > MOST_ENTRIES ? t.listFull(count, MOST_ENTRIES) : "";
@@ -178,9 +181,13 @@ class ListView {
     const now = await this.app.attempt(about, async () => {
       const its = await this.room.run("GETLIST", this.place.path);
       if (isAlike(its, this.list)) await this.set();
+      else if (isPress) throw new Error(`${t.changed}. ${t.lookAgain}`);
       return its;
     });
-    if (now !== null && (isAlike(now, this.list) || await this.settle(now))) await this.end(news);
+    if (isPress && !now) await this.again();
+    const isSet = now && (isAlike(now, this.list) || await this.settle(now));
+    if (isSet) await this.end(news);
+    return isSet;
   }
 
   async end(news) {
@@ -198,27 +205,17 @@ class ListView {
     return this.own.filter(it => !isDeny(it) && !before.some(other => isAlike(it, other)));
   }
 
-  async setTo(own, news) {
-    const had = this.own;
-    this.own = own;
-    if (await this.save(news) === false) this.own = had;
-  }
+  setTo = async (own, news, isFollowing = follows(this.aclflag)) => {
+    const [had, isPress] = [[this.own, this.aclflag], !this.element.isUnsaved()];
+    Object.assign(this, { own, aclflag: withFollows(this.aclflag, isFollowing) });
+    if (!await this.save(news, isPress)) [this.own, this.aclflag] = had;
+  };
 
-  makePrivate() {
-    this.aclflag = withFollows(this.aclflag, false);
-    return this.setTo(entriesOf("all", { id: "user", name: this.standing.owner }, this.standing.kind), []);
-  }
-
-  shareAsAbove() {
-    this.aclflag = withFollows(this.aclflag, true);
-    return this.setTo(this.own, []);
-  }
-
-  async tellMore(panel) {
+  async tellMore(panel, questions) {
     const { room, object, list } = this;
     const handed = await origins(room, object.path, this.inherited.filter(it => !isDeny(it)));
     for (const [it, folder] of handed) panel.tellFrom(whomOf(it), this.linkTo(folder));
-    const found = await shutOut(this, object, list.entries.filter(it => !isDeny(it)));
+    const found = await shutOut(this, object, list.entries.filter(it => !isDeny(it)), questions);
     for (const its of Map.groupBy(found, ({ whom }) => JSON.stringify(whom)).values()) {
       const [isBarred, who] = [its.some(it => it.folders.length), named(its)];
       const words = isBarred ? t.cannotReach(who) : t.lacksStill(who, rightsIn(its[0].lacks, object.kind));
@@ -233,12 +230,8 @@ class ListView {
     if (isDone) await this.app.done(t.allCan([whomText(whom)]), null, this.undo(changes));
   }
 
-  undo(changes) {
-    return async () => {
-      await setBack(this.room, changes);
-      await this.app.done(t.listBack);
-    };
-  }
+  undo = changes => () => setBack(this.room, changes)
+    .then(() => this.app.done(t.listBack), fault => this.again().then(() => Promise.reject(fault)));
 
   async set(before = this.list) {
     const { room, object: { path, kind } } = this;
@@ -249,11 +242,12 @@ class ListView {
   }
 
   async settle(now) {
-    const parts = [[t.theirs, ownOf(now)], [t.yours, this.own]].map(([title, entries]) =>
-      [make("h3", title), sentences(entries, this.standing)]);
-    const chosen = await ask({ title: t.changed, task: () => this.set(now), words: parts,
+    const parts = [[t.theirs, now.aclflag, ownOf(now)], [t.yours, this.aclflag, this.own]].map(([title, its, own]) =>
+      [make("h3", title), this.place.path === ROOT ? [] : follows(its) ? `${t.takesOver}.` : t.alone,
+        sentences(own, this.standing)]);
+    const chosen = await ask({ title: t.changed, task: () => this.set(now), words: parts, isFinal: true,
       does: t.setAllTheSame, others: [{ words: t.takeTheirs, value: "theirs" }] });
-    if (chosen === "theirs") await this.app.show(standing());
+    if (chosen === "theirs") await this.again();
     return chosen === true;
   }
 }
@@ -264,6 +258,8 @@ async function changers(app, path, kind) {
 }
 
 export async function showAccess(app, place) {
+  const questions = new Questions(app);
+  await questions.object(place.path); // (never newer than what is shown)
   const its = await standingAt(app.room, place.path);
   const list = await orFault(app.room.run("GETLIST", place.path));
   if (list instanceof Refusal) return [...head(place), faultLine(list.message)];
@@ -276,13 +272,15 @@ export async function showAccess(app, place) {
     more.querySelector("summary").focus();
   };
   const panel = new SharePanel(its, { own: view.own, handed: view.inherited }, roster, { detail, user: app.user,
-    set: mayChange && ((own, news) => view.setTo(own, news)),
+    set: mayChange && view.setTo,
     changers: mayChange || await changers(app, place.path, its.kind),
-    way: !isPrivate(list, its.owner) ? its.owner === app.user && [t.makePrivate, () => view.makePrivate()] :
-      mayChange && place.path !== ROOT && !isTrash(place.path) && [t.asAbove, () => view.shareAsAbove()] });
-  view.tellMore(panel).catch(() => {});
+    way: !isPrivate(list, its.owner) ? its.owner === app.user && [t.makePrivate, () =>
+      view.setTo(entriesOf("all", { id: "user", name: its.owner }, its.kind), [], false)] :
+      mayChange && place.path !== ROOT && !isTrash(place.path) && [t.asAbove, () =>
+        view.setTo(view.own, [], true)] });
+  view.tellMore(panel, questions).catch(() => {});
   const more = make("details.exceptions", { open: isDetailed }, make("summary", t.details),
     make("p.about", ownedWords(its)), make("p", t.aboutList), view.element);
   more.ontoggle = () => { isDetailed = more.open; };
-  return [...head(place), panel.element, more, knownNames(roster)];
+  return [...head(place), panel.element, more, Object.assign(knownNames(roster), { questions })];
 }

@@ -184,7 +184,8 @@ const looksAgain = () => !localStorage.getItem(STILL);
 const turnLooking = () => localStorage.setItem(STILL, looksAgain() ? "still" : "");
 
 const isAtWork = () => document.hidden || isMenuOpen() || isUnsaved() ||
-  document.querySelector("dialog[open], main[aria-busy], .chosen:not([hidden])") !== null;
+  document.querySelector(`dialog[open], main[aria-busy], .chosen:not([hidden]),
+    .share input:not(:placeholder-shown, :checked)`) !== null;
 
 const textOf = (names, list) => JSON.stringify([names, list?.entries]);
 
@@ -196,7 +197,7 @@ async function look(app) {
   if (!its) {
     const [fault, tools] = ["fault", "tools"].map(it => document.querySelector(`main > .${it}`));
     const isOther = fault ? (await app.nodesOf(app.place)).every(it => it.textContent !== fault.textContent) :
-      await tools?.isOther?.();
+      await (tools ?? part("main").lastChild?.questions)?.isOther?.();
     return isOther && !isAtWork() ? app.show(standing()) : app.things?.renew();
   }
   const [had, found, list] = await Promise.all([its.list, app.room.look("LIST", its.path, { keep: false }),

@@ -162,5 +162,6 @@ export async function showMatrix(app, place) {
   await view.draw();
   const note = users.every(([, groups]) => groups) ? "" : faultLine(t.withoutRoster);
   const legend = LEGEND.map(({ name, word, tells }) => make("div", make(`dt.${name}`, word), make("dd", tells)));
-  return [...head(place), note, view.element, view.cells.detail, make("dl.legend", legend)];
+  return [...head(place), note, view.element, view.cells.detail,
+    Object.assign(make("dl.legend", legend), { questions })];
 }

@@ -1,7 +1,8 @@
 /** What users may do with objects, as the room says; who can see them; a way for others. */
-import { ACCESS, FOLDER, LARGE, PASS_THROUGH, READ, WRITE_LIST, addressOf, ask, askedOf, byWhom, calledIn, displayName,
-  foldersAbove, forEach, givenHere, inFolder, inOrder, isDeny, joined, letterLink, listOf, make, nameIn, ofLarge, once,
-  ownOf, personText, rightsIn, settle, shown, t, tellFault, whomOf, whomText, withWhom } from "./common.js";
+import { ACCESS, FOLDER, LARGE, PASS_THROUGH, READ, WRITE_LIST, addressOf, ask, askedOf, byWhom, calledIn,
+  displayName, foldersAbove, forEach, givenHere, inFolder, inOrder, isAlike, isDeny, joined, letterLink, listOf, make,
+  nameIn, ofLarge, once, ownOf, personText, rightsIn, settle, shown, t, tellFault, whomOf, whomText, withWhom } from
+  "./common.js";
 import { MANIFEST } from "./manifest.js";
 import { lookInto } from "./reading.js";
 
@@ -26,6 +27,12 @@ export class Questions {
       const answers = this.once(JSON.stringify([owner, group, list.entries]), () => new Map());
       return { ...stat, ...list, names, answers };
     });
+  }
+
+  /** Whether an owner or a list is another by now. */
+  async isOther() {
+    const all = its => Promise.all([...this.asked.keys()].filter(it => it[0] === "/").map(it => its.object(it)));
+    return !isAlike(await all(this), await all(new Questions(this.app)));
   }
 
   async kindOf({ path, kind }) {
@@ -115,8 +122,8 @@ const usersOf = ({ id, name }, roster) => Object.entries(roster ?? {}).filter(([
   ({ "EVERYONE@": true, user: user === name, group: groups.includes(name) }[id]));
 
 /** Who of those whom the entries name is shut out, `{whom, user, folders, lacks}`. */
-export async function shutOut(app, { path, kind }, entries) {
-  const [questions, roster, found] = [new Questions(app), await app.room.users(), []];
+export async function shutOut(app, { path, kind }, entries, questions = new Questions(app)) {
+  const [roster, found] = [await app.room.users(), []];
   for (const [whom, its] of byWhom(entries)) {
     const wanted = askedOf(givenHere(its), kind);
     await forEach(usersOf(whom, roster).slice(0, MOST), async ([user, groups]) => {

@@ -113,6 +113,7 @@ export const t = {
   setAllTheSame: "Trotzdem speichern",
   aboutList: "Für jedes Recht entscheidet der erste Eintrag, der es und die Person nennt; sonst ist es verboten. Man " +
     "muss auch durch jeden Ordner darüber dürfen.", yours: "Ihre Fassung", takeTheirs: "Andere Fassung nehmen",
+  lookAgain: "Sehen Sie nach, dann noch einmal.",
   countsForNobody: "{0} Der Eintrag gilt erst, wenn es diesen Namen hier gibt.", whyEntries: " Durch die Einträge: {0}",
   ownersAlways: " Ein Eigentümer darf die Liste immer sehen und ändern.", noEntry: " Kein Eintrag ist für {0}.",
   mayUnknown: "Was {0} mit {1} darf: {2}.", shownOf: "gezeigt {0} von ",

@@ -104,6 +104,7 @@ export const t = {
   listSet: "Sharing updated.", listOf: "The list of {0}", theirs: "Theirs", setAllTheSame: "Set it all the same",
   aboutList: "For each right the first entry that names it and the person decides; else it is denied. One must also " +
     "pass through each folder above.", yours: "Yours", takeTheirs: "Take theirs",
+  lookAgain: "Look again, then repeat it.",
   countsForNobody: "{0} The entry counts for nobody until the roster has that name.",
   whyEntries: " By its entries: {0}", ownersAlways: " An owner may always see the list and change it.",
   noEntry: " No entry of it is for {0}.", mayUnknown: "What {0} may do with {1}: {2}.", shownOf: "{0} shown of ",
