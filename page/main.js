@@ -185,7 +185,7 @@ const turnLooking = () => localStorage.setItem(STILL, looksAgain() ? "still" : "
 
 const isAtWork = () => document.hidden || isMenuOpen() || isUnsaved() ||
   document.querySelector(`dialog[open], main[aria-busy], .chosen:not([hidden]),
-    .share input:not(:placeholder-shown, :checked)`) !== null;
+    .share input:not(:placeholder-shown, :checked)`);
 
 const textOf = (names, list) => JSON.stringify([names, list?.entries]);
 
@@ -241,7 +241,7 @@ async function start() {
   watch(() => part("main").querySelector(".typed")?.isUnsaved());
   addEventListener("hashchange", () => app.come());
   tabs.onmessage = () => (mayEnd() ? location.replace("/sign-in") : tellFault(t.loginGone));
-  addEventListener("pageshow", ({ persisted }) => persisted && stayAs(user));
+  addEventListener("pageshow", ({ persisted }) => persisted && stayAs(user, busy));
   addEventListener("focus", () => look(app));
   setInterval(() => look(app), MINUTE);
   addEventListener("keydown", go);

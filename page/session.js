@@ -2,7 +2,7 @@
  *
  * Each tab has one in each room, under 'fileroom/USER/ROOM/COUNT', and holds a lock of that name. A new tab takes the
  * first one that nobody holds, so that of a closed tab is used again. */
-import { BEHIND, end, fileOfFront, randomHex, t, untilAnswered } from "./common.js";
+import { BEHIND, end, fileOfFront, isUnsaved, randomHex, t, untilAnswered } from "./common.js";
 
 const NUMBERS = 2 ** 32;
 const SLOTS = 16;
@@ -94,7 +94,7 @@ class Lane {
       return this.#new(body, false);
     }
     if (isOwn(reply)) {
-      await this.session.stillUser();
+      await this.session.stillUser().catch(it => (this.#keep({ pending: null }), Promise.reject(it)));
       return this.#anew(body);
     }
     this.#keep({ pending: null, number: reply.code < 20 ? number : this.kept.number }); // (20 on: it was not run)
@@ -187,12 +187,15 @@ class Session {
 
 export const userNow = async () => JSON.parse(await fileOfFront("/whoami") ?? "null");
 
-/** The page begins anew where somebody else is logged in by now: the requests would be theirs. */
-export async function stayAs(user) {
-  if (await userNow() === user) return;
-  end();
-  location.reload();
-  await new Promise(() => {});
+const anew = () => (end(), location.reload(), new Promise(() => {}));
+
+/** The page begins anew where somebody else is logged in by now: the requests would be theirs. What is typed waits. */
+export async function stayAs(user, patience) {
+  while (await userNow() !== user) {
+    const waiting = patience.begin();
+    if (isUnsaved()) await waiting.wait(t.loginGone, 1, true).finally(() => waiting.over());
+    else await anew();
+  }
 }
 
 /** Holds the lock until this tab ends. False where another tab has it. */
@@ -211,7 +214,7 @@ const finish = (session, tell) => Promise.all(session.pending.map(lane => {
 
 export async function sessionOfTab(base, room, patience, user, tell) {
   const prefix = `fileroom/${user}/${room}/`;
-  const sessionAt = key => new Session(base, key, patience, () => stayAs(user));
+  const sessionAt = key => new Session(base, key, patience, () => stayAs(user, patience));
   let count = 0;
   while (!await hold(`${prefix}${count}`)) count += 1;
   const mine = `${prefix}${count}`;

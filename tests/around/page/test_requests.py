@@ -7,7 +7,7 @@ import pytest
 from nginx import hashed
 from served import text_of
 
-from .club import DIALOG, append, appended
+from .club import DIALOG, TYPED, append, appended, edit
 
 LOG = "/plans/log.txt"
 DONE = f"APPEND of {LOG}: it is done, once."
@@ -137,11 +137,28 @@ def test_a_tab_that_crashed(club, browser, log, two):
 def test_another_login(club, browser, log):
     """In the same browser: a page of ann's does nothing as eve, and her request waits."""
     append(browser, "by ann", lambda: club.log_in_elsewhere("eve"))
-    browser.sees("eve", "#user")
+    browser.sees("Log in again: what you typed stays here.", "#busy")
     assert log() == ""
     club.log_in("ann")
     browser.sees(DONE, "#notices")
     assert log() == "by ann\n"
+
+
+def test_another_login_keeps_what_is_typed(club, browser, log):
+    """It waits in its tab for its user, also where it was not sent yet; without it the tab is the other's."""
+    edit(browser, "typed by ann")
+    club.log_in_elsewhere("eve")
+    browser.press("Save")
+    browser.sees("Log in again: what you typed stays here.", "#busy")
+    assert (browser.script(TYPED), browser.text_of("#user"), log()) == ("typed by ann", "ann", "")
+    club.log_in_elsewhere("ann")
+    browser.script("window.dispatchEvent(new Event('focus'))")
+    browser.sees("Saved.")
+    assert log() == "typed by ann"
+    club.log_in_elsewhere("eve")
+    browser.script("window.dispatchEvent(new Event('focus'))")
+    browser.sees("eve", "#user")
+    assert log() == "typed by ann"
 
 
 @pytest.fixture
