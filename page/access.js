@@ -258,8 +258,8 @@ async function changers(app, path, kind) {
 }
 
 export async function showAccess(app, place) {
-  const questions = new Questions(app);
-  await questions.object(place.path); // (never newer than what is shown)
+  const questions = new Questions({ ...app });
+  await questions.object(place.path); // (no newer than what is shown)
   const its = await standingAt(app.room, place.path);
   const list = await orFault(app.room.run("GETLIST", place.path));
   if (list instanceof Refusal) return [...head(place), faultLine(list.message)];
