@@ -41,7 +41,6 @@ class Waiting {
 
 export const begin = () => new Waiting();
 
-/** In the open dialog: the rest of the page cannot be pressed then. */
 export function standIn(element) {
   const { parentNode, nextSibling } = section;
   element.prepend(section);

@@ -232,7 +232,6 @@ class Shared extends Search {
     }
   }
 
-  /** (Gives whether to look into it.) */
   meet({ path, kind, isShut }) {
     this.check();
     if (isInTrash(path)) return false;

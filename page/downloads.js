@@ -16,7 +16,6 @@ export function crcOf(bytes) {
   return (crc ^ 0xffffffff) >>> 0;
 }
 
-/** Each of so many bytes, the lowest first. */
 const numbers = (...fields) => Uint8Array.from(fields.flatMap(([size, value]) =>
   Array.from({ length: size }, (_, at) => value / 2 ** (8 * at))));
 
@@ -35,7 +34,6 @@ export class Zip {
     if (this.size > 0xfffff000 || this.count > 0xfff0) throw new Error(t.zipFull);
   }
 
-  /** A file, or where the name ends with / a folder. */
   add(name, bytes = new Uint8Array(0)) {
     const text = fromText(name);
     const common = [[2, VERSION], [2, UTF8], [2, 0], [2, this.time], [2, this.day], [4, crcOf(bytes)],

@@ -23,7 +23,6 @@ export function tellLogin() {
 
 export const onLogin = does => addEventListener("storage", ({ key }) => key === TOLD && does());
 
-/** Whether the browser forgot the login that it had. */
 export const logOut = async () => await askAs("/log-out", "logged-out", `${Math.random()}`) === 204;
 
 /** The status. (First the login of before goes: Firefox takes its password for a new one of that name. And a browser

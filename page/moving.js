@@ -133,7 +133,6 @@ async function contentsWords(room, paths) {
   return faultLine(t.goesWith(counts, found.length), shut > 0 && t.shutIn(t.folders(shut)));
 }
 
-/** To the trash at once, since there is a way back; for good after a question. */
 export async function remove(app, paths, does = t.doTo(t.remove, shortNamed(paths)), inside = paths) {
   const [{ room }, places] = [app, new Map()]; // in the trash
   const asked = await app.attempt(does, async () => {

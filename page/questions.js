@@ -29,7 +29,6 @@ export class Questions {
     });
   }
 
-  /** Whether an owner or list is another by now. */
   async isOther() {
     const all = its => Promise.all([...this.asked.keys()].filter(it => it[0] === "/").map(it => its.object(it)));
     return !isAlike(await all(this), await all(new Questions(this.app)));

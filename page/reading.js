@@ -57,7 +57,6 @@ async function readLarge(room, path, transfer) {
   throw new Error(t.notWhole(shown(path)));
 }
 
-/** Null where it is not whole. */
 async function wholeOf(room, path, its, transfer) {
   if (!its) return null;
   const [bytes, ends] = [new Uint8Array(its.size), []];

@@ -158,7 +158,6 @@ export class Details {
     this.element = make("section.details", { ariaLabel: t.inShort }, make("p.about", t.noRow));
   }
 
-  /** (A narrow window asks for nothing.) */
   show(row) {
     clearTimeout(this.timer);
     this.timer = setTimeout(() => {

@@ -190,7 +190,6 @@ export class Things {
     for (const it of this.rows) this.seen.observe(it.element);
   }
 
-  /** Rows in sight tell what they are and who sees them. (Small pictures stay.) */
   renew() {
     this.seers.renew();
     for (const it of this.rows) {

@@ -161,7 +161,6 @@ export async function freePaths(room, paths) {
 
 export const freePath = async (room, path) => (await freePaths(room, [path]))[0];
 
-/** What may be new, each behind the one above it. */
 function foldersOf(wanted, folder) {
   const all = wanted.flatMap(({ path, file }) => [...foldersAbove(path), ...file ? [] : [path]]);
   return [...new Set(all)].filter(it => !isWithin(folder, it)).sort();
