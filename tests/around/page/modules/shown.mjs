@@ -66,13 +66,14 @@ const textsIn = (it, ...keys) => (typeof it === "string" ? [[keys.join("."), it]
 
 test("German denies what English denies, and nothing else", async () => {
   // (these German says the other way around)
-  const turned = ["countsForNobody", "levels.shut.0", "nameWanted", "sessionGone", "takeFrom", "wasStopped"];
+  const turned = ["countsForNobody", "lacksRight", "levels.shut.0", "nameWanted", "sessionGone", "takeFrom",
+    "wasStopped"];
   const denied = async (language, denial, others = []) => {
     const { t: table } = await import(`${process.env.PAGE}/words.${language}.js`);
     return textsIn(table).filter(([key, it]) => denial.test(it) !== others.includes(key)).map(([key]) => key).sort();
   };
   const english = await denied("en", /\b(no|not|nobody|nothing|nowhere|cannot|without)\b|n't/i, turned);
-  const german = await denied("de", /\b(nichts?|kein(e|en|er)?|niemand|nirgends|ohne)\b/i);
+  const german = await denied("de", /\b(nichts?|kein(e|en|er)?|niemand|nirgends|ohne|weder)\b/i);
   assert.deepEqual(german, english);
 });
 
