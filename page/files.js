@@ -102,8 +102,7 @@ export class Upload {
     this.names = await this.room.list(this.path);
     this.before = await manifestBytes(this.room, this.path);
     const isLeft = form.isUnfinished(this.names);
-    const isLarge = isLeft || this.before && form.readManifest(this.before);
-    if (!isLarge) throw new Error(t.about(this.called, t.refusals[EXIST]));
+    if (!isLeft && !(this.before && form.readManifest(this.before))) throw new Error(t.isFolder(this.called));
     if (isLeft) await this.needOwn();
     this.clears = isLeft || this.names.some(([name]) => form.isLeft(name));
     return false;

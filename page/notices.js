@@ -32,7 +32,6 @@ export function say(words, undo = null) {
   if (!undo) goLater(it);
 }
 
-/** What this is about went well: its faults go, also out of a list. */
 export function settle(about) {
   for (const it of section.querySelectorAll("[data-about]")) {
     if (it.dataset.about !== about) continue;

@@ -100,7 +100,6 @@ export async function makeLike(room, path, like) {
   if (own && !isAlike(own, await ownAt(room, path))) await room.step("SETLIST", path, own);
 }
 
-/** It, or where it is full one beside it, new or of its list. */
 export async function placeIn(room, path) {
   if (namesOf(path).length === MAX_NAMES) throw new Error(t.refusals[TOO_DEEP]);
   const namesIn = async it => await room.names(it) ?? [];

@@ -188,7 +188,7 @@ export const t = {
   notWhole: "{0} ist jetzt keine ganze Datei. Sehen Sie nach.",
   tooDeep: "Eine Datei von mehr als 64 KiB liegt höchstens 14 Ordner tief.",
   staysYours: "Was von {0} hochgeladen wurde, bleibt Ihres, und {1} fehlen vielleicht Rechte daran: {2}",
-  leftCleared: "Reste von {0} sind weggeräumt.",
+  leftCleared: "Reste von {0} sind weggeräumt.", isFolder: "Ein Ordner heißt {0}.",
   notYourUpload: "{0} ist unfertig hochgeladen, und andere könnten es lesen: nehmen Sie einen anderen Namen.",
   wholeLeft: "Eine ganze Fassung heißt jetzt {0}: sehen Sie nach.",
   isMixed: "Hier liegt eine große Datei und anderes. Ohne dieses ist sie wieder eine Datei.",

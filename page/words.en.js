@@ -174,7 +174,7 @@ export const t = {
   damaged: "{0} is damaged: its pieces do not fit together.", notWhole: "{0} is no whole file now. Look again.",
   tooDeep: "A file of more than 64 KiB lies 14 deep at most.",
   staysYours: "What was uploaded of {0} stays yours, and {1} may lack rights on it: {2}",
-  leftCleared: "What a stopped upload of {0} left is cleared.",
+  leftCleared: "What a stopped upload of {0} left is cleared.", isFolder: "A folder has the name {0}.",
   notYourUpload: "{0} is an unfinished upload that others could read: take another name.",
   wholeLeft: "A whole version is called {0} now: look at it.",
   isMixed: "A large file is here, and other items. Without these it is a file again.",

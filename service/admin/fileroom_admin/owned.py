@@ -125,6 +125,14 @@ def known_before(places, room, users):
                "the same person: --again")
 
 
+def left_before(places, room, users):
+    """The same, or nothing where no backup can be read: a user is added all the same."""
+    try:
+        return [*known_before(places, room, users)]
+    except (Fault, OSError):
+        return []
+
+
 def left_by(places, room, users):
     """A line for each of some users who owns something there, or whom a list names."""
     try:

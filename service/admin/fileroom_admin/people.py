@@ -118,7 +118,7 @@ def user_add(call, room, user, groups, again=False):
     rosters.need_name(user, "the user")
     if user in now.users(call.places, room):
         raise Fault(f"{user} is already in the room {room} (to change groups: fileroom-admin user groups)")
-    for it in () if again else owned.known_before(call.places, room, [user]):
+    for it in () if again else owned.left_before(call.places, room, [user]):
         raise Fault(it)
     change = change_rosters(call.places, {room: {user: groups}})
     drawn = draw(change, user)
