@@ -384,7 +384,7 @@ def test_a_stop_of_what_is_behind(work):
     work.wait_for(1)
     begin = time.monotonic()
     work.queue.stop(0.3)
-    assert time.monotonic() - begin > 0.2
+    assert 0.2 < time.monotonic() - begin < 30  # (work that nobody ends ends by itself, later)
     assert not work.queue.has_room("bob")
     threading.Timer(0.2, work.may_end.set).start()
     work.queue.stop(WAIT)
